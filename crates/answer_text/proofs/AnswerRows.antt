@@ -1,16 +1,6 @@
 -- A text grows by the rows of an answer.
-use Rattle.std.proofs.Common.{◌≡◌, ℕ, ℤ, codes, Option, ◌+◌, ◌<◌, ◌≤◌, Bool, List, [], ◌∷◌, ◌++◌, length, drop, get_or, Some, sym, ap, ◌∙◌, arith, append-nil, append_assoc}
-use Rattle.std.specs.Prelude.{slice_get, min}
-use Rattle.std.specs.List.{zip}
-use Rattle.std.proofs.Math.ListN.{get_or-map}
-use Rattle.std.proofs.lemmas.List.{drop_all, drop_more, length-map}
-use Rattle.std.proofs.lemmas.Option.{get_or_from_slice_get, slice_get_within}
-use Rattle.std.proofs.lemmas.Slice.Zip.{get_or-zip, length-zip}
-use Rattle.model_text.specs.Rows.{Row, row_text, rows_text}
-use Rattle.std.specs.Fmt.{signed_decimal}
-use Rattle.std.proofs.lemmas.Grind.{flat_map-append}
+use Rattle.answer_text.proofs.Common.{nat_tests, ◌≡◌, ℕ, ℤ, codes, Option, ◌+◌, ◌<◌, ◌≤◌, Bool, List, [], ◌∷◌, ◌++◌, length, drop, get_or, Some, sym, ap, ◌∙◌, arith, append-nil, append_assoc, slice_get, min, zip, get_or-map, drop_all, drop_more, length-map, get_or_from_slice_get, slice_get_within, get_or-zip, length-zip, Row, row_text, rows_text, signed_decimal, flat_map-append, assignment_row, name_row, name_rows, named_rows, optimum_rows}
 use Rattle.base.specs.declared.costs.Cost.TheVariants.{Whole}
-use Rattle.answer_text.specs.Answers.{assignment_row, name_row, name_rows, named_rows, optimum_rows}
 
 -- the row of a name and its bit
 abbrev pair_row : List ℕ × Bool → Row
@@ -18,13 +8,11 @@ pair_row pair = name_row pair.0 pair.1
 
 length-named_rows : (names : List (List ℕ)) (bits : List Bool)
     → length (named_rows names bits) ≡ min (length names) (length bits)
-length-named_rows names bits =
-    length-map (zip names bits) pair_row ∙ length-zip names bits
+length-named_rows names bits = length-map (zip names bits) pair_row ∙ length-zip names bits
 
 -- the rows from a place on begin with the row of that place
 rows_left : (names : List (List ℕ)) (bits : List Bool) (i : ℕ) (name : List ℕ) (d : Bool)
-    → slice_get names i ≡ Some name → i < length bits
-    → drop i (named_rows names bits)
+    → slice_get names i ≡ Some name → i < length bits → drop i (named_rows names bits)
     ≡ name_row name (get_or bits i d) ∷ drop (i + 1) (named_rows names bits)
 rows_left names bits i name d named within =
     let rows = named_rows names bits in
@@ -35,8 +23,7 @@ rows_left names bits i name d named within =
     ∙ ap pair_row (get_or-zip names bits i (name, d) known within)
     ∙ ap (λ (first : List ℕ). name_row first (get_or bits i d))
     (get_or_from_slice_get names i name name named) in
-    drop_more rows i (name_row name d) below
-    ∙ ap (λ (first : Row). first ∷ drop (i + 1) rows) row
+    drop_more rows i (name_row name d) below ∙ ap (λ (first : Row). first ∷ drop (i + 1) rows) row
 
 pub name_added : (old text more : List ℕ) (names : List (List ℕ)) (bits : List Bool) (i : ℕ)
     (name : List ℕ) (d : Bool) → slice_get names i ≡ Some name → i < length bits
@@ -45,21 +32,14 @@ pub name_added : (old text more : List ℕ) (names : List (List ℕ)) (bits : Li
     → more ++ rows_text (drop (i + 1) (named_rows names bits))
     ≡ old ++ rows_text (named_rows names bits)
 name_added old text more names bits i name d named within so_far added =
-    let rest = drop (i + 1) (named_rows names bits) in
-    ap (λ (t : List ℕ). t ++ rows_text rest) added
-    ∙ append_assoc text (row_text (name_row name (get_or bits i d))) (rows_text rest)
-    ∙ ap (λ (rows : List Row). text ++ rows_text rows)
-    (sym (rows_left names bits i name d named within))
-    ∙ so_far
+    grind (arith, nat_tests, append_assoc, rows_left)
 
 pub names_done : (old text : List ℕ) (names : List (List ℕ)) (bits : List Bool) (i : ℕ)
     → min (length names) (length bits) ≤ i
     → text ++ rows_text (drop i (named_rows names bits)) ≡ old ++ rows_text (named_rows names bits)
     → text ≡ old ++ rows_text (named_rows names bits)
 names_done old text names bits i beyond whole =
-    let rows = named_rows names bits in
-    let none : drop i rows ≡ [] = drop_all i rows (rw (length-named_rows names bits) beyond) in
-    sym (append-nil text) ∙ ap (λ (left : List Row). text ++ rows_text left) (sym none) ∙ whole
+    grind (arith, nat_tests, drop_all, length-named_rows, append-nil)
 
 -- an assignment, its names and the row of its cost are the rows of an optimum
 pub optimum_added : (old first second third : List ℕ) (x : List Bool)
@@ -74,9 +54,7 @@ optimum_added old first second third x names value one two three =
     let all : rows_text (name_rows names x ++ (cost ∷ [])) ≡ named ++ row_text cost =
     flat_map-append row_text (name_rows names x) (cost ∷ [])
     ∙ ap (λ (l : List ℕ). named ++ l) (append-nil (row_text cost)) in
-    three
-    ∙ ap (λ (l : List ℕ). l ++ row_text cost)
+    three ∙ ap (λ (l : List ℕ). l ++ row_text cost)
     (two ∙ ap (λ (l : List ℕ). l ++ named) one ∙ append_assoc old head named)
-    ∙ append_assoc old (head ++ named) (row_text cost)
-    ∙ ap (λ (l : List ℕ). old ++ l)
+    ∙ append_assoc old (head ++ named) (row_text cost) ∙ ap (λ (l : List ℕ). old ++ l)
     (append_assoc head named (row_text cost) ∙ ap (λ (l : List ℕ). head ++ l) (sym all))

@@ -1,10 +1,5 @@
 -- The least of sizes, taken one after another; and no size is above the sum of the sizes.
-use Rattle.std.proofs.Common.{ℕ, ◌+◌, ◌≤◌, Bool, true, false, cond, List, [], ◌∷◌, Option, Some, None, arith}
-use Rattle.std.specs.Prelude.{nat_lt, min, max, fold, unwrap_or}
-use Rattle.std.proofs.lemmas.List.Sums.{sum_by-cons}
-use Rattle.bits_model.specs.declared.output.Entry.{Entry}
-use Rattle.bits_model.specs.Output.{weight_total}
-use Rattle.answer_text.specs.Sizes.{greatest_size, least_of, least_size, size, sizes}
+use Rattle.answer_text.proofs.Common.{nat_tests, ℕ, ◌+◌, ◌≤◌, List, [], ◌∷◌, Option, Some, None, arith, min, max, fold, sum_by-cons, Entry, weight_total, greatest_size, least_of, least_size, size, sizes}
 
 -- ---- one size after another
 
@@ -21,24 +16,19 @@ fold_min-le m (n ∷ ns) = omega (arith, fold_min-le (min m n) ns)
 
 pub least-le : (es : List Entry) → least_size es ≤ weight_total es
 least-le [] = omega arith
-least-le (e ∷ es) = go (nat_lt 0 (size e)) (least-le es)
-  where
-    go : (b : Bool) → least_size es ≤ weight_total es
-        → unwrap_or (least_of (cond b (size e ∷ sizes es) (sizes es))) 0 ≤ weight_total (e ∷ es)
-    go true rest = omega (arith, fold_min-le (size e) (sizes es), sum_by-cons size e es)
-    go false rest = omega (arith, rest, sum_by-cons size e es)
+least-le (e ∷ es) =
+    let least_is = least-le es in
+    let fold = fold_min-le (size e) (sizes es) in
+    let sum = sum_by-cons size e es in
+    grind (arith, nat_tests)
 
 fold_max-le : (m : ℕ) (es : List Entry) → fold max m (sizes es) ≤ m + weight_total es
 fold_max-le m [] = omega arith
 fold_max-le m (e ∷ es) =
-    go (nat_lt 0 (size e)) (fold_max-le (max m (size e)) es) (fold_max-le m es)
-  where
-    go : (b : Bool)
-        → fold max (max m (size e)) (sizes es) ≤ max m (size e) + weight_total es
-        → fold max m (sizes es) ≤ m + weight_total es
-        → fold max m (cond b (size e ∷ sizes es) (sizes es)) ≤ m + weight_total (e ∷ es)
-    go true with_it without = omega (arith, with_it, sum_by-cons size e es)
-    go false with_it without = omega (arith, without, sum_by-cons size e es)
+    let fold_is = fold_max-le (max m (size e)) es in
+    let max_is = fold_max-le m es in
+    let sum = sum_by-cons size e es in
+    grind (arith, nat_tests)
 
 pub greatest-le : (es : List Entry) → greatest_size es ≤ weight_total es
 greatest-le es = omega (arith, fold_max-le 0 es)

@@ -5,22 +5,8 @@
 -- The last node of the front is in its own entries and in the tables that are passed to it alone.
 -- So the lesser of what these add for its two bits is a function of the other nodes in them, and a
 -- table over these nodes takes their place.
-use Rattle.std.proofs.Common.{◌≡◌, ℕ, zero, suc, ◌+◌, ◌<◌, ◌≤◌, ◌&&◌, ℤ, pos, ◌+ℤ◌, ◌≤ℤ◌, ◌<ℤ◌, int_lt, Bool, true, false, cond, List, [], ◌∷◌, ◌++◌, length, get_or, set, replicate, refl, sym, arith, ap, ◌∙◌, subst}
-use Rattle.std.specs.Int.{int_min}
-use Rattle.std.specs.List.{AllByRecursion}
-use Rattle.std.proofs.lemmas.Int.{ints}
-use Rattle.std.proofs.lemmas.List.{length-append, length-set, length-replicate}
-use Rattle.base.specs.Sums.{total_by, if_so}
-use Rattle.base.proofs.Totals.{total_by_push}
-use Rattle.bits_model.specs.declared.output.Entry.{Entry}
-use Rattle.bits_model.specs.declared.output.Kind.{Kind}
-use Rattle.bits_model.specs.declared.output.Kind.TheVariants.{Qubo, Ising, Chimera}
-use Rattle.base.specs.Costs.{energy}
-use Rattle.bits_model.specs.Output.{Written, form_of, entry_energy, is_node, times_spin, spins_energy}
-use Rattle.basic_solve.specs.Tables.{TableOver, table_energy, held_energy, waiting_energy, AreHeld, AreWaiting, AllBelow, AreOf, AreEntriesOf}
+use Rattle.basic_solve.proofs.Common.{nat_tests, elements, ◌≡◌, ℕ, zero, suc, ◌+◌, ◌<◌, ◌≤◌, ℤ, pos, ◌+ℤ◌, int_lt, Bool, true, false, List, [], ◌∷◌, ◌++◌, length, get_or, set, replicate, refl, sym, arith, ap, ◌∙◌, int_min, AllByRecursion, ints, length-append, length-set, length-replicate, total_by, total_by_push, Entry, Kind, energy, Written, form_of, entry_energy, spins_energy, TableOver, table_energy, held_energy, waiting_energy, AreHeld, AreWaiting, AllBelow, AreOf, AreEntriesOf, least_after, chosen}
 use Rattle.basic_solve.proofs.TableValues.{bit_at-front, index_of-front}
-use Rattle.basic_solve.specs.FirstLeast.{least_after, chosen}
-use Rattle.basic_solve.proofs.Choices.{less, not_less}
 
 plus_one : (n : ℕ) → n + 1 ≡ suc n
 plus_one n = omega arith
@@ -29,43 +15,25 @@ plus_one n = omega arith
 
 spins_energy-front : (y z : List Bool) (e : Entry) → e.first < length y → e.second < length y
     → spins_energy (y ++ z) e ≡ spins_energy y e
-spins_energy-front y z e f s =
-    λ i. cond (is_node e) (times_spin (bit_at-front y z e.first f i) e.weight)
-    (times_spin (bit_at-front y z e.first f i)
-    (times_spin (bit_at-front y z e.second s i) e.weight))
+spins_energy-front y z e f s = cc (bit_at-front y z e.first f, bit_at-front y z e.second s)
 
 entry_energy-front : (kind : Kind) (y z : List Bool) (e : Entry) → e.first < length y
     → e.second < length y → entry_energy kind (y ++ z) e ≡ entry_energy kind y e
-entry_energy-front Qubo y z e f s =
-    λ i. if_so (bit_at-front y z e.first f i && bit_at-front y z e.second s i) e.weight
-entry_energy-front Ising y z e f s = spins_energy-front y z e f s
-entry_energy-front (Chimera rows cols shore) y z e f s = spins_energy-front y z e f s
+entry_energy-front kind y z e f s = grind (arith, nat_tests, bit_at-front, spins_energy-front)
 
 entries-front : (kind : Kind) (y z : List Bool) (w : ℕ) (es : List Entry) → w < length y
     → AreOf w es
     → total_by (entry_energy kind (y ++ z)) es ≡ total_by (entry_energy kind y) es
 entries-front kind y z w [] h p = refl
 entries-front kind y z w (e ∷ es) h p =
-    let low = p.0.0 in
-    let at = p.0.1 in
-    omega (
-      arith,
-      ints,
-      entry_energy-front kind y z e (omega arith) (omega arith),
-      entries-front kind y z w es h p.1,
-    )
+    grind (arith, nat_tests, entries-front kind y z w es h p.1, entry_energy-front)
 
 held_energy-front : (kind : Kind) (y z : List Bool) (w : ℕ) (held : List (List Entry))
     → w + length held ≤ length y → AreHeld w held
     → held_energy kind (y ++ z) held ≡ held_energy kind y held
 held_energy-front kind y z w [] h p = refl
 held_energy-front kind y z w (es ∷ held) h p =
-    omega (
-      arith,
-      ints,
-      entries-front kind y z w es (omega arith) p.0,
-      held_energy-front kind y z (suc w) held (omega arith) p.1,
-    )
+    grind (arith, nat_tests, held_energy-front kind y z (suc w) held (omega arith) p.1, entries-front)
 
 below_more : (m n : ℕ) (us : List ℕ) → m ≤ n → AllBelow m us → AllBelow n us
 below_more m n [] h p = tt
@@ -76,21 +44,14 @@ tables-front : (y z : List Bool) (w : ℕ) (ts : List TableOver) → w < length 
     → total_by (table_energy (y ++ z)) ts ≡ total_by (table_energy y) ts
 tables-front y z w [] h p = refl
 tables-front y z w (t ∷ ts) h p =
-    let same = index_of-front y z t.nodes
-    (below_more (suc w) (length y) t.nodes (omega arith) p.0) in
-    omega (arith, ints, ap (λ i. get_or t.values i (pos 0)) same, tables-front y z w ts h p.1)
+    grind (arith, nat_tests, tables-front y z w ts h p.1, index_of-front, below_more)
 
 waiting_energy-front : (y z : List Bool) (w : ℕ) (waiting : List (List TableOver))
     → w + length waiting ≤ length y → AreWaiting w waiting
     → waiting_energy (y ++ z) waiting ≡ waiting_energy y waiting
 waiting_energy-front y z w [] h p = refl
 waiting_energy-front y z w (ts ∷ waiting) h p =
-    omega (
-      arith,
-      ints,
-      tables-front y z w ts (omega arith) p.0,
-      waiting_energy-front y z (suc w) waiting (omega arith) p.1,
-    )
+    grind (arith, nat_tests, waiting_energy-front y z (suc w) waiting (omega arith) p.1, tables-front)
 
 -- ---- the lists without the last one
 
@@ -115,11 +76,7 @@ waiting-push : (w q : ℕ) (waiting : List (List TableOver)) (t : TableOver) →
     → AreWaiting w waiting → AllBelow (suc (w + q)) t.nodes
     → AreWaiting w (set waiting q (get_or waiting q [] ++ t ∷ []))
 waiting-push w q [] t h p b = absurd (omega arith)
-waiting-push w zero (ts ∷ waiting) t h p b = (
-  all_push (λ t. AllBelow (suc w) t.nodes) ts t p.0
-      (below_more (suc (w + 0)) (suc w) t.nodes (omega arith) b),
-  p.1,
-)
+waiting-push w zero (ts ∷ waiting) t h p b = grind (arith, nat_tests, elements)
 waiting-push w (suc q) (ts ∷ waiting) t h p b = (
   p.0,
   waiting-push (suc w) q waiting t (omega arith) p.1
@@ -190,18 +147,8 @@ pub record LeftAfter (kind : Kind) (n step : ℕ) (g : List Bool → ℤ) (held 
       → least_after step g y
       ≡ constant +ℤ (held_energy kind y held +ℤ waiting_energy y waiting)
 
-is_less : (a b : ℤ) → a <ℤ b → int_lt a b ≡ true
-is_less a b h = grind (arith, ints)
-
-is_not_less : (a b : ℤ) → b ≤ℤ a → int_lt a b ≡ false
-is_not_less a b h = grind (arith, ints)
-
 lt_moved : (r a b : ℤ) → int_lt (r +ℤ b) (r +ℤ a) ≡ int_lt b a
-lt_moved r a b = go (int_lt b a) refl
-  where
-    go : (t : Bool) → int_lt b a ≡ t → int_lt (r +ℤ b) (r +ℤ a) ≡ t
-    go true e = let lt = less a b e in is_less (r +ℤ b) (r +ℤ a) (omega (arith, ints))
-    go false e = let le = not_less a b e in is_not_less (r +ℤ b) (r +ℤ a) (omega (arith, ints))
+lt_moved r a b = grind (arith, ints)
 
 pub left_at_first : (m : Written) (held : List (List Entry)) → AreEntriesOf m.nodes m.entries held
     → LeftAfter m.kind m.nodes 0 (energy (form_of m)) held (replicate m.nodes [])
@@ -215,11 +162,7 @@ left_at_first m held a = record {
 }
 
 min_moved : (r a b : ℤ) → int_min (r +ℤ a) (r +ℤ b) ≡ r +ℤ int_min a b
-min_moved r a b = ap (λ t. cond t (r +ℤ b) (r +ℤ a)) (lt_moved r a b) ∙ go (int_lt b a)
-  where
-    go : (t : Bool) → cond t (r +ℤ b) (r +ℤ a) ≡ r +ℤ cond t b a
-    go true = refl
-    go false = refl
+min_moved r a b = grind (arith, ints)
 
 module _ (kind : Kind) (n step : ℕ) (g : List Bool → ℤ) (held : List (List Entry))
     (waiting : List (List TableOver)) (front : List (List Entry)) (own : List Entry)
@@ -239,8 +182,7 @@ module _ (kind : Kind) (n step : ℕ) (g : List Bool → ℤ) (held : List (List
   held_long = ap length held_is ∙ length-append front (own ∷ []) ∙ plus_one (length front)
 
   waiting_long : length waiting ≡ suc (length before)
-  waiting_long = ap length waiting_is ∙ length-append before (passed ∷ [])
-      ∙ plus_one (length before)
+  waiting_long = grind (arith, nat_tests, length-append before (passed ∷ []))
 
   same_long : length before ≡ length front
   same_long = let e = h.as_many in omega (arith, held_long, waiting_long)
@@ -249,35 +191,27 @@ module _ (kind : Kind) (n step : ℕ) (g : List Bool → ℤ) (held : List (List
   one_bit : (y : List Bool) (b : Bool) → length y ≡ length front
       → least_after step g (y ++ b ∷ []) ≡ rest y +ℤ own_energy y b
   one_bit y b w =
-      let long : length (y ++ b ∷ []) ≡ length held
-      = omega (arith, length-append y (b ∷ []), held_long) in
-      let entries = held-front 0 front own (subst (AreHeld 0) held_is h.entries) in
-      let tables = waiting-front 0 before passed (subst (AreWaiting 0) waiting_is h.tables) in
-      omega (
-        arith,
-        ints,
-        h.least (y ++ b ∷ []) long,
-        ap (held_energy kind (y ++ b ∷ [])) held_is,
-        ap (waiting_energy (y ++ b ∷ [])) waiting_is,
-        total_by_push (λ es. total_by (entry_energy kind (y ++ b ∷ [])) es) front own,
-        total_by_push (λ ts. total_by (table_energy (y ++ b ∷ [])) ts) before passed,
-        held_energy-front kind y (b ∷ []) 0 front (omega arith) entries,
-        waiting_energy-front y (b ∷ []) 0 before (omega (arith, same_long)) tables,
-      )
+      let yb = y ++ b ∷ [] in
+      let long : length yb ≡ length held = omega (arith, length-append y (b ∷ []), held_long) in
+      let entries = held-front 0 front own (rw held_is at h.entries) in
+      let tables = waiting-front 0 before passed (rw waiting_is at h.tables) in
+      let one = total_by_push (λ es. total_by (entry_energy kind yb) es) front own in
+      let two = total_by_push (λ ts. total_by (table_energy yb) ts) before passed in
+      let three = held_energy-front kind y (b ∷ []) 0 front (omega arith) entries in
+      let four = waiting_energy-front y (b ∷ []) 0 before (omega (arith, same_long)) tables in
+      omega (arith, ints, h.least yb long, ap (held_energy kind yb) held_is, ap (waiting_energy yb) waiting_is)
 
   -- the bit that is chosen after a front is that for which the last node adds less
   pub chosen-is : (y : List Bool) → length y ≡ length front
       → chosen step g y ≡ int_lt (own_energy y true) (own_energy y false)
-  chosen-is y w =
-      (λ i. int_lt (one_bit y true w i) (one_bit y false w i))
-      ∙ lt_moved (rest y) (own_energy y false) (own_energy y true)
+  chosen-is y w = rw (one_bit y true w, one_bit y false w) (lt_moved (rest y) (own_energy y false) (own_energy y true))
 
   -- the least energy after a front
   next_least : (y : List Bool) → length y ≡ length front
       → least_after (suc step) g y ≡ rest y +ℤ int_min (own_energy y false) (own_energy y true)
   next_least y w =
-      (λ i. int_min (one_bit y false w i) (one_bit y true w i))
-      ∙ min_moved (rest y) (own_energy y false) (own_energy y true)
+      rw (one_bit y false w, one_bit y true w)
+      (min_moved (rest y) (own_energy y false) (own_energy y true))
 
   -- ---- what takes the place of the last node
 
@@ -292,46 +226,29 @@ module _ (kind : Kind) (n step : ℕ) (g : List Bool → ℤ) (held : List (List
       → LeftAfter kind n (step + 1) g front (set before q (get_or before q [] ++ t ∷ []))
   left_next t q s lt b =
       let long : q < length before = omega (arith, same_long) in
-      let next : suc step ≡ step + 1 = omega arith in
+      let next : step + 1 ≡ suc step = omega arith in
       record {
-        left = let e = h.left in omega (arith, held_long);
+        left = omega (arith, held_long, h.left);
         as_many = length-set before q (get_or before q [] ++ t ∷ []) ∙ same_long;
-        entries = held-front 0 front own (subst (AreHeld 0) held_is h.entries);
-        tables = waiting-push 0 q before t long
-            (waiting-front 0 before passed (subst (AreWaiting 0) waiting_is h.tables))
+        entries = held-front 0 front own (rw held_is at h.entries);
+        tables = waiting-push 0 q before t long (waiting-front 0 before passed (rw waiting_is at h.tables))
             (below_more (suc q) (suc (0 + q)) t.nodes (omega arith) b);
         constant = h.constant;
         least = λ y w.
-            let after = set before q (get_or before q [] ++ t ∷ []) in
-            let sum : least_after (suc step) g y
-            ≡ h.constant +ℤ (held_energy kind y front +ℤ waiting_energy y after)
-            = omega (
-              arith,
-              ints,
-              next_least y w,
-              s.holds y w,
-              waiting_energy-push y q before t long,
-            ) in
-            subst (λ k. least_after k g y
-            ≡ h.constant +ℤ (held_energy kind y front +ℤ waiting_energy y after)) next sum;
+            let push = waiting_energy-push y q before t long in
+            rw next (omega (arith, ints, next_least y w, s.holds y w));
       }
 
   -- it is a constant where there is no other node
   pub left_alone : (values : List ℤ) → Settles (record { nodes = []; values = values })
       → LeftAfter kind n (step + 1) g front before
   left_alone values s =
-      let next : suc step ≡ step + 1 = omega arith in
+      let next : step + 1 ≡ suc step = omega arith in
       record {
-        left = let e = h.left in omega (arith, held_long);
+        left = omega (arith, held_long, h.left);
         as_many = same_long;
-        entries = held-front 0 front own (subst (AreHeld 0) held_is h.entries);
-        tables = waiting-front 0 before passed (subst (AreWaiting 0) waiting_is h.tables);
+        entries = held-front 0 front own (rw held_is at h.entries);
+        tables = waiting-front 0 before passed (rw waiting_is at h.tables);
         constant = h.constant +ℤ get_or values 0 (pos 0);
-        least = λ y w.
-            let moved = h.constant +ℤ get_or values 0 (pos 0) in
-            let sum : least_after (suc step) g y
-            ≡ moved +ℤ (held_energy kind y front +ℤ waiting_energy y before)
-            = omega (arith, ints, next_least y w, s.holds y w) in
-            subst (λ k. least_after k g y
-            ≡ moved +ℤ (held_energy kind y front +ℤ waiting_energy y before)) next sum;
+        least = λ y w. rw next (omega (arith, ints, next_least y w, s.holds y w));
       }

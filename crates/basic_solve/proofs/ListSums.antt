@@ -1,15 +1,11 @@
 -- Sums over lists, and over lists of lists.
-use Rattle.std.proofs.Common.{◌≡◌, ℤ, ◌+ℤ◌, ℕ, zero, suc, ◌+◌, ◌<◌, ◌≤◌, ◌||◌, Bool, true, false, cond, List, [], ◌∷◌, ◌++◌, length, get_or, set, drop, replicate, refl, sym, arith, ap, ◌∙◌, add-one, drop-cons}
-use Rattle.std.specs.List.{sum_by, list_any}
-use Rattle.std.proofs.lemmas.List.Sums.{sum_by-cons}
-use Rattle.base.specs.Sums.{total_by}
+use Rattle.basic_solve.proofs.Common.{nat_tests, ints, ◌≡◌, ℤ, ◌+ℤ◌, ℕ, zero, suc, ◌+◌, ◌<◌, ◌≤◌, Bool, true, cond, List, [], ◌∷◌, ◌++◌, length, get_or, set, drop, replicate, refl, arith, ap, ◌∙◌, add-one, drop-cons, sum_by, list_any, sum_by-cons, total_by}
 
 -- one item more
 pub sum-push : {X : Type 0} (f : X → ℕ) (xs : List X) (x : X)
     → sum_by f (xs ++ x ∷ []) ≡ sum_by f xs + f x
-sum-push f [] x = sum_by-cons f x [] ∙ omega arith
-sum-push f (y ∷ ys) x =
-    omega (arith, sum_by-cons f y (ys ++ x ∷ []), sum_by-cons f y ys, sum-push f ys x)
+sum-push f [] x = omega (arith, sum_by-cons)
+sum-push f (y ∷ ys) x = omega (arith, sum_by-cons, sum-push f ys x)
 
 -- one item
 pub sum-at : {X : Type 0} (f : X → ℕ) (xs : List X) (k : ℕ) (d : X) → k < length xs
@@ -21,10 +17,7 @@ sum-at f (x ∷ xs) (suc k) d h = omega (arith, sum_by-cons f x xs, sum-at f xs 
 -- what is left loses its first item
 pub sum_left : {X : Type 0} (f : X → ℕ) (xs : List X) (at : ℕ) (d : X) → at < length xs
     → sum_by f (drop at xs) ≡ f (get_or xs at d) + sum_by f (drop (at + 1) xs)
-sum_left f xs at d h =
-    ap (sum_by f) (drop-cons xs at d h)
-    ∙ sum_by-cons f (get_or xs at d) (drop (suc at) xs)
-    ∙ ap (λ k. f (get_or xs at d) + sum_by f (drop k xs)) (sym (add-one at))
+sum_left f xs at d h = grind (arith, nat_tests, drop-cons, sum_by-cons, add-one)
 
 pub sum_parts : {X : Type 0} (left rest : List X) (x : X) → left ≡ x ∷ rest → (f : X → ℕ)
     → sum_by f left ≡ f x + sum_by f rest
@@ -32,9 +25,7 @@ sum_parts left rest x parts f = ap (sum_by f) parts ∙ sum_by-cons f x rest
 
 pub total_left : {X : Type 0} (f : X → ℤ) (xs : List X) (at : ℕ) (d : X) → at < length xs
     → total_by f (drop at xs) ≡ f (get_or xs at d) +ℤ total_by f (drop (at + 1) xs)
-total_left f xs at d h =
-    ap (total_by f) (drop-cons xs at d h)
-    ∙ ap (λ k. f (get_or xs at d) +ℤ total_by f (drop k xs)) (sym (add-one at))
+total_left f xs at d h = grind (arith, nat_tests, ints, drop-cons, add-one)
 
 -- ---- lists of lists
 
@@ -46,20 +37,8 @@ pub sums-push : {X : Type 0} (f : X → ℕ) (q : ℕ) (lists : List (List X)) (
     → sum_by (sum_by f) (set lists q (get_or lists q [] ++ x ∷ []))
     ≡ sum_by (sum_by f) lists + f x
 sums-push f q [] x h = absurd (omega arith)
-sums-push f zero (l ∷ ls) x h =
-    omega (
-      arith,
-      sum_by-cons (sum_by f) l ls,
-      sum_by-cons (sum_by f) (l ++ x ∷ []) ls,
-      sum-push f l x,
-    )
-sums-push f (suc q) (l ∷ ls) x h =
-    omega (
-      arith,
-      sum_by-cons (sum_by f) l ls,
-      sum_by-cons (sum_by f) l (set ls q (get_or ls q [] ++ x ∷ [])),
-      sums-push f q ls x (omega arith),
-    )
+sums-push f zero (l ∷ ls) x h = omega (arith, sum_by-cons, sum-push)
+sums-push f (suc q) (l ∷ ls) x h = omega (arith, sum_by-cons, sums-push f q ls x (omega arith))
 
 -- one item of one of the lists
 pub sums-at : {X : Type 0} (f : X → ℕ) (lists : List (List X)) (w k : ℕ) (d : X) → w < length lists
@@ -72,12 +51,4 @@ sums-at f lists w k d h l =
 pub any_of-sum : {X : Type 0} (f : X → Bool) (xs : List X) → 0 < sum_by (λ x. cond (f x) 1 0) xs
     → list_any f xs ≡ true
 any_of-sum f [] h = absurd (omega arith)
-any_of-sum f (x ∷ xs) h =
-    go (f x) (sum_by-cons (λ x. cond (f x) 1 0) x xs) (any_of-sum f xs)
-  where
-    go : (t : Bool)
-        → sum_by (λ x. cond (f x) 1 0) (x ∷ xs) ≡ cond t 1 0 + sum_by (λ x. cond (f x) 1 0) xs
-        → (0 < sum_by (λ x. cond (f x) 1 0) xs → list_any f xs ≡ true)
-        → (t || list_any f xs) ≡ true
-    go true e r = refl
-    go false e r = r (omega arith)
+any_of-sum f (x ∷ xs) h = grind (arith, nat_tests, any_of-sum f xs)

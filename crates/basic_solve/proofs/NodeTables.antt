@@ -1,12 +1,5 @@
 -- The table of a node, and what it makes of the least energies that are left.
-use Rattle.std.proofs.Common.{◌≡◌, ℕ, suc, ◌+◌, ◌*◌, ◌^◌, ◌<◌, ◌≤◌, ℤ, pos, ◌+ℤ◌, int_lt, Bool, true, false, cond, List, [], ◌∷◌, ◌++◌, length, get_or, refl, sym, arith, ap, ◌∙◌, subst}
-use Rattle.std.specs.Int.{int_min}
-use Rattle.std.proofs.lemmas.Int.{ints}
-use Rattle.base.specs.Sums.{total_by}
-use Rattle.bits_model.specs.declared.output.Entry.{Entry}
-use Rattle.bits_model.specs.declared.output.Kind.{Kind}
-use Rattle.bits_model.specs.Output.{bit_at, entry_energy}
-use Rattle.basic_solve.specs.Tables.{index_of, value_at, doubled, sum_where, places, base_of, step_at, AllBelow, AreOf, TableOver, own_energy, IsPassedTo, IsTableOfBit, IsChoiceOf}
+use Rattle.basic_solve.proofs.Common.{nat_tests, ◌≡◌, ℕ, suc, ◌+◌, ◌*◌, ◌^◌, ◌<◌, ◌≤◌, ℤ, pos, ◌+ℤ◌, int_lt, Bool, true, false, cond, List, [], ◌∷◌, ◌++◌, length, get_or, refl, arith, int_min, ints, total_by, Entry, Kind, entry_energy, index_of, value_at, doubled, sum_where, places, base_of, step_at, AreOf, TableOver, own_energy, IsPassedTo, IsTableOfBit, IsChoiceOf}
 use Rattle.basic_solve.proofs.TableValues.{doubled_at, stepped-sum, stepped-places, length-places, index_of-lt, index_of-last, index_of-front, bit_at-next}
 use Rattle.basic_solve.proofs.Parts.{entries_parts}
 use Rattle.basic_solve.proofs.Eliminating.{LeftAfter, chosen-is}
@@ -19,9 +12,7 @@ doubled_value : (y : List Bool) (nodes : List ℕ) (b : ℤ) (steps : List ℤ)
     → value_at nodes (doubled ◌+ℤ◌ (b ∷ []) steps) y ≡ b +ℤ sum_where y nodes steps
 doubled_value y nodes b steps l =
     let at : 0 + 1 * index_of y nodes ≡ index_of y nodes = omega arith in
-    ap (λ i. get_or (doubled ◌+ℤ◌ (b ∷ []) steps) i (pos 0)) (sym at)
-    ∙ doubled_at ◌+ℤ◌ y nodes (b ∷ []) steps (pos 0) 0 1 refl (omega arith) l
-    ∙ stepped-sum y b nodes steps l
+    grind (arith, nat_tests, ints, doubled_at, stepped-sum)
 
 -- so it holds what the entries of a node add
 pub entries_value : (kind : Kind) (y : List Bool) (bit : Bool) (nodes : List ℕ) (b : ℤ)
@@ -32,14 +23,7 @@ pub entries_value : (kind : Kind) (y : List Bool) (bit : Bool) (nodes : List ℕ
     → value_at nodes (doubled ◌+ℤ◌ (b ∷ []) steps) y
     ≡ total_by (entry_energy kind (y ++ bit ∷ [])) es
 entries_value kind y bit nodes b steps es own l base sums =
-    omega (
-      arith,
-      ints,
-      doubled_value y nodes b steps l,
-      base,
-      sums,
-      entries_parts kind y bit es own,
-    )
+    grind (arith, nat_tests, ints, doubled_value, entries_parts)
 
 -- ---- a table that is passed to a node
 
@@ -50,49 +34,11 @@ pub passed_place : (y : List Bool) (bit : Bool) (v : ℕ) (nodes : List ℕ) (t 
     → start + get_or (doubled ◌+◌ (0 ∷ []) (places 1 nodes p.rest)) (index_of y nodes) 0
     ≡ index_of (y ++ bit ∷ []) t.nodes
 passed_place y bit v nodes t p start w s =
-    go bit s (index_of-last (y ++ bit ∷ []) p.rest v) last_is
-  where
-    at : 0 + 1 * index_of y nodes ≡ index_of y nodes
-    at = omega arith
-
-    place : get_or (doubled ◌+◌ (0 ∷ []) (places 1 nodes p.rest)) (index_of y nodes) 0
-        ≡ index_of y p.rest
-    place =
-        ap (λ i. get_or (doubled ◌+◌ (0 ∷ []) (places 1 nodes p.rest)) i 0) (sym at)
-        ∙ doubled_at ◌+◌ y nodes (0 ∷ []) (places 1 nodes p.rest) 0 0 1 refl (omega arith)
-        (length-places 1 nodes p.rest)
-        ∙ stepped-places y 0 1 nodes p.rest p.among
-        ∙ omega arith
-
-    front : index_of (y ++ bit ∷ []) p.rest ≡ index_of y p.rest
-    front = index_of-front y (bit ∷ []) p.rest (subst (λ n. AllBelow n p.rest) (sym w) p.below)
-
-    last_is : bit_at (y ++ bit ∷ []) v ≡ bit
-    last_is = ap (λ k. bit_at (y ++ bit ∷ []) k) (sym w) ∙ bit_at-next y [] bit
-
-    go : (b : Bool) → start ≡ cond b (2 ^ length p.rest) 0
-        → index_of (y ++ bit ∷ []) (p.rest ++ v ∷ [])
-        ≡ index_of (y ++ bit ∷ []) p.rest
-        + 2 ^ length p.rest * cond (bit_at (y ++ bit ∷ []) v) 1 0
-        → bit_at (y ++ bit ∷ []) v ≡ b
-        → start + get_or (doubled ◌+◌ (0 ∷ []) (places 1 nodes p.rest)) (index_of y nodes) 0
-        ≡ index_of (y ++ bit ∷ []) t.nodes
-    go b s last is =
-        sum b s (last ∙ ap (λ c. index_of (y ++ bit ∷ []) p.rest + 2 ^ length p.rest * cond c 1 0)
-        is)
-        ∙ ap (index_of (y ++ bit ∷ [])) (sym p.parts)
-      where
-        sum : (b : Bool) → start ≡ cond b (2 ^ length p.rest) 0
-            → index_of (y ++ bit ∷ []) (p.rest ++ v ∷ [])
-            ≡ index_of (y ++ bit ∷ []) p.rest + 2 ^ length p.rest * cond b 1 0
-            → start + get_or (doubled ◌+◌ (0 ∷ []) (places 1 nodes p.rest)) (index_of y nodes) 0
-            ≡ index_of (y ++ bit ∷ []) (p.rest ++ v ∷ [])
-        sum true s last =
-            let all : 2 ^ length p.rest * 1 ≡ 2 ^ length p.rest = omega arith in
-            omega (arith, s, last, place, front, all)
-        sum false s last =
-            let none : 2 ^ length p.rest * 0 ≡ 0 = omega arith in
-            omega (arith, s, last, place, front, none)
+    let all = doubled_at ◌+◌ y nodes (0 ∷ []) (places 1 nodes p.rest) 0 0 1 refl (omega arith) in
+    let steps = stepped-places y 0 1 nodes p.rest p.among in
+    let front = index_of-front y (bit ∷ []) p.rest (rw w p.below) in
+    let whole = p.parts in
+    grind (arith, nat_tests, length-places 1 nodes p.rest, bit_at-next y [] bit, index_of-last (y ++ bit ∷ []) p.rest v)
 
 -- ---- both tables of a node
 
@@ -113,12 +59,11 @@ module _ (kind : Kind) (n step : ℕ) (g : List Bool → ℤ) (held : List (List
       → get_or bits x false ≡ int_lt (get_or ones x (pos 0)) (get_or zeros x (pos 0)))
       → length front + suc step ≡ n → IsChoiceOf n step g nodes bits
   choice_of bits long b at = record {
-    count = let l = z.count in omega (arith, l, long);
+    count = omega (arith, z.count, long);
     each = λ y w.
         let same : length y ≡ length front = omega arith in
-        chosen-is kind n step g held waiting front own before passed h held_is waiting_is y same
-        ∙ (λ i. int_lt (sym (o.holds y same) i) (sym (z.holds y same) i))
-        ∙ sym (b (index_of y nodes) (within y));
+        let chosen = chosen-is kind n step g held waiting front own before passed h held_is waiting_is y same in
+        cc (chosen, o.holds y same, z.holds y same, b (index_of y nodes) (within y));
   }
 
   -- the lesser numbers are what the node adds
@@ -128,5 +73,4 @@ module _ (kind : Kind) (n step : ℕ) (g : List Bool → ℤ) (held : List (List
       → (y : List Bool) → length y ≡ length front
       → value_at nodes values y
       ≡ int_min (own_energy kind own passed y false) (own_energy kind own passed y true)
-  lesser_holds values l y w =
-      l (index_of y nodes) (within y) ∙ (λ i. int_min (z.holds y w i) (o.holds y w i))
+  lesser_holds values l y w = cc (l (index_of y nodes) (within y), z.holds y w, o.holds y w)

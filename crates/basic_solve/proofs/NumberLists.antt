@@ -1,8 +1,5 @@
 -- Tables of numbers that are seen as their values.
-use Rattle.std.proofs.Common.{◌≡◌, ℕ, ◌+◌, ◌-◌, ◌<◌, ◌≤◌, ◌^◌, ℤ, pos, ◌+ℤ◌, List, [], ◌∷◌, ◌++◌, length, map, take, get_or, set, refl, sym, arith, ap, ◌∙◌}
-use Rattle.std.proofs.lemmas.List.{length-map, get_or-map, map-set, take_more, take_all}
-use Rattle.std.specs.List.{sum_by}
-use Rattle.basic_solve.specs.Tables.{doubled}
+use Rattle.basic_solve.proofs.Common.{nat_tests, ints, elements, ◌≡◌, ℕ, ◌+◌, ◌-◌, ◌<◌, ◌≤◌, ◌^◌, ℤ, pos, ◌+ℤ◌, List, [], ◌∷◌, ◌++◌, length, map, take, get_or, set, refl, sym, arith, ap, ◌∙◌, length-map, get_or-map, map-set, take_more, take_all, sum_by, doubled}
 use Rattle.basic_solve.proofs.TableSizes.{written_more}
 use Rattle.basic_solve.proofs.ListSums.{sum-push}
 
@@ -20,12 +17,7 @@ pub value_more : {X : Type 0} (f : X → ℤ) (vs us : List X) (to : ℕ → ℤ
     × ((x : ℕ) → at + 1 ≤ x
     → get_or (map f (set us at v)) x (pos 0) ≡ get_or (map f vs) x (pos 0))
 value_more f vs us to at v long h is so_far =
-    let more = written_more (map f vs) (map f us) to at (f v)
-    (length-map us f ∙ long ∙ sym (length-map vs f)) (omega (arith, length-map vs f)) is so_far in
-    let same = map-set f us at v in (
-      λ x l. ap (λ ws. get_or ws x (pos 0)) same ∙ more.0 x l,
-      λ x l. ap (λ ws. get_or ws x (pos 0)) same ∙ more.1 x l,
-    )
+    grind (arith, nat_tests, ints, elements, written_more, length-map, map-set)
 
 -- the last step doubles what the others made
 pub doubled-last : {A : Type 0} (plus : A → A → A) (vs steps : List A) (s : A)
@@ -55,9 +47,7 @@ begun_places vs (s ∷ steps) h l = absurd (omega arith)
 
 pub last_of : {A : Type 0} (xs : List A) (d : A) → 1 ≤ length xs
     → take (length xs - 1) xs ++ get_or xs (length xs - 1) d ∷ [] ≡ xs
-last_of xs d h =
-    let lt : length xs - 1 < length xs = omega arith in
-    sym (take_more xs (length xs - 1) d lt) ∙ take_all (length xs - 1 + 1) xs (omega arith)
+last_of xs d h = grind (arith, nat_tests, take_more, take_all)
 
 -- a table, and once more with the last step added
 pub doubled_joined : {A : Type 0} (plus : A → A → A) (vs steps low high : List A) (d : A)
@@ -65,13 +55,9 @@ pub doubled_joined : {A : Type 0} (plus : A → A → A) (vs steps low high : Li
     → high ≡ map (λ v. plus v (get_or steps (length steps - 1) d)) low
     → low ++ high ≡ doubled plus vs steps
 doubled_joined plus vs steps low high d h l m =
-    let rest = take (length steps - 1) steps in
-    let last = get_or steps (length steps - 1) d in
-    (λ i. l i ++ (m ∙ ap (map (λ v. plus v last)) l) i)
-    ∙ sym (doubled-last plus vs rest last) ∙ ap (doubled plus vs) (last_of steps d h)
+    cc (doubled-last plus vs (take (length steps - 1) steps) (get_or steps (length steps - 1) d), last_of steps d h)
 
 pub sum-last : {A : Type 0} (f : A → ℕ) (xs : List A) (d : A) → 1 ≤ length xs
     → sum_by f xs ≡ sum_by f (take (length xs - 1) xs) + f (get_or xs (length xs - 1) d)
 sum-last f xs d h =
-    ap (sum_by f) (sym (last_of xs d h))
-    ∙ sum-push f (take (length xs - 1) xs) (get_or xs (length xs - 1) d)
+    grind (arith, nat_tests, last_of xs d h, sum-push f (take (length xs - 1) xs) (get_or xs (length xs - 1) d))

@@ -1,12 +1,5 @@
 -- One step of a list that grows, at the place of a node.
-use Rattle.std.proofs.Common.{◌≡◌, ◌≢◌, ℕ, zero, suc, ◌+◌, ◌<◌, ◌≤◌, ℤ, pos, ◌+ℤ◌, unsigned_abs, Bool, true, List, [], ◌∷◌, length, get_or, set, arith, ap, ◌∙◌}
-use Rattle.std.specs.List.{sum_by}
-use Rattle.std.proofs.lemmas.Int.{ints}
-use Rattle.std.proofs.lemmas.List.Sums.{sum_by-cons}
-use Rattle.base.specs.Sums.{if_so}
-use Rattle.bits_model.specs.Output.{bit_at}
-use Rattle.bits_model.specs.Walks.{is_in}
-use Rattle.basic_solve.specs.Tables.{sum_where}
+use Rattle.basic_solve.proofs.Common.{nat_tests, elements, ◌≡◌, ◌≢◌, ℕ, zero, suc, ◌+◌, ◌<◌, ◌≤◌, ℤ, pos, ◌+ℤ◌, unsigned_abs, Bool, true, List, [], ◌∷◌, length, get_or, set, arith, sum_by, ints, sum_by-cons, if_so, bit_at, is_in, sum_where}
 use Rattle.basic_solve.proofs.Ascending.{in_cons, no_true}
 use Rattle.basic_solve.proofs.TableValues.{sum_where-set}
 
@@ -20,24 +13,15 @@ pub size-grown : (steps : List ℤ) (at : ℕ) (v n : ℤ) → at < length steps
     → v ≡ get_or steps at (pos 0) +ℤ n
     → sum_by unsigned_abs (set steps at v) ≤ sum_by unsigned_abs steps + unsigned_abs n
 size-grown [] at v n h e = absurd (omega arith)
-size-grown (s ∷ steps) zero v n h e =
-    omega (arith, ints, e, sum_by-cons unsigned_abs s steps, sum_by-cons unsigned_abs v steps)
-size-grown (s ∷ steps) (suc at) v n h e =
-    omega (
-      arith,
-      sum_by-cons unsigned_abs s steps,
-      sum_by-cons unsigned_abs s (set steps at v),
-      size-grown steps at v n (omega arith) e,
-    )
+size-grown (s ∷ steps) zero v n h e = omega (arith, ints, e, sum_by-cons)
+size-grown (s ∷ steps) (suc at) v n h e = omega (arith, sum_by-cons, size-grown steps at v n (omega arith) e)
 
 pub sum-grown : (y : List Bool) (nodes : List ℕ) (steps : List ℤ) (at node : ℕ) (v n : ℤ)
     → at < length nodes → length steps ≡ length nodes → get_or nodes at 0 ≡ node
     → v ≡ get_or steps at (pos 0) +ℤ n
     → sum_where y nodes (set steps at v) ≡ sum_where y nodes steps +ℤ if_so (bit_at y node) n
 sum-grown y nodes steps at node v n h l is e =
-    ap (λ w. sum_where y nodes (set steps at w)) e
-    ∙ sum_where-set y nodes steps at n h l
-    ∙ ap (λ k. sum_where y nodes steps +ℤ if_so (bit_at y k) n) is
+    grind (arith, nat_tests, ints, elements, sum_where-set)
 
 -- a node that is none of these is not among them
 pub none_is : (nodes : List ℕ) (node n : ℕ) → length nodes ≤ n → is_in nodes node ≡ true

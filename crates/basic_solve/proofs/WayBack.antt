@@ -1,9 +1,5 @@
 -- The way back: each bit is the one that is chosen after those before it.
-use Rattle.std.proofs.Common.{◌≡◌, ℕ, suc, ◌+◌, ◌-◌, ◌≤◌, ℤ, Bool, List, [], ◌∷◌, ◌++◌, length, get_or, sym, arith, ap, ◌∙◌, subst, false, append_assoc}
-use Rattle.std.proofs.lemmas.List.{length-append, append-nil}
-use Rattle.base.specs.Costs.{Form, energy}
-use Rattle.basic_solve.specs.FirstLeast.{IsFirstLeast, choices, chosen}
-use Rattle.basic_solve.specs.Tables.{index_of, AreChoices}
+use Rattle.basic_solve.proofs.Common.{nat_tests, ◌≡◌, ℕ, suc, ◌+◌, ◌-◌, ◌≤◌, ℤ, Bool, List, [], ◌∷◌, ◌++◌, length, get_or, sym, arith, ◌∙◌, false, append_assoc, length-append, append-nil, Form, energy, IsFirstLeast, choices, chosen, index_of, AreChoices}
 use Rattle.basic_solve.proofs.Choices.{choices_are_first_least}
 
 -- the bits so far begin what is chosen
@@ -21,20 +17,9 @@ begun_more n g sets bits y step b a h at is =
     let chosen_is : b ≡ chosen step g y = is ∙ sym ((a.each step (omega arith)).each y at) in
     let left : n - length y ≡ suc step = omega arith in
     let less : n - length (y ++ b ∷ []) ≡ step = omega (arith, long) in
-    record {
-      within = omega (arith, long);
-      begins =
-          ap (λ k. (y ++ b ∷ []) ++ choices k g (y ++ b ∷ [])) less
-          ∙ append_assoc y (b ∷ []) (choices step g (y ++ b ∷ []))
-          ∙ ap (λ c. y ++ c ∷ choices step g (y ++ c ∷ [])) chosen_is
-          ∙ ap (λ k. y ++ choices k g y) (sym left)
-          ∙ h.begins;
-    }
+    let join = append_assoc y (b ∷ []) (choices step g (y ++ b ∷ [])) in
+    record { within = omega (arith, long); begins = cc }
 
 pub first_least : (f : Form) (y : List Bool) → IsBegun f.bits (energy f) y → length y ≡ f.bits
     → IsFirstLeast f y
-first_least f y h w =
-    let none : f.bits - length y ≡ 0 = omega arith in
-    let is : y ≡ choices f.bits (energy f) []
-    = sym (append-nil y) ∙ ap (λ k. y ++ choices k (energy f) y) (sym none) ∙ h.begins in
-    subst (IsFirstLeast f) (sym is) (choices_are_first_least f)
+first_least f y h w = grind (arith, nat_tests, append-nil, choices_are_first_least)

@@ -31,10 +31,8 @@ each-step p q q' ls i l h is added before =
     let more : map alone (take (i + 1) ls) ≡ map alone (take i ls) ++ (l ∷ []) ∷ [] =
     ap (map alone) (take_more ls i l h ∙ (λ k. take i ls ++ sym is k ∷ []))
     ∙ map-append alone (take i ls) (l ∷ []) in
-    added
-    ∙ (λ k. with_hard (before k) ((l ∷ []) ∷ []))
-    ∙ with_hard-append p (map alone (take i ls)) ((l ∷ []) ∷ [])
-    ∙ (λ k. with_hard p (sym more k))
+    added ∙ (λ k. with_hard (before k) ((l ∷ []) ∷ []))
+    ∙ with_hard-append p (map alone (take i ls)) ((l ∷ []) ∷ []) ∙ (λ k. with_hard p (sym more k))
 
 -- ---- clauses of two
 
@@ -54,8 +52,7 @@ pairs_with-step p q q' f ls i l h is added before =
     ≡ fronted f (map alone (take i ls)) ++ (f ∷ l ∷ []) ∷ [] =
     ap (fronted f) more
     ∙ map-append (λ (m : List Literal). f ∷ m) (map alone (take i ls)) ((l ∷ []) ∷ []) in
-    added
-    ∙ (λ k. with_hard (before k) ((f ∷ l ∷ []) ∷ []))
+    added ∙ (λ k. with_hard (before k) ((f ∷ l ∷ []) ∷ []))
     ∙ with_hard-append p (fronted f (map alone (take i ls))) ((f ∷ l ∷ []) ∷ [])
     ∙ (λ k. with_hard p (sym longer k))
 

@@ -55,8 +55,7 @@ beside-step room least t ts over =
     (λ i. (list_all (are_apart room t) ts && each_two (are_apart room) ts)
     && (lt-ltb room (least + size t) over i && list_all (λ u. ltb room (least + size u)) ts))
     ∙ regroup (list_all (are_apart room t) ts) (each_two (are_apart room) ts) true
-    (list_all (λ u. ltb room (least + size u)) ts)
-    ∙ (λ i. each_two (are_apart room) ts
+    (list_all (λ u. ltb room (least + size u)) ts) ∙ (λ i. each_two (are_apart room) ts
     && (sym (and-true (list_all (are_apart room t) ts)) i
     && list_all (λ u. ltb room (least + size u)) ts))
     ∙ ap (λ b. each_two (are_apart room) ts && b) (all-lesser room (size t) least ts)

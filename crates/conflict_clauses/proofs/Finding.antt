@@ -39,8 +39,7 @@ pub is_found : (spent : ℕ) (k : Constraint) (r n : ℕ) → IsSeen k r n → s
     → conflicting r k ≡ true → IsFound spent k (record { room = r; pairs = n })
 is_found spent k r n s within apart =
     let conflict : is_conflict k ≡ true =
-    conflict-parts k
-    ∙ and_from (may_conflict k) (conflicting (room k) k) s.may
+    conflict-parts k ∙ and_from (may_conflict k) (conflicting (room k) k) s.may
     (ap (λ m. conflicting m k) (sym s.room) ∙ apart) in
     let same = s.pairs in
     record {

@@ -41,8 +41,7 @@ two_pass p (x ∷ xs) = (p x && list_any p xs) || two_pass p xs
 pub two_pass-map : {A B : Type 0} (p : B → Bool) (f : A → B) (xs : List A)
     → two_pass p (map f xs) ≡ two_pass (λ x. p (f x)) xs
 two_pass-map p f [] = refl
-two_pass-map p f (x ∷ xs) =
-    λ i. (p (f x) && list_any-map p f xs i) || two_pass-map p f xs i
+two_pass-map p f (x ∷ xs) = λ i. (p (f x) && list_any-map p f xs i) || two_pass-map p f xs i
 
 two_pass-none : {A : Type 0} (p : A → Bool) (xs : List A) → list_any p xs ≡ false
     → two_pass p xs ≡ false
@@ -60,8 +59,7 @@ none_of p xs = not (list_any p xs)
 
 none_of-append : {A : Type 0} (p : A → Bool) (xs ys : List A)
     → none_of p (xs ++ ys) ≡ (none_of p xs && none_of p ys)
-none_of-append p xs ys =
-    ap not (list_any-append p xs ys) ∙ not-or (list_any p xs) (list_any p ys)
+none_of-append p xs ys = ap not (list_any-append p xs ys) ∙ not-or (list_any p xs) (list_any p ys)
 
 joined : {A : Type 0} (p : A → Bool) (first : List A) (others : List (List A))
     → list_any (none_of p) (map (λ bs. first ++ bs) others)
@@ -90,8 +88,7 @@ any-filter {A = A} p q x xs = go (q x)
     go true = refl
     go false = refl
 
-two-filter : {A : Type 0} (p q : A → Bool) (x : A) (xs : List A)
-    → two_pass p (filter q (x ∷ xs))
+two-filter : {A : Type 0} (p q : A → Bool) (x : A) (xs : List A) → two_pass p (filter q (x ∷ xs))
     ≡ ((q x && (p x && list_any p (filter q xs))) || two_pass p (filter q xs))
 two-filter {A = A} p q x xs = go (q x)
   where
@@ -123,8 +120,7 @@ beside p size most n (x ∷ xs) small apart =
     let rest = beside p size most n xs small parts.1 in
     ap (λ s. ltb most (n + s)) (sum_by-cons (lost p size) x xs) ∙ go (p x) here rest
   where
-    go : (b : Bool) → most < n + size x
-        → ltb most (n + sum_by (lost p size) xs) ≡ list_any p xs
+    go : (b : Bool) → most < n + size x → ltb most (n + sum_by (lost p size) xs) ≡ list_any p xs
         → ltb most (n + (cond b (size x) 0 + sum_by (lost p size) xs)) ≡ (b || list_any p xs)
     go true here rest = lt-ltb most (n + (size x + sum_by (lost p size) xs)) (omega arith)
     go false here rest =
@@ -139,8 +135,7 @@ finish most n l p c f s q rest alone great few = grind (arith, nat_tests)
 
 -- the sum of what is lost is too much where one that is too much by itself is lost, or two others are
 pub sum_lost : {A : Type 0} (p : A → Bool) (size : A → ℕ) (most : ℕ) (xs : List A)
-    → each_two (λ x y. ltb most (size x + size y)) xs ≡ true
-    → ltb most (sum_by (lost p size) xs)
+    → each_two (λ x y. ltb most (size x + size y)) xs ≡ true → ltb most (sum_by (lost p size) xs)
     ≡ (list_any p (filter (λ x. ltb most (size x)) xs)
     || two_pass p (filter (λ x. not (ltb most (size x))) xs))
 sum_lost p size most [] apart = le-ltb most 0 (omega arith)
@@ -155,7 +150,6 @@ sum_lost {A = A} p size most (x ∷ xs) apart =
     ∙ finish most (size x) (sum_by (lost p size) xs) (p x) (ltb most (size x)) (list_any p great)
     (list_any p small) (two_pass p small) (sum_lost p size most xs parts.1)
     (λ e. beside p size most (size x) xs (ltb-false most (size x) e) parts.0 ∙ any-parts p is_great xs)
-    (λ e. lt-ltb most (size x + sum_by (lost p size) xs)
-    (omega (arith, ltb-true most (size x) e)))
+    (λ e. lt-ltb most (size x + sum_by (lost p size) xs) (omega (arith, ltb-true most (size x) e)))
     (two_pass-none p small)
     ∙ (λ i. sym (any-filter p is_great x xs) i || sym (two-filter p is_small x xs) i)

@@ -37,8 +37,7 @@ value x (l ∷ []) (negsuc n) single =
     (λ i. if_so (holds x l && true) (negsuc n)
     +ℤ pos (cond (not (holds-turned x l i || false)) (unsigned_abs (negsuc n)) 0))
     ∙ minus (holds x l) n
-value x (l ∷ m ∷ ls) c single =
-    absurd (omega (arith, eqb-true (length (l ∷ m ∷ ls)) 1 single))
+value x (l ∷ m ∷ ls) c single = absurd (omega (arith, eqb-true (length (l ∷ m ∷ ls)) 1 single))
 
 add_up : (v s : ℤ) (a b p q : ℕ) → v +ℤ pos a ≡ pos p → s +ℤ pos b ≡ pos q
     → (v +ℤ s) +ℤ pos (a + b) ≡ pos (p + q)
@@ -110,11 +109,9 @@ parts_of k h =
 -- a hard clause of lists of literals fails where no literal of some list is true
 hard-fails : (x : List Bool) (lists : List (List Literal))
     → list_any (fails_hard x) (hard_clauses lists) ≡ list_any (none_of (holds x)) lists
-hard-fails x lists =
-    list_any-kept x (map hard lists) ∙ list_any-map (fails_hard x) hard lists
+hard-fails x lists = list_any-kept x (map hard lists) ∙ list_any-map (fails_hard x) hard lists
 
-wanted-fails : (x : List Bool) (k : Constraint)
-    → list_any (none_of (holds x)) (wanted_lists k)
+wanted-fails : (x : List Bool) (k : Constraint) → list_any (none_of (holds x)) (wanted_lists k)
     ≡ (list_any (misses x) (needed k) || two_pass (misses x) (others k))
 wanted-fails x k =
     grind (arith, nat_tests, list_any-append, none_of, list_any-map, pairs_of-none, two_pass-map)
@@ -130,8 +127,7 @@ conflict-fails x k conflict =
     (sums x ts parts.single) parts.fits in
     let inexact : fails x k ≡ int_lt (sum_of x ts) k.bound =
     λ i. cond (parts.exact i) (not (int_eq (sum_of x ts) k.bound)) (int_lt (sum_of x ts) k.bound) in
-    hard-fails x (wanted_lists k)
-    ∙ wanted-fails x k
+    hard-fails x (wanted_lists k) ∙ wanted-fails x k
     ∙ sym (inexact ∙ lacks ∙ sum_lost (misses x) size (room k) ts parts.apart)
 
 -- ---- hard clauses cost nothing by themselves

@@ -8,8 +8,7 @@ use Rattle.conflict_clauses.proofs.Missing.{conflict-fails, hard-costs, hard-wei
 
 fails-alike : (x : List Bool) (spent : ℕ) (ks : List Constraint)
     → (list_any (fails_hard x) (clauses_from spent ks)
-    || list_any (fails x) (constraints_from spent ks))
-    ≡ list_any (fails x) ks
+    || list_any (fails x) (constraints_from spent ks)) ≡ list_any (fails x) ks
 fails-alike x spent [] = refl
 fails-alike x spent (k ∷ ks) =
     let cs = clauses_from (spent_after spent k) ks in
@@ -21,13 +20,11 @@ fails-alike x spent (k ∷ ks) =
   where
     go : (b : Bool) → is_replaced spent k ≡ b → (c d : Bool)
         → ((list_any (fails_hard x) (cond b (hard_clauses (wanted_lists k)) []) || c)
-        || (list_any (fails x) (cond b [] (k ∷ [])) || d))
-        ≡ (fails x k || (c || d))
+        || (list_any (fails x) (cond b [] (k ∷ [])) || d)) ≡ (fails x k || (c || d))
     go true e c d =
         let conflict = (and_parts (is_conflict k) (leb (spent + pairs k) most_pairs) e).0 in
         (λ i. (conflict-fails x k conflict i || c) || d) ∙ or-assoc (fails x k) c d
-    go false e c d =
-        (λ i. c || (or-false (fails x k) i || d)) ∙ or-swap c (fails x k) d
+    go false e c d = (λ i. c || (or-false (fails x k) i || d)) ∙ or-swap c (fails x k) d
 
 -- ---- what is added
 
@@ -67,11 +64,8 @@ without-alike p = record {
   where
     weights : sum_by soft_weight (without_conflicts p).clauses ≡ sum_by soft_weight p.clauses
     weights =
-        omega (
-          arith,
-          sum_by-append soft_weight p.clauses (clauses_from 0 p.constraints),
-          from-weights 0 p.constraints,
-        )
+        let sum = sum_by-append soft_weight p.clauses (clauses_from 0 p.constraints) in
+        omega (arith, from-weights 0 p.constraints)
 
     own : own_upper (without_conflicts p) ≡ own_upper p
     own = ap (λ n. p.constant +ℤ pos (positive_total p.objective + n)) weights
@@ -79,15 +73,10 @@ without-alike p = record {
     soft : (x : List Bool)
         → total_by (soft_cost x) (without_conflicts p).clauses ≡ total_by (soft_cost x) p.clauses
     soft x =
-        omega (
-          arith,
-          ints,
-          total_by-append (soft_cost x) p.clauses (clauses_from 0 p.constraints),
-          from-costs x 0 p.constraints,
-        )
+        let total = total_by-append (soft_cost x) p.clauses (clauses_from 0 p.constraints) in
+        omega (arith, ints, from-costs x 0 p.constraints)
 
-    fail : (x : List Bool)
-        → (list_any (fails_hard x) (without_conflicts p).clauses
+    fail : (x : List Bool) → (list_any (fails_hard x) (without_conflicts p).clauses
         || list_any (fails x) (without_conflicts p).constraints)
         ≡ (list_any (fails_hard x) p.clauses || list_any (fails x) p.constraints)
     fail x =

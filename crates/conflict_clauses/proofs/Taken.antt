@@ -7,16 +7,14 @@ use Rattle.conflict_clauses.proofs.Missing.{parts_of}
 pub at_place : {A : Type 0} (P : A → Type 0) (xs : List A) (i : ℕ) (x : A) → slice_get xs i ≡ Some x
     → All P xs → P x
 at_place P [] i x at h = cc
-at_place P (y ∷ xs) zero x at h =
-    let same : y ≡ x = cc in subst P same (All-head P y xs h)
+at_place P (y ∷ xs) zero x at h = let same : y ≡ x = cc in subst P same (All-head P y xs h)
 at_place P (y ∷ xs) (suc i) x at h = at_place P xs i x at (All-tail P y xs h)
 
 pub size_at_place : {A : Type 0} (f : A → ℕ) (xs : List A) (i : ℕ) (x : A) → slice_get xs i ≡ Some x
     → f x ≤ sum_by f xs
 size_at_place f [] i x at = cc
 size_at_place f (y ∷ xs) zero x at = grind (arith, nat_tests, sum_by-cons)
-size_at_place f (y ∷ xs) (suc i) x at =
-    omega (arith, size_at_place f xs i x at, sum_by-cons f y xs)
+size_at_place f (y ∷ xs) (suc i) x at = omega (arith, size_at_place f xs i x at, sum_by-cons f y xs)
 
 -- ---- variables
 
@@ -62,8 +60,7 @@ literals_within : (variables : ℕ) (ls : List Literal) (q : Product → Bool) (
     → AreWithin variables ls
 literals_within variables ls q ts normal same =
     let AllWithin : List (List Literal) → Type 0 = All (AreWithin variables) in
-    alone_within variables ls
-    (subst AllWithin (sym same)
+    alone_within variables ls (subst AllWithin (sym same)
     (all_within variables (filter q ts) (All-filter (IsNormalProduct variables) q ts normal)))
 
 -- ---- the answers

@@ -16,8 +16,7 @@ pub taken_back : (n : ℕ) (names numbers : List ℕ) (y : List Bool)
 taken_back n names numbers y are wide =
     let long : length (bits_by numbers (bits_by names y)) ≡ length y =
     length-map numbers (bit_at (bits_by names y)) ∙ are.counted ∙ sym wide in
-    ext_get_or false (bits_by numbers (bits_by names y)) y long
-    (λ v h.
+    ext_get_or false (bits_by numbers (bits_by names y)) y long (λ v h.
     let low : v < length numbers = omega (arith, h, long, length-map numbers (bit_at (bits_by names y))) in
     get_or-map (bit_at (bits_by names y)) numbers v 0 false low
     ∙ bit-carried n names numbers y v are (omega (arith, low, are.counted)))
@@ -43,8 +42,7 @@ pair_energy Ising node p q w = cond node (times_spin p w) (times_spin p (times_s
 pair_energy (Chimera rows cols shore) node p q w =
     cond node (times_spin p w) (times_spin p (times_spin q w))
 
-entry-pair : (kind : Kind) (y : List Bool) (e : Entry)
-    → entry_energy kind y e
+entry-pair : (kind : Kind) (y : List Bool) (e : Entry) → entry_energy kind y e
     ≡ pair_energy kind (is_node e) (bit_at y e.first) (bit_at y e.second) e.weight
 entry-pair kind y e = grind (arith, nat_tests)
 
@@ -88,8 +86,7 @@ energy-carried names numbers m r y formed are same wide =
     let z = bits_by names y in
     (λ i. total_by (entry_energy (same.kind i) z) r.entries)
     ∙ total_by-IsPermutation (entry_energy m.kind z) (map (renumbered numbers) m.entries) r.entries
-    same.entries
-    ∙ total_by-map (entry_energy m.kind z) (renumbered numbers) m.entries
+    same.entries ∙ total_by-map (entry_energy m.kind z) (renumbered numbers) m.entries
     ∙ entries-carried m.kind m.nodes names numbers y are m.entries
     (recursion_from_All _ _ formed.placed)
 
@@ -131,8 +128,7 @@ first-taken_back names numbers m r x formed are same found =
             (length-map names (bit_at y) ∙ are.count ∙ sym same.nodes) in
             omega (arith, ints);
       };
-      first = λ y least greater.
-          found.first (bits_by names y)
+      first = λ y least greater. found.first (bits_by names y)
           (least-carried names numbers m r y formed are same least)
           (subst (λ z. slice_cmp bool_cmp z (bits_by names y) ≡ Greater) again greater);
     }

@@ -14,11 +14,9 @@ none_wide most m before [] narrow = refl
 none_wide most m before (v ∷ vs) narrow =
     passed most m before vs v
     (subst (λ us. width_after m us v ≤ most) (append-nil before) (narrow 0 (omega arith)))
-    ∙ none_wide most m (before ++ v ∷ []) vs
-    (λ p h.
+    ∙ none_wide most m (before ++ v ∷ []) vs (λ p h.
     subst (λ us. width_after m us (at_place vs p) ≤ most)
-    (sym (append_assoc before (v ∷ []) (take p vs)))
-    (narrow (suc p) (omega (arith, h))))
+    (sym (append_assoc before (v ∷ []) (take p vs))) (narrow (suc p) (omega (arith, h))))
 
 -- the node at a place is too wide, and none before it is
 pub some_wide : (most : ℕ) (m : Written) (before vs : List ℕ) (place : ℕ) → place < length vs
@@ -34,8 +32,7 @@ some_wide most m before (v ∷ vs) (suc place) within wide narrow =
     passed most m before vs v
     (subst (λ us. width_after m us v ≤ most) (append-nil before) (narrow 0 (omega arith)))
     ∙ some_wide most m (before ++ v ∷ []) vs place (omega (arith, within))
-    (subst (λ us. most < width_after m us (at_place vs place)) (sym (moved place)) wide)
-    (λ p h.
+    (subst (λ us. most < width_after m us (at_place vs place)) (sym (moved place)) wide) (λ p h.
     subst (λ us. width_after m us (at_place vs p) ≤ most) (sym (moved p))
     (narrow (suc p) (omega (arith, h))))
     ∙ ap (λ us. Some (at_place vs place, width_after m us (at_place vs place))) (moved place)

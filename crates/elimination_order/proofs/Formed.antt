@@ -88,11 +88,9 @@ nonzero_kept : (n : ℕ) (names numbers : List ℕ) (es fs : List Entry) → Are
     → All (λ e. is_coupler e ≡ true → e.weight ≢ pos 0) fs
 nonzero_kept n names numbers es fs are placed nonzero moved =
     shuffled_kept numbers (IsSound n) (λ e. is_coupler e ≡ true → e.weight ≢ pos 0)
-    (λ e sound is. sound.1 (sym (coupler_same n names numbers e are sound.0) ∙ is))
-    es fs
+    (λ e sound is. sound.1 (sym (coupler_same n names numbers e are sound.0) ∙ is)) es fs
     (All-from_recursion (IsSound n) es
-    (sound_from n es (recursion_from_All _ _ placed) (recursion_from_All _ _ nonzero)))
-    moved
+    (sound_from n es (recursion_from_All _ _ placed) (recursion_from_All _ _ nonzero))) moved
 
 -- a model of this kind with no variables, and with these entries and chains
 pub kind_kept : (names numbers : List ℕ) (m r : Written) (ns es : List Entry) → IsWellFormed m
@@ -120,8 +118,7 @@ kind_kept names numbers m r ns es formed are kind nodes none parts moved up chai
     go (Chimera rows cols shore) is chained = record {
       sized = nodes ∙ is.sized;
       filled = chained.filled;
-      listed = λ q.
-          ap (λ xs. has_node xs q) parts
+      listed = λ q. ap (λ xs. has_node xs q) parts
           ∙ listed_before q ns es (couplers_unlisted q es (recursion_from_All (λ e. e.first < e.second) es up))
           ∙ chained.listed q;
       enough = omega (arith, none);

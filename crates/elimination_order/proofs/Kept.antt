@@ -19,19 +19,16 @@ shuffled_kept numbers P Q one es fs all moved =
 pub nodes_kept : (numbers : List ℕ) (es fs : List Entry) → All (λ e. e.first ≡ e.second) es
     → IsPermutation (map (renumbered numbers) es) fs → All (λ e. e.first ≡ e.second) fs
 nodes_kept numbers es fs all moved =
-    shuffled_kept numbers (λ e. e.first ≡ e.second) (λ e. e.first ≡ e.second)
-    (λ e same.
+    shuffled_kept numbers (λ e. e.first ≡ e.second) (λ e. e.first ≡ e.second) (λ e same.
     let one : at_place numbers e.first ≡ at_place numbers e.second = ap (at_place numbers) same in
-    omega (arith, one))
-    es fs all moved
+    omega (arith, one)) es fs all moved
 
 -- a coupler of nodes below n
 abbrev IsCouplerBelow : ℕ → Entry → Type 0
 IsCouplerBelow n e = (e.first < e.second) × (e.second < n)
 
 coupler_kept : (n : ℕ) (names numbers : List ℕ) (e : Entry) → AreNumbers n names numbers
-    → IsCouplerBelow n e
-    → min (at_place numbers e.first) (at_place numbers e.second)
+    → IsCouplerBelow n e → min (at_place numbers e.first) (at_place numbers e.second)
     < max (at_place numbers e.first) (at_place numbers e.second)
 coupler_kept n names numbers e are pair =
     grind (arith, nat_tests, are.named e.first (omega (arith, pair.0, pair.1)), are.named e.second pair.1)
@@ -47,12 +44,10 @@ pub couplers_kept : (n : ℕ) (names numbers : List ℕ) (ns es fs : List Entry)
     → IsPermutation (map (renumbered numbers) es) fs → All (λ e. e.first < e.second) fs
 couplers_kept n names numbers ns es fs are placed up moved =
     shuffled_kept numbers (IsCouplerBelow n) (λ e. e.first < e.second)
-    (λ e pair. coupler_kept n names numbers e are pair)
-    es fs
+    (λ e pair. coupler_kept n names numbers e are pair) es fs
     (All-from_recursion (IsCouplerBelow n) es
     (pairs_below n ns es (recursion_from_All (IsPlaced n) (ns ++ es) placed)
-    (recursion_from_All (λ e. e.first < e.second) es up)))
-    moved
+    (recursion_from_All (λ e. e.first < e.second) es up))) moved
 
 pub all_shuffled_by : (numbers : List ℕ) (ns es ms fs : List Entry)
     → IsPermutation (map (renumbered numbers) ns) ms → IsPermutation (map (renumbered numbers) es) fs
@@ -72,13 +67,11 @@ pub placed_kept : (n : ℕ) (names numbers : List ℕ) (es fs : List Entry)
     → AreNumbers n names numbers → All (IsPlaced n) es
     → IsPermutation (map (renumbered numbers) es) fs → All (IsPlaced n) fs
 placed_kept n names numbers es fs are placed moved =
-    shuffled_kept numbers (IsPlaced n) (IsPlaced n)
-    (λ e at.
+    shuffled_kept numbers (IsPlaced n) (IsPlaced n) (λ e at.
     let low : e.first < n = omega (arith, at.upward, at.within) in
     let one = are.below e.first low in
     let two = are.below e.second at.within in
-    record { upward = omega arith; within = omega (arith, one, two) })
-    es fs placed moved
+    record { upward = omega arith; within = omega (arith, one, two) }) es fs placed moved
 
 pub ok_weaker : {T E : Type 0} (P Q : T → Type 0) (r : Result T E) → ((x : T) → P x → Q x)
     → IfOk r P → IfOk r Q

@@ -9,8 +9,7 @@ go_on front n rest = grind (arith, nat_tests, append_assoc)
 
 -- one node more
 pub named_more : (nodes : ℕ) (named : List ℕ) (w : Word) (ws : List Word) (n : ℕ)
-    → new_node nodes named w ≡ Ok n
-    → after_front named (nodes_at nodes named (w ∷ ws))
+    → new_node nodes named w ≡ Ok n → after_front named (nodes_at nodes named (w ∷ ws))
     ≡ after_front (named ++ n ∷ []) (nodes_at nodes (named ++ n ∷ []) ws)
 unfolding nodes_at
 named_more nodes named w ws n read = grind (arith, nat_tests, go_on)

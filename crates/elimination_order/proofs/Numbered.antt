@@ -22,8 +22,7 @@ neither a b is = (grind arith, grind arith)
 absent : (v : ℕ) (xs : List ℕ) → list_any (eqb v) xs ≡ false
     → AllByRecursion (λ x. eqb v x ≡ false) xs
 absent v [] e = tt
-absent v (x ∷ xs) e =
-    let n = neither (eqb v x) (list_any (eqb v) xs) e in (n.0, absent v xs n.1)
+absent v (x ∷ xs) e = let n = neither (eqb v x) (list_any (eqb v) xs) e in (n.0, absent v xs n.1)
 
 -- each node has a place: where one had none, there would be too many nodes
 pub placed : (n : ℕ) (names : List ℕ) (v : ℕ) → AreNodes n names → v < n → Place v names
@@ -60,8 +59,7 @@ numbers_complete n names numbers are long each = record {
 
 -- one node more has its number
 pub numbers_more : (n : ℕ) (names numbers : List ℕ) (k : ℕ) → AreNodes n names
-    → length numbers ≡ n → k < n
-    → ((j : ℕ) → j < k → at_place numbers (at_place names j) ≡ j)
+    → length numbers ≡ n → k < n → ((j : ℕ) → j < k → at_place numbers (at_place names j) ≡ j)
     → (j : ℕ) → j < k + 1 → at_place (set numbers (at_place names k) k) (at_place names j) ≡ j
 numbers_more n names numbers k are long h so_far j l =
     let low = are.below k 0 (omega (arith, h, are.count)) in

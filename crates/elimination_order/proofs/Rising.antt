@@ -61,8 +61,7 @@ rises_from_sorted (e ∷ es) sorted few =
 pub shuffled_rises : (es fs : List Entry) → AreApart es → IsPermutation es fs
     → IsNonDecreasingBy pair_number fs → Rises fs
 shuffled_rises es fs apart moved sorted =
-    rises_from_sorted fs sorted
-    (λ n. omega (
+    rises_from_sorted fs sorted (λ n. omega (
       arith,
       sum_by-IsPermutation (λ f. cond (pair_number f == n) 1 0) es fs moved,
       few_numbered es apart n,

@@ -53,8 +53,7 @@ shuffled_alike (x ∷ xs) ys d e alike =
     let apart = IsDistinct-IsPermutation eqb eqb_flips ys (x ∷ rest) moved e in
     let here : AreAlike (x ∷ xs) (x ∷ rest) =
     λ q. alike q ∙ list_any-IsPermutation (eqb q) ys (x ∷ rest) moved in
-    IsPermutation-trans (x ∷ xs) (x ∷ rest) ys
-    (IsPermutation-cons x xs rest
+    IsPermutation-trans (x ∷ xs) (x ∷ rest) ys (IsPermutation-cons x xs rest
     (shuffled_alike xs rest (distinct_tail x xs d) (distinct_tail x rest apart)
     (alike_rest x xs rest here (distinct_head x xs d) (distinct_head x rest apart))))
     (IsPermutation-sym ys (x ∷ rest) moved)
@@ -66,8 +65,7 @@ at_range n i d h = grind (arith, nat_tests, get_or-range_with_len)
 
 range_distinct : (n : ℕ) → IsDistinct eqb (range_with_len 0 n)
 range_distinct n =
-    IsDistinct-from_apart eqb (range_with_len 0 n)
-    (λ i j d less within.
+    IsDistinct-from_apart eqb (range_with_len 0 n) (λ i j d less within.
     let long = length-range_with_len 0 n in
     let one = at_range n i d (omega (arith, less, within, long)) in
     let two = at_range n j d (omega (arith, within, long)) in
@@ -75,9 +73,7 @@ range_distinct n =
 
 -- a list of numbers below n, all of them
 abbrev IsAll : ℕ → List ℕ → Type 0
-IsAll n xs =
-    (length xs ≡ n) × ((k d : ℕ) → k < n → get_or xs k d < n)
-    × ((v : ℕ) → v < n → At v xs)
+IsAll n xs = (length xs ≡ n) × ((k d : ℕ) → k < n → get_or xs k d < n) × ((v : ℕ) → v < n → At v xs)
 
 member : (n : ℕ) (xs : List ℕ) (q : ℕ) → IsAll n xs → q < n → list_any (eqb q) xs ≡ true
 member n xs q all h =
@@ -101,8 +97,7 @@ shuffled_range n xs apart all =
         is = λ d. at_range n v d h;
       },
     ) in
-    shuffled_alike (range_with_len 0 n) xs (range_distinct n) apart
-    (λ q. elim (cases_lt q n) [
+    shuffled_alike (range_with_len 0 n) xs (range_distinct n) apart (λ q. elim (cases_lt q n) [
       | inl h ↦ member n (range_with_len 0 n) q range h ∙ sym (member n xs q all h)
       | inr h ↦ no_member n (range_with_len 0 n) q range h ∙ sym (no_member n xs q all h)
     ])

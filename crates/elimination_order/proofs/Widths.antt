@@ -24,8 +24,7 @@ are_both a b u w = (eqb a u && eqb b w) || (eqb a w && eqb b u)
 
 both_same : (n : ℕ) (names numbers : List ℕ) (u w : ℕ) (e : Entry) → AreNumbers n names numbers
     → u < n → w < n → IsPlaced n e
-    → names_both (at_place numbers u) (at_place numbers w) (renumbered numbers e)
-    ≡ names_both u w e
+    → names_both (at_place numbers u) (at_place numbers w) (renumbered numbers e) ≡ names_both u w e
 both_same n names numbers u w e are h k placed =
     let a = at_place numbers e.first in
     let b = at_place numbers e.second in
@@ -91,29 +90,24 @@ after_same n names numbers f g are same (suc k) h =
     ap (λ p. after_nodes (take p order) g) next
     ∙ ap (λ vs. after_nodes vs g) (take_more order k 0 long)
     ∙ ap (λ u. after_nodes (take k order ++ u ∷ []) g)
-    (turned_at n names numbers k are (omega (arith, h)))
-    ∙ after_push (take k order) v g in
+    (turned_at n names numbers k are (omega (arith, h))) ∙ after_push (take k order) v g in
     let so_far = after_same n names numbers f g are same k (omega (arith, h)) in
-    λ u w hu hw.
-    ap (λ x. without x (after n f k) (at_place numbers u) (at_place numbers w))
+    λ u w hu hw. ap (λ x. without x (after n f k) (at_place numbers u) (at_place numbers w))
     (sym (are.numbered j low))
     ∙ without_same n names numbers (after n f k) (after_nodes (take k order) g) v are
-    (are.within j low) so_far u w hu hw
-    ∙ ap (λ near. near u w) (sym more)
+    (are.within j low) so_far u w hu hw ∙ ap (λ near. near u w) (sym more)
 
 -- ---- widths
 
 numbers_apart : (n : ℕ) (names numbers : List ℕ) → AreNumbers n names numbers
     → IsDistinct eqb numbers
 numbers_apart n names numbers are =
-    IsDistinct-from_apart eqb numbers
-    (λ i j d less within.
+    IsDistinct-from_apart eqb numbers (λ i j d less within.
     let one = default_any numbers i d 0 (omega (arith, less, within)) in
     let two = default_any numbers j d 0 within in
     (λ k. eqb (one k) (two k))
     ∙ number_same n names numbers i j are (omega (arith, less, within, are.counted))
-    (omega (arith, within, are.counted))
-    ∙ ne_eqb i j (λ same. absurd (omega (arith, same, less))))
+    (omega (arith, within, are.counted)) ∙ ne_eqb i j (λ same. absurd (omega (arith, same, less))))
 
 count_same : (n : ℕ) (numbers : List ℕ) (f g : ℕ → Bool)
     → ((u : ℕ) → u < n → f (at_place numbers u) ≡ g u) → (us : List ℕ)
@@ -139,8 +133,7 @@ width_same n names numbers f g j are same h =
     let long = length-range_with_len 0 n in
     let listed : map (at_place numbers) range ≡ numbers =
     ext_get_or 0 (map (at_place numbers) range) numbers
-    (length-map range (at_place numbers) ∙ long ∙ sym are.counted)
-    (λ i within.
+    (length-map range (at_place numbers) ∙ long ∙ sym are.counted) (λ i within.
     let low : i < n = omega (arith, within, long, length-map range (at_place numbers)) in
     get_or-map (at_place numbers) range i 0 0 (omega (arith, low, long))
     ∙ ap (at_place numbers) (at_range n i 0 low)) in
@@ -152,24 +145,18 @@ width_same n names numbers f g j are same h =
       λ i within. record {
         at = at_place names i;
         within = omega (arith, are.within i within, are.counted);
-        is = λ d.
-            default_any numbers (at_place names i) d 0
-            (omega (arith, are.within i within, are.counted))
-            ∙ are.numbered i within;
+        is = λ d. default_any numbers (at_place names i) d 0
+            (omega (arith, are.within i within, are.counted)) ∙ are.numbered i within;
       },
     ) in
     let each : (u : ℕ) → u < n → ff (at_place numbers u) ≡ gg u =
-    λ u low.
-    ap (λ x. after n f k (at_place numbers u) x) (sym (are.numbered j h))
+    λ u low. ap (λ x. after n f k (at_place numbers u) x) (sym (are.numbered j h))
     ∙ after_same n names numbers f g are same k (omega (arith, h)) u v low (are.within j h) in
     let low : AllByRecursion (λ u. u < n) range =
-    recursion_from_All (λ u. u < n) range
-    (λ i d within. subst (λ x. x < n)
-    (sym (at_range n i d (omega (arith, within, long))))
-    (omega (arith, within, long))) in
+    recursion_from_All (λ u. u < n) range (λ i d within. subst (λ x. x < n)
+    (sym (at_range n i d (omega (arith, within, long)))) (omega (arith, within, long))) in
     sym (sum_by-IsPermutation (λ x. cond (ff x) 1 0) range numbers moved)
-    ∙ ap (sum_by (λ x. cond (ff x) 1 0)) (sym listed)
-    ∙ count_same n numbers ff gg each range low
+    ∙ ap (sum_by (λ x. cond (ff x) 1 0)) (sym listed) ∙ count_same n numbers ff gg each range low
 
 pub width-renumbered : (names numbers : List ℕ) (m r : Written) (j : ℕ) → IsWellFormed m
     → AreNumbers m.nodes names numbers → IsRenumbered numbers m r → j < m.nodes
@@ -177,8 +164,7 @@ pub width-renumbered : (names numbers : List ℕ) (m r : Written) (j : ℕ) → 
 width-renumbered names numbers m r j formed are same h =
     let f = coupled r.entries in
     let start : AreSame m.nodes numbers f (coupled m.entries) =
-    λ u w hu hw.
-    sym (list_any-IsPermutation (names_both (at_place numbers u) (at_place numbers w))
+    λ u w hu hw. sym (list_any-IsPermutation (names_both (at_place numbers u) (at_place numbers w))
     (map (renumbered numbers) m.entries) r.entries same.entries)
     ∙ any_same m.nodes names numbers u w are hu hw m.entries
     (recursion_from_All _ _ formed.placed) in
@@ -213,8 +199,7 @@ first_wider-named most names numbers m r v w formed are same found =
     let there : width_after m (take place order) (at_place order place) ≡ w =
     ap (width_after m (take place order)) node ∙ has in
     some_wide most m [] order place (omega (arith, low, length-reverse names, are.count))
-    (subst (λ x. most < x) (sym there) found.wide)
-    (λ p less.
+    (subst (λ x. most < x) (sym there) found.wide) (λ p less.
     narrow_at most names numbers m r p formed are same (omega (arith, less, low))
     (found.first (n - suc p) (omega (arith, less, low)) (omega (arith, less, low, same.nodes))))
     ∙ (λ i. Some (node i, there i))
@@ -223,8 +208,7 @@ pub none_wider-named : (most : ℕ) (names numbers : List ℕ) (m r : Written)
     → IsWellFormed m → AreNumbers m.nodes names numbers → IsRenumbered numbers m r
     → IsWithinWidth most r → first_wide most m [] (reverse names) ≡ None
 none_wider-named most names numbers m r formed are same narrow =
-    none_wide most m [] (reverse names)
-    (λ p h.
+    none_wide most m [] (reverse names) (λ p h.
     let low : p < m.nodes = omega (arith, h, length-reverse names, are.count) in
     narrow_at most names numbers m r p formed are same low
     (narrow (m.nodes - suc p) (omega (arith, low, same.nodes))))

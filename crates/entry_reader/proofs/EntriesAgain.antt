@@ -1,21 +1,5 @@
 -- Entries that are written are read again, and the header counts them.
-use Rattle.std.proofs.Common.{◌≡◌, ℕ, ◌+◌, ◌<◌, ◌≤◌, ◌^◌, Bool, true, false, cond, eqb, List, [], ◌∷◌, map, All, Ok, refl, ap, ◌∙◌, arith, zero-add, ◌-◌}
-use Rattle.std.specs.Prelude.{unsigned_abs, nat_lt, count_by}
-use Rattle.std.specs.Fmt.{decimal, signed_decimal}
-use Rattle.std.proofs.lemmas.Bool.{ne_eqb, lt-ltb}
-use Rattle.std.proofs.lemmas.Bool.Decides.{nat_tests}
-use Rattle.std.proofs.lemmas.List.Elements.{All-tail}
-use Rattle.std.proofs.lemmas.List.Sums.{sum_by-cons}
-use Rattle.bits_model.specs.declared.output.Entry.{Entry}
-use Rattle.bits_model.specs.Output.{IsPlaced, is_node, is_coupler}
-use Rattle.whole_text.specs.Tokens.{word}
-use Rattle.whole_text.specs.Steps.{◌>>=◌}
-use Rattle.whole_text.proofs.LineTokens.{AreInk, tokens_after, words_then, no_lines}
-use Rattle.whole_text.proofs.WordsAgain.{decimal_ink, signed_ink, number_first, integer_again, natural_again}
-use Rattle.model_text.specs.Rows.{entry_row}
-use Rattle.entry_reader.specs.declared.layout.Counts.{Counts}
-use Rattle.entry_reader.specs.Entries.{node_at, one_fewer, counted, none_to_come, entries_at}
-use Rattle.entry_reader.specs.Again.{listed_of}
+use Rattle.entry_reader.proofs.Common.{◌≡◌, ℕ, ◌+◌, ◌<◌, ◌≤◌, ◌^◌, Bool, true, false, cond, eqb, List, [], ◌∷◌, map, All, Ok, refl, ap, ◌∙◌, arith, unsigned_abs, count_by, decimal, signed_decimal, lt-ltb, nat_tests, All-tail, sum_by-cons, Entry, IsPlaced, is_node, is_coupler, word, ◌>>=◌, AreInk, tokens_after, words_then, no_lines, decimal_ink, signed_ink, number_first, integer_again, natural_again, entry_row, Counts, node_at, one_fewer, counted, none_to_come, entries_at, listed_of}
 use Rattle.entry_reader.proofs.Words.{three, leaving, with_first, others_after, three_words}
 
 -- what the header of these entries counts
@@ -41,9 +25,7 @@ count-cons p e es = sum_by-cons (λ (x : Entry). cond (p x) 1 0) e es
 
 one_fewer-suc : (line k : ℕ) → one_fewer line (1 + k) ≡ Ok k
 unfolding one_fewer
-one_fewer-suc line k =
-    let less : 1 + k - 1 ≡ k = omega arith in
-    rw (ne_eqb (1 + k) 0 (λ e. omega arith)) (ap (λ (n : ℕ). Ok n) less)
+one_fewer-suc line k = grind (arith, nat_tests)
 
 node_counted : (line nodes n k i j : ℕ) → eqb i j ≡ true
     → counted line (record { nodes = nodes; entries = 1 + n; couplers = k }) i j
@@ -57,42 +39,25 @@ coupler_counted : (line nodes n k i j : ℕ) → eqb i j ≡ false
 unfolding counted
 coupler_counted line nodes n k i j other = rw (other, one_fewer-suc line k) refl
 
-not_below : (i j : ℕ) → eqb i j ≡ true → nat_lt i j ≡ false
-not_below i j e = grind (arith, nat_tests)
-
-is_below : (i j : ℕ) → eqb i j ≡ false → i ≤ j → nat_lt i j ≡ true
-is_below i j e upward = grind (arith, nat_tests)
-
 counted_again : (line nodes : ℕ) (e : Entry) (es : List Entry) → e.first ≤ e.second
     → counted line (counts_of nodes (e ∷ es)) e.first e.second ≡ Ok (counts_of nodes es)
 counted_again line nodes e es upward = go (eqb e.first e.second) refl
   where
-    some : ℕ
-    some = count_by is_node es
-
-    others : ℕ
-    others = count_by is_coupler es
-
     go : (same : Bool) → eqb e.first e.second ≡ same
         → counted line (counts_of nodes (e ∷ es)) e.first e.second ≡ Ok (counts_of nodes es)
     go true same =
         let entry : count_by is_node (e ∷ es) ≡ 1 + count_by is_node es =
-        count-cons is_node e es ∙ ap (λ b. cond b 1 0 + count_by is_node es) same in
+        let one = count-cons is_node e es in grind (arith, nat_tests) in
         let coupler : count_by is_coupler (e ∷ es) ≡ count_by is_coupler es =
-        count-cons is_coupler e es
-        ∙ ap (λ b. cond b 1 0 + count_by is_coupler es) (not_below e.first e.second same)
-        ∙ zero-add (count_by is_coupler es) in
+        let one = count-cons is_coupler e es in grind (arith, nat_tests) in
         (λ i. counted line (record { nodes = nodes; entries = entry i; couplers = coupler i })
         e.first e.second)
         ∙ node_counted line nodes (count_by is_node es) (count_by is_coupler es) e.first e.second same
     go false same =
         let entry : count_by is_node (e ∷ es) ≡ count_by is_node es =
-        count-cons is_node e es
-        ∙ ap (λ b. cond b 1 0 + count_by is_node es) same
-        ∙ zero-add (count_by is_node es) in
+        let one = count-cons is_node e es in grind (arith, nat_tests) in
         let coupler : count_by is_coupler (e ∷ es) ≡ 1 + count_by is_coupler es =
-        count-cons is_coupler e es
-        ∙ ap (λ b. cond b 1 0 + count_by is_coupler es) (is_below e.first e.second same upward) in
+        let one = count-cons is_coupler e es in grind (arith, nat_tests) in
         (λ i. counted line (record { nodes = nodes; entries = entry i; couplers = coupler i })
         e.first e.second)
         ∙ coupler_counted line nodes (count_by is_node es) (count_by is_coupler es) e.first e.second
@@ -103,16 +68,9 @@ counted_again line nodes e es upward = go (eqb e.first e.second) refl
 three_again : (line nodes : ℕ) (e : Entry) (es : List Entry) → nodes < 2 ^ 32 → IsPlaced nodes e
     → unsigned_abs e.weight < 2 ^ 64
     → three (counts_of nodes (e ∷ es)) (word line (decimal e.first)) (word line (decimal e.second))
-    (word line (signed_decimal e.weight))
-    ≡ Ok (listed_of e, counts_of nodes es)
+    (word line (signed_decimal e.weight)) ≡ Ok (listed_of e, counts_of nodes es)
 three_again line nodes e es few placed small =
-    rw (
-      node_again nodes line e.first (omega (arith, placed.upward, placed.within)) (omega arith),
-      node_again nodes line e.second placed.within (omega arith),
-      counted_again line nodes e es placed.upward,
-      integer_again line e.weight small,
-    )
-    refl
+    grind (arith, nat_tests, node_again, counted_again, integer_again)
 
 row_is_ink : (nodes : ℕ) (e : Entry) → nodes < 2 ^ 32 → IsPlaced nodes e
     → unsigned_abs e.weight < 2 ^ 64 → AreInk (entry_row e)
@@ -142,8 +100,7 @@ entries_again end line nodes (e ∷ es) few placed small =
     (map entry_row es) (row_is_ink nodes e few place size)
     (number_first e.first (decimal e.second ∷ signed_decimal e.weight ∷ [])
     (omega (arith, place.upward, place.within))) in
-    ap (entries_at end c) cut
-    ∙ ap (λ r. r >>= others_after end rest)
+    ap (entries_at end c) cut ∙ ap (λ r. r >>= others_after end rest)
     (three_words end c first second weight []
     ∙ ap (λ r. r >>= leaving []) (three_again line nodes e es few place size))
     ∙ ap (λ r. r >>= with_first (listed_of e))

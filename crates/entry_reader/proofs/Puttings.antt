@@ -1,18 +1,5 @@
 -- Entries that are read one after the other, and put into a problem.
-use Rattle.std.proofs.Common.{◌≡◌, ℕ, List, [], ◌∷◌, fold, Result, Ok, Err, refl, sym, ap, ◌∙◌}
-use Rattle.std.specs.List.{flat_map}
-use Rattle.std.proofs.lemmas.List.Sums.{fold-append}
-use Rattle.whole_text.specs.declared.faults.TextFault.{TextFault}
-use Rattle.whole_text.specs.Tokens.{Word}
-use Rattle.whole_text.specs.Steps.{◌>>=◌, end_line}
-use Rattle.problem_form.specs.Problems.{ProblemContent}
-use Rattle.problem_form.specs.NormalForm.{blank, with_variables, with_product, normal_form}
-use Rattle.problem_form.proofs.AddedParts.{products_add_up}
-use Rattle.entry_reader.specs.declared.layout.Layout.{Layout}
-use Rattle.entry_reader.specs.declared.layout.Counts.{Counts}
-use Rattle.entry_reader.specs.declared.layout.Listed.{Listed}
-use Rattle.entry_reader.specs.Entries.{none_to_come, header_at, entry_at, entries_at, listing_of}
-use Rattle.entry_reader.specs.Problems.{problem_of, products_of, listed_problem, problem_read, problem_of_words}
+use Rattle.entry_reader.proofs.Common.{nat_tests, arith, ◌≡◌, ℕ, List, [], ◌∷◌, fold, Result, Ok, Err, refl, sym, ap, ◌∙◌, flat_map, TextFault, Word, ◌>>=◌, end_line, ProblemContent, blank, with_variables, with_product, products_add_up, Layout, Counts, Listed, none_to_come, header_at, entry_at, entries_at, listing_of, products_of, listed_problem, problem_read, problem_of_words}
 use Rattle.entry_reader.proofs.Words.{with_first, entry_then, entry_fails}
 
 -- entries as listed, or the problem that they are put into
@@ -39,14 +26,11 @@ regroup layout p e (Ok es) = refl
 regroup layout p e (Err f) = refl
 
 pub entries_go_on : (layout : Layout) (end : ℕ) (c fewer : Counts) (p : ProblemContent)
-    (ws rest : List Word) (e : Listed) (total : Putting)
-    → entry_at end c ws ≡ Ok (e, fewer, rest)
+    (ws rest : List Word) (e : Listed) (total : Putting) → entry_at end c ws ≡ Ok (e, fewer, rest)
     → read_into layout p (entries_at end c ws) ≡ total
     → read_into layout (with_entry layout p e) (entries_at end fewer rest) ≡ total
 entries_go_on layout end c fewer p ws rest e total h so_far =
-    sym (regroup layout p e (entries_at end fewer rest))
-    ∙ ap (read_into layout p) (sym (entry_then end c fewer ws rest e h))
-    ∙ so_far
+    grind (arith, nat_tests, regroup layout p e (entries_at end fewer rest), entry_then end c fewer ws rest e h)
 
 pub entries_fail : (layout : Layout) (end : ℕ) (c : Counts) (p : ProblemContent) (w : Word)
     (ws : List Word) (f : TextFault) (total : Putting) → entry_at end c (w ∷ ws) ≡ Err f
@@ -58,9 +42,7 @@ pub entries_end : (layout : Layout) (end : ℕ) (c : Counts) (p : ProblemContent
     (last : Listing) (total : Putting) → ws ≡ [] → none_to_come end c ≡ last
     → read_into layout p (entries_at end c ws) ≡ total → total ≡ read_into layout p last
 unfolding entries_at
-entries_end layout end c p ws last total none h so_far =
-    let before = rw none at so_far in
-    sym before ∙ ap (read_into layout p) h
+entries_end layout end c p ws last total none h so_far = grind (arith, nat_tests)
 
 -- ---- the problem of all entries
 
@@ -68,18 +50,13 @@ entries_written : (layout : Layout) (p : ProblemContent) (es : List Listed)
     → fold (with_entry layout) p es ≡ fold with_product p (flat_map (products_of layout) es)
 entries_written layout p [] = refl
 entries_written layout p (e ∷ es) =
-    entries_written layout (with_entry layout p e) es
-    ∙ sym (fold-append with_product p (products_of layout e) (flat_map (products_of layout) es))
+    grind (arith, nat_tests, entries_written layout (with_entry layout p e) es)
 
 -- what is put into a problem that says nothing is the normal form of what is listed
 into_blank : (layout : Layout) (nodes : ℕ) (read : Listing)
     → read_into layout (with_variables blank nodes) read
     ≡ (read >>= λ (es : List Listed). Ok (listed_problem layout nodes es))
-into_blank layout nodes (Ok es) =
-    ap (λ (p : ProblemContent). Ok p)
-    (entries_written layout (with_variables blank nodes) es
-    ∙ products_add_up nodes (flat_map (products_of layout) es))
-into_blank layout nodes (Err f) = refl
+into_blank layout nodes read = grind (arith, nat_tests, entries_written, products_add_up)
 
 pub problem_read-blank : (layout : Layout) (end : ℕ) (c : Counts) (ws : List Word)
     → problem_read layout end c ws
@@ -88,21 +65,12 @@ problem_read-blank layout end c ws = sym (into_blank layout c.nodes (entries_at 
 
 -- ---- the whole text
 
-normal_listed : (layout : Layout) (nodes : ℕ) (read : Listing)
-    → ((read >>= λ (es : List Listed). Ok (record { nodes = nodes; entries = es }))
-    >>= λ s. Ok (normal_form (problem_of layout s)))
-    ≡ (read >>= λ (es : List Listed). Ok (listed_problem layout nodes es))
-normal_listed layout nodes (Ok es) = refl
-normal_listed layout nodes (Err f) = refl
-
 -- what the words of a whole text give, by their header and what is read after it
 pub problem_of_words-header : (layout : Layout) (c : Counts) (end : ℕ) (all ws rest : List Word)
     → ws ≡ all → end ≡ end_line all → header_at layout end ws ≡ Ok (c, rest)
     → problem_of_words layout all ≡ problem_read layout end c rest
 unfolding problem_of_words listing_of
-problem_of_words-header layout c end all ws rest same last head =
-    let head_at = rw (same, last) at head in
-    rw (last, head_at) (normal_listed layout c.nodes (entries_at (end_line all) c rest))
+problem_of_words-header layout c end all ws rest same last head = grind (arith, nat_tests)
 
 pub problem_of_words-bad : (layout : Layout) (f : TextFault) (end : ℕ) (all ws : List Word)
     → ws ≡ all → end ≡ end_line all → header_at layout end ws ≡ Err f

@@ -1,27 +1,6 @@
 -- The text of a model is read again: its comments are skipped, and its header and entries are read.
-use Rattle.std.proofs.Common.{◌≡◌, ℕ, suc, ◌+◌, ◌<◌, ◌≤◌, ◌^◌, ℤ, List, [], ◌∷◌, ◌++◌, length, map, Ok, refl, ap, ◌∙◌, arith, length-append}
-use Rattle.std.specs.Prelude.{codes, count_by}
-use Rattle.std.specs.List.{AllByRecursion, join_with_byte}
-use Rattle.std.specs.Fmt.{decimal}
-use Rattle.std.proofs.lemmas.List.{length-map}
-use Rattle.std.proofs.lemmas.List.Sums.{count_by-le-length}
-use Rattle.base.specs.declared.costs.Figures.{Figures}
-use Rattle.bits_model.specs.declared.output.Entry.{Entry}
-use Rattle.bits_model.specs.declared.output.Kind.{Kind}
+use Rattle.entry_reader.proofs.Common.{nat_tests, ◌≡◌, ℕ, suc, ◌+◌, ◌<◌, ◌≤◌, ◌^◌, ℤ, List, [], ◌∷◌, ◌++◌, length, map, Ok, refl, ap, ◌∙◌, arith, length-append, codes, count_by, AllByRecursion, decimal, length-map, count_by-le-length, Figures, Entry, Kind, Written, is_node, is_coupler, Word, word, tokens_of, end_line, IsInk, AreInk, tokens_after, words_then, decimal_ink, natural_again, Row, rows_text, figure_rows, chain_rows, graph_rows, header_row, entry_row, model_rows, model_text, IsRow, all_append, figures_are_rows, graph_are_rows, Layout, Counts, Listed, wanted_at, topology_at, topology_of, count_at, header_at, entries_at, listing_of, reading, layout_of, listed_of, TextsAreReadAgain}
 use Rattle.bits_model.specs.declared.output.Kind.TheVariants.{Qubo, Ising, Chimera}
-use Rattle.bits_model.specs.Output.{Written, is_node, is_coupler}
-use Rattle.whole_text.specs.Tokens.{Word, word, tokens_of}
-use Rattle.whole_text.specs.Steps.{end_line}
-use Rattle.whole_text.proofs.LineTokens.{IsInk, AreInk, tokens_after, words_then}
-use Rattle.whole_text.proofs.WordsAgain.{decimal_ink, natural_again}
-use Rattle.model_text.specs.Rows.{Row, row_text, rows_text, figure_rows, chain_rows, graph_rows, header_row, entry_row, model_rows, model_text}
-use Rattle.model_text.proofs.RowTexts.{IsRow, all_append}
-use Rattle.model_text.proofs.ModelRows.{figures_are_rows, graph_are_rows}
-use Rattle.entry_reader.specs.declared.layout.Layout.{Layout}
-use Rattle.entry_reader.specs.declared.layout.Counts.{Counts}
-use Rattle.entry_reader.specs.declared.layout.Listed.{Listed}
-use Rattle.entry_reader.specs.Entries.{wanted_at, topology_at, topology_of, count_at, header_at, entries_at, listing_of, reading}
-use Rattle.entry_reader.specs.Again.{layout_of, listed_of, TextsAreReadAgain}
 use Rattle.entry_reader.proofs.RowsAgain.{IsComment, comments_skipped}
 use Rattle.entry_reader.proofs.EntriesAgain.{counts_of, entries_again}
 
@@ -38,9 +17,7 @@ chains_are_comments node (chain ∷ chains) = (refl, chains_are_comments (suc no
 
 graph_are_comments : (kind : Kind) (chains : List (List ℕ))
     → AllByRecursion IsComment (graph_rows kind chains)
-graph_are_comments Qubo chains = tt
-graph_are_comments Ising chains = tt
-graph_are_comments (Chimera rows cols shore) chains = (refl, chains_are_comments 0 chains)
+graph_are_comments kind chains = grind (arith, nat_tests, chains_are_comments)
 
 -- ---- the header
 
@@ -71,8 +48,7 @@ abbrev header_numbers : ℕ → List Entry → Row
 header_numbers nodes es =
     decimal nodes ∷ decimal (count_by is_node es) ∷ decimal (count_by is_coupler es) ∷ []
 
-few_ink : (nodes : ℕ) (es : List Entry) → AreFew nodes es
-    → AreInk (header_numbers nodes es)
+few_ink : (nodes : ℕ) (es : List Entry) → AreFew nodes es → AreInk (header_numbers nodes es)
 few_ink nodes es few = (
   decimal_ink nodes (omega (arith, few.0)),
   (
@@ -82,8 +58,7 @@ few_ink nodes es few = (
 )
 
 header_then : (line : ℕ) (kind : Kind) (nodes : ℕ) (es : List Entry) (rows : List Row)
-    → AreFew nodes es
-    → tokens_after line (header_row kind nodes es ∷ rows)
+    → AreFew nodes es → tokens_after line (header_row kind nodes es ∷ rows)
     ≡ map (word line) (header_row kind nodes es) ++ tokens_after (line + 1) rows
 header_then line Qubo nodes es rows few =
     words_then line (codes "p") (codes "qubo" ∷ codes "0" ∷ header_numbers nodes es) rows
@@ -101,41 +76,21 @@ header_again : (end line : ℕ) (kind : Kind) (nodes : ℕ) (es : List Entry) (r
     ≡ Ok (counts_of nodes es, rest)
 unfolding header_at wanted_at topology_of topology_at count_at
 header_again end line kind nodes es rest few =
-    let all = natural_again 0 line nodes (omega arith) (omega (arith, few.0)) in
-    let some = natural_again 0 line (count_by is_node es) (omega arith)
-    (omega (arith, few.1, count_by-le-length is_node es)) in
-    let others = natural_again 0 line (count_by is_coupler es) (omega arith)
-    (omega (arith, few.1, count_by-le-length is_coupler es)) in
-    elim kind as (λ k. header_at (layout_of k) end (map (word line) (header_row k nodes es) ++ rest)
-    ≡ Ok (counts_of nodes es, rest)) [
-      | Qubo ↦ rw (all, some, others) refl
-      | Ising ↦ rw (all, some, others) refl
-      | Chimera a b c ↦ rw (all, some, others) refl
-    ]
+    grind (arith, nat_tests, natural_again, count_by-le-length, counts_of)
 
 -- ---- the whole text
 
 rows_long : (rows : List Row) → length rows ≤ length (rows_text rows)
 rows_long [] = omega arith
-rows_long (row ∷ rows) =
-    omega (
-      arith,
-      length-append (row_text row) (rows_text rows),
-      length-append (join_with_byte 32 row) (10 ∷ []),
-      rows_long rows,
-    )
+rows_long (row ∷ rows) = grind (arith, nat_tests, rows_long rows, length-append)
 
 entries_few : (m : Written) → length (model_text m) ≤ 2 ^ 24 → length m.entries ≤ 2 ^ 24
 unfolding model_text
 entries_few m short =
     let weights = map entry_row m.entries in
     let above = figure_rows m.figures m.unit m.variables ++ graph_rows m.kind m.chains in
-    omega (
-      arith,
-      rows_long (model_rows m),
-      length-append above (header_row m.kind m.nodes m.entries ∷ weights),
-      length-map m.entries entry_row,
-    )
+    let length_append = length-append above (header_row m.kind m.nodes m.entries ∷ weights) in
+    omega (arith, rows_long (model_rows m), length-map m.entries entry_row)
 
 listing_again : (layout : Layout) (ws rest : List Word) (c : Counts) (es : List Listed)
     → header_at layout (end_line ws) ws ≡ Ok (c, rest) → entries_at (end_line ws) c rest ≡ Ok es

@@ -1,6 +1,5 @@
 -- What the products of a coupling add to the numbers of a problem.
-use Rattle.std.proofs.Common.{◌≡◌, ◌+◌, ◌*◌, ◌≤◌, ℕ, ℤ, pos, negsuc, nat_abs, ◌*ℤ◌, arith}
-use Rattle.std.proofs.lemmas.Int.{ints}
+use Rattle.entry_reader.proofs.Common.{◌≡◌, ◌+◌, ◌*◌, ◌≤◌, ℕ, ℤ, pos, negsuc, nat_abs, ◌*ℤ◌, arith, ints}
 
 pub abs_four : (c : ℤ) → nat_abs (pos 4 *ℤ c) ≡ 4 * nat_abs c
 abs_four c = omega (arith, ints)

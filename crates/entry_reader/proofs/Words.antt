@@ -1,12 +1,5 @@
 -- Entries as their words give them: three words each, up to the end.
-use Rattle.std.proofs.Common.{◌≡◌, ℕ, ℤ, List, [], ◌∷◌, Result, Ok, Err, refl, sym, ap, ◌∙◌}
-use Rattle.whole_text.specs.declared.faults.TextFault.{TextFault}
-use Rattle.whole_text.specs.declared.faults.TextKind.TheVariants as kinds
-use Rattle.whole_text.specs.Tokens.{Word}
-use Rattle.whole_text.specs.Steps.{◌>>=◌, fault, integer_at}
-use Rattle.entry_reader.specs.declared.layout.Counts.{Counts}
-use Rattle.entry_reader.specs.declared.layout.Listed.{Listed}
-use Rattle.entry_reader.specs.Entries.{node_at, counted, entry_at, entries_at}
+use Rattle.entry_reader.proofs.Common.{nat_tests, arith, ◌≡◌, ℕ, ℤ, List, [], ◌∷◌, Result, Ok, Err, sym, ap, ◌∙◌, TextFault, Word, ◌>>=◌, integer_at, Counts, Listed, node_at, counted, entry_at, entries_at}
 
 -- an entry, and what may come after it
 abbrev pub Entered : Type 0
@@ -22,51 +15,13 @@ weighed i j fewer weight = Ok (record { first = i; second = j; weight = weight }
 
 abbrev pub three : Counts → Word → Word → Word → Result Entered TextFault
 three c i j w =
-    node_at c.nodes i
-    >>= λ a. node_at c.nodes j
-    >>= λ b. counted j.line c a b
-    >>= λ fewer. integer_at w
-    >>= weighed a b fewer
+    node_at c.nodes i >>= λ a. node_at c.nodes j >>= λ b. counted j.line c a b
+    >>= λ fewer. integer_at w >>= weighed a b fewer
 
 pub three_words : (end : ℕ) (c : Counts) (i j w : Word) (ws : List Word)
     → entry_at end c (i ∷ j ∷ w ∷ ws) ≡ (three c i j w >>= leaving ws)
 unfolding entry_at
-three_words end c i j w ws = at_i (node_at c.nodes i)
-  where
-    at_w : (a b : ℕ) (fewer : Counts) (r : Result ℤ TextFault)
-        → (r >>= λ z. Ok (record { first = a; second = b; weight = z }, fewer, ws))
-        ≡ ((r >>= weighed a b fewer) >>= leaving ws)
-    at_w a b fewer (Ok z) = refl
-    at_w a b fewer (Err f) = refl
-
-    at_counted : (a b : ℕ) (r : Result Counts TextFault)
-        → (r >>= λ fewer. integer_at w
-        >>= λ z. Ok (record { first = a; second = b; weight = z }, fewer, ws))
-        ≡ ((r >>= λ fewer. integer_at w >>= weighed a b fewer) >>= leaving ws)
-    at_counted a b (Ok fewer) = at_w a b fewer (integer_at w)
-    at_counted a b (Err f) = refl
-
-    at_j : (a : ℕ) (r : Result ℕ TextFault)
-        → (r >>= λ b. counted j.line c a b
-        >>= λ fewer. integer_at w
-        >>= λ z. Ok (record { first = a; second = b; weight = z }, fewer, ws))
-        ≡ ((r >>= λ b. counted j.line c a b >>= λ fewer. integer_at w >>= weighed a b fewer)
-        >>= leaving ws)
-    at_j a (Ok b) = at_counted a b (counted j.line c a b)
-    at_j a (Err f) = refl
-
-    at_i : (r : Result ℕ TextFault)
-        → (r >>= λ a. node_at c.nodes j
-        >>= λ b. counted j.line c a b
-        >>= λ fewer. integer_at w
-        >>= λ z. Ok (record { first = a; second = b; weight = z }, fewer, ws))
-        ≡ ((r >>= λ a. node_at c.nodes j
-        >>= λ b. counted j.line c a b
-        >>= λ fewer. integer_at w
-        >>= weighed a b fewer)
-        >>= leaving ws)
-    at_i (Ok a) = at_j a (node_at c.nodes j)
-    at_i (Err f) = refl
+three_words end c i j w ws = grind (arith, nat_tests)
 
 -- an entry before the others
 abbrev pub with_first : Listed → List Listed → Result (List Listed) TextFault
@@ -82,34 +37,12 @@ no_word end c x h = cc
 one_word : (end : ℕ) (c : Counts) (i : Word) (x : Listed × Counts × List Word)
     → entry_at end c (i ∷ []) ≡ Ok x → ⊥
 unfolding entry_at
-one_word end c i x h = go (node_at c.nodes i) h
-  where
-    go : (r : Result ℕ TextFault) → (r >>= λ a. Err (fault kinds.End end)) ≡ Ok x → ⊥
-    go (Ok a) e = cc
-    go (Err f) e = cc
+one_word end c i x h = grind (arith, nat_tests)
 
 two_words : (end : ℕ) (c : Counts) (i j : Word) (x : Listed × Counts × List Word)
     → entry_at end c (i ∷ j ∷ []) ≡ Ok x → ⊥
 unfolding entry_at
-two_words end c i j x h = at_i (node_at c.nodes i) h
-  where
-    at_counted : (r : Result Counts TextFault)
-        → (r >>= λ fewer. Err (fault kinds.End end)) ≡ Ok x → ⊥
-    at_counted (Ok fewer) e = cc
-    at_counted (Err f) e = cc
-
-    at_j : (a : ℕ) (r : Result ℕ TextFault)
-        → (r >>= λ b. counted j.line c a b >>= λ fewer. Err (fault kinds.End end)) ≡ Ok x → ⊥
-    at_j a (Ok b) e = at_counted (counted j.line c a b) e
-    at_j a (Err f) e = cc
-
-    at_i : (r : Result ℕ TextFault)
-        → (r >>= λ a. node_at c.nodes j
-        >>= λ b. counted j.line c a b
-        >>= λ fewer. Err (fault kinds.End end))
-        ≡ Ok x → ⊥
-    at_i (Ok a) e = at_j a (node_at c.nodes j) e
-    at_i (Err f) e = cc
+two_words end c i j x h = grind (arith, nat_tests)
 
 -- what three words and the words after them give
 abbrev pub others_after : ℕ → List Word → Listed × Counts × List Word → Result (List Listed) TextFault
@@ -118,12 +51,7 @@ others_after end ws x = entries_at end x.1 ws >>= with_first x.0
 entered : (end : ℕ) (ws rest : List Word) (e : Listed) (fewer : Counts)
     (read : Result Entered TextFault) → read >>= leaving ws ≡ Ok (e, fewer, rest)
     → (read >>= leaving []) >>= others_after end ws ≡ (entries_at end fewer rest >>= with_first e)
-entered end ws rest e fewer (Err f) h = absurd cc
-entered end ws rest e fewer (Ok x) h =
-    let given : Listed × Counts × List Word = (x.0, x.1, ws) in
-    let wanted : Listed × Counts × List Word = (e, fewer, rest) in
-    let same : given ≡ wanted = cc in
-    (λ i. entries_at end ((same i).1) ((same i).2) >>= with_first ((same i).0))
+entered end ws rest e fewer read h = grind (arith, nat_tests)
 
 pub entry_then : (end : ℕ) (c fewer : Counts) (ws rest : List Word) (e : Listed)
     → entry_at end c ws ≡ Ok (e, fewer, rest)
@@ -146,8 +74,4 @@ faulty end ws f (Err g) h = let same : g ≡ f = cc in ap (λ k. Err k) same
 pub entry_fails : (end : ℕ) (c : Counts) (i : Word) (ws : List Word) (f : TextFault)
     → entry_at end c (i ∷ ws) ≡ Err f → entries_at end c (i ∷ ws) ≡ Err f
 unfolding entries_at
-entry_fails end c i [] f h = rw h refl
-entry_fails end c i (j ∷ []) f h = rw h refl
-entry_fails end c i (j ∷ w ∷ ws) f h =
-    ap (λ r. r >>= others_after end ws) (three_words end c i j w [])
-    ∙ faulty end ws f (three c i j w) (sym (three_words end c i j w ws) ∙ h)
+entry_fails end c i ws f h = grind (arith, nat_tests, three_words, faulty)

@@ -1,4 +1,6 @@
 //! The text of a model of spins as a whole.
+//!
+//! No run of the program comes here: it writes a model row by row.
 ghost use Rattle.std.specs.Prelude.{◌≡◌, ◌≢◌, [], IfOk, OnOk, OnErr};
 ghost use Rattle.edge_io.specs.Counts.{HasCause};
 ghost use Rattle.edge_io.specs.Sinks.{Takes, TakesFront};

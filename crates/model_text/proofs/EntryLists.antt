@@ -1,12 +1,5 @@
 -- Entries that are gone through by index: those of a row, and rows one after another.
-use Rattle.std.proofs.Common.{◌≡◌, ℕ, ◌+◌, ◌<◌, ℤ, List, [], ◌++◌, length, get_or, drop, map, sym, ap, ◌∙◌}
-use Rattle.std.specs.List.{flat_map}
-use Rattle.std.proofs.lemmas.List.{drop_more, map-append}
-use Rattle.std.proofs.lemmas.Grind.{flat_map-append}
-use Rattle.bits_model.specs.declared.output.Entry.{Entry}
-use Rattle.bits_model.specs.Entries.{rows_of}
-use Rattle.bits_model.proofs.EntryRows.{joined_rows}
-use Rattle.model_text.specs.Rows.{row_text, rows_text, entry_row}
+use Rattle.model_text.proofs.Common.{nat_tests, arith, ◌≡◌, ℕ, ◌+◌, ◌<◌, ℤ, List, [], ◌++◌, length, get_or, drop, map, sym, ap, ◌∙◌, flat_map, drop_more, map-append, flat_map-append, Entry, rows_of, joined_rows, row_text, rows_text, entry_row}
 
 -- the text of entries
 abbrev pub entries_text : List Entry → List ℕ
@@ -26,9 +19,7 @@ entry_is e f s w a b c = λ i. record { first = a i; second = b i; weight = c i 
 -- the text of what is left, of which one entry is put
 pub entry_left : (row : List Entry) (k : ℕ) (e : Entry) → k < length row → get_or row k e ≡ e
     → entries_text (drop k row) ≡ row_text (entry_row e) ++ entries_text (drop (k + 1) row)
-entry_left row k e below is =
-    ap entries_text (drop_more row k e below)
-    ∙ ap (λ x. row_text (entry_row x) ++ entries_text (drop (k + 1) row)) is
+entry_left row k e below is = grind (arith, nat_tests, drop_more)
 
 -- ---- rows one after another
 
@@ -42,10 +33,7 @@ row_left es k below = ap (flat_map (λ (row : List Entry). row)) (drop_more (row
 
 pub row_text_left : (es row : List Entry) (k : ℕ) → k < length (rows_of es) → row ≡ get_or (rows_of es) k []
     → entries_text (rows_from es k) ≡ entries_text row ++ entries_text (rows_from es (k + 1))
-row_text_left es row k below is =
-    ap entries_text (row_left es k below)
-    ∙ entries_text-append (get_or (rows_of es) k []) (rows_from es (k + 1))
-    ∙ ap (λ r. entries_text r ++ entries_text (rows_from es (k + 1))) (sym is)
+row_text_left es row k below is = grind (arith, nat_tests, row_left, entries_text-append)
 
 pub row_text_first : (es : List Entry) → entries_text (rows_from es 0) ≡ entries_text es
 row_text_first es = ap entries_text (joined_rows es)

@@ -1,3 +1,4 @@
+pub mod Common
 pub mod RowTexts
 pub mod Numerals
 pub mod ModelRows

@@ -1,8 +1,5 @@
 -- A text that is put piece by piece: what of it was put, and what is left.
-use Rattle.std.proofs.Common.{◌≡◌, ℕ, List, [], ◌++◌, refl, sym, ap, ◌∙◌, subst, append_assoc, append-nil}
-use Rattle.std.specs.Prelude.{Result, Ok, Err, OnOk, OnErr}
-use Rattle.edge_io.specs.Sinks.{Taken, Takes, TakesFront, Passes}
-use Rattle.edge_io.proofs.Pieces.{Takes-trans, Passes-trans, Passes-front, Passes-kept, TakesFront-more}
+use Rattle.model_text.proofs.Common.{nat_tests, arith, ◌≡◌, ℕ, List, [], ◌++◌, refl, sym, ap, ◌∙◌, subst, append_assoc, append-nil, Result, Ok, Err, OnOk, OnErr, Taken, Takes, TakesFront, Passes, Takes-trans, Passes-trans, Passes-front, Passes-kept, TakesFront-more}
 
 -- all of the text but the rest was put
 pub record IsPut (told now : Taken) (pending left text rest : List ℕ) : Type 0 where
@@ -36,9 +33,7 @@ put_fault a b c p q text rest piece later cut so_far fault =
 -- nothing is left
 pub put_all : (a b : Taken) (p q text rest : List ℕ) → rest ≡ [] → IsPut a b p q text rest
     → Passes a b p q text
-put_all a b p q text rest none so_far =
-    subst (Passes a b p q) (ap (λ (l : List ℕ). so_far.done ++ l) (sym none) ∙ sym so_far.split)
-    (subst (Passes a b p q) (sym (append-nil so_far.done)) so_far.passed)
+put_all a b p q text rest none so_far = grind (arith, nat_tests, append-nil)
 
 -- what holds anyhow holds at an error
 pub at_error : {T E : Type 0} {P : Type 0} (result : Result T E) → P → OnErr result P

@@ -1,17 +1,5 @@
 -- The pieces of each row are its text.
-use Rattle.std.proofs.Common.{◌≡◌, ℕ, suc, ◌+◌, ◌<◌, List, [], ◌∷◌, ◌++◌, length, map, drop, get_or, ℤ, pos, negsuc, int_le, unsigned_abs, false, true≢false, refl, sym, ap, ◌∙◌, arith, append-nil, append_assoc}
-use lib.Dec.{leb-zero}
-use Rattle.std.specs.Prelude.{codes}
-use Rattle.std.specs.List.{join_with_byte}
-use Rattle.std.specs.Fmt.{decimal, signed_decimal}
-use Rattle.std.proofs.lemmas.List.{drop_more}
-use Rattle.std.proofs.lemmas.List.Concat.{flat_map-append}
-use Rattle.base.specs.declared.costs.Figures.{Figures}
-use Rattle.bits_model.specs.declared.output.Kind.{Kind}
-use Rattle.bits_model.specs.declared.output.Kind.TheVariants.{Qubo, Ising, Chimera}
-use Rattle.bits_model.specs.Output.{Written}
-use Rattle.model_text.specs.Rows.{row_text, rows_text, figure_rows, chain_row, chain_rows, graph_rows, kind_words, header_row, entry_row, model_text}
-use Rattle.model_text.specs.Lines.{spaced_numbers}
+use Rattle.model_text.proofs.Common.{nat_tests, ints, ◌≡◌, ℕ, ◌+◌, ◌<◌, List, [], ◌∷◌, ◌++◌, length, map, drop, get_or, ℤ, pos, negsuc, int_le, unsigned_abs, false, true≢false, refl, sym, ap, ◌∙◌, arith, append-nil, append_assoc, leb-zero, codes, join_with_byte, decimal, signed_decimal, drop_more, flat_map-append, Figures, Kind, Written, row_text, rows_text, figure_rows, chain_row, chain_rows, graph_rows, kind_words, header_row, entry_row, model_text, spaced_numbers}
 
 -- ---- rows of three numbers
 
@@ -26,9 +14,7 @@ three_pieces a b c x y z e f g = (λ k. e k ++ 32 ∷ (f k ++ 32 ∷ (g k ++ 10 
 header_words : (kind : Kind) (a b c : List ℕ)
     → join_with_byte 32 (kind_words kind) ++ 32 ∷ ((a ++ 32 ∷ (b ++ 32 ∷ c)) ++ 10 ∷ [])
     ≡ row_text (kind_words kind ++ a ∷ b ∷ c ∷ [])
-header_words Qubo a b c = refl
-header_words Ising a b c = refl
-header_words (Chimera rows cols shore) a b c = refl
+header_words kind a b c = grind (arith, nat_tests)
 
 pub header_pieces : (kind : Kind) (w a b c x y z : List ℕ) → w ≡ join_with_byte 32 (kind_words kind)
     → a ≡ x → b ≡ y → c ≡ z
@@ -54,13 +40,7 @@ figures_text s o t u v =
 figures_lines : (figures : Figures) (unit : ℤ) (variables : ℕ)
     → figures_text (signed_decimal figures.scale) (signed_decimal figures.offset) (signed_decimal figures.threshold) (signed_decimal unit) (signed_decimal (pos variables))
     ≡ rows_text (figure_rows figures unit variables)
-figures_lines figures unit variables =
-    let last = signed_decimal (pos variables) ++ 10 ∷ [] in
-    let fifth = ap (λ (l : List ℕ). codes "c variables " ++ l) (sym (append-nil last)) in
-    let fourth = ap (λ (l : List ℕ). codes "c unit " ++ l) (line_on (signed_decimal unit) _ _ fifth) in
-    let third = ap (λ (l : List ℕ). codes "c threshold " ++ l) (line_on (signed_decimal figures.threshold) _ _ fourth) in
-    let second = ap (λ (l : List ℕ). codes "c offset " ++ l) (line_on (signed_decimal figures.offset) _ _ third) in
-    ap (λ (l : List ℕ). codes "c scale " ++ l) (line_on (signed_decimal figures.scale) _ _ second)
+figures_lines figures unit variables = grind (arith, nat_tests, ints, append-nil, line_on)
 
 pub figures_pieces : (figures : Figures) (unit : ℤ) (variables : ℕ) (s o t u v : List ℕ) → s ≡ signed_decimal figures.scale
     → o ≡ signed_decimal figures.offset → t ≡ signed_decimal figures.threshold → u ≡ signed_decimal unit → v ≡ signed_decimal (pos variables)
@@ -85,29 +65,21 @@ chain_pieces node qs number same =
 
 pub qubits_left : (qs : List ℕ) (i : ℕ) (number : List ℕ) → i < length qs → number ≡ decimal (get_or qs i 0)
     → spaced_numbers (drop i qs) ≡ 32 ∷ ((number ++ []) ++ spaced_numbers (drop (i + 1) qs))
-qubits_left qs i number within same =
-    ap spaced_numbers (drop_more qs i 0 within)
-    ∙ ap (λ (n : List ℕ). 32 ∷ (n ++ spaced_numbers (drop (i + 1) qs))) (sym (append-nil number ∙ same))
+qubits_left qs i number within same = grind (arith, nat_tests, drop_more, append-nil)
 
 pub chains_left : (chains : List (List ℕ)) (i : ℕ) (qs : List ℕ) → i < length chains → qs ≡ get_or chains i []
     → rows_text (chain_rows i (drop i chains)) ≡ row_text (chain_row i qs) ++ rows_text (chain_rows (i + 1) (drop (i + 1) chains))
-chains_left chains i qs within item =
-    let next : suc i ≡ i + 1 = omega arith in
-    ap (λ (cs : List (List ℕ)). rows_text (chain_rows i cs)) (drop_more chains i [] within)
-    ∙ (λ k. row_text (chain_row i (sym item k)) ++ rows_text (chain_rows (next k) (drop (i + 1) chains)))
+chains_left chains i qs within item = grind (arith, nat_tests, drop_more)
 
 -- ---- the parts of a model's text
 
-pub text_parts : (m : Written) (chains : List (List ℕ)) → chains ≡ m.chains
-    → model_text m
-    ≡ rows_text (figure_rows m.figures m.unit m.variables)
-    ++ (rows_text (graph_rows m.kind chains)
+pub text_parts : (m : Written) (chains : List (List ℕ)) → chains ≡ m.chains → model_text m
+    ≡ rows_text (figure_rows m.figures m.unit m.variables) ++ (rows_text (graph_rows m.kind chains)
     ++ (row_text (header_row m.kind m.nodes m.entries) ++ rows_text (map entry_row m.entries)))
 unfolding model_text
 text_parts m chains same =
     let figures = figure_rows m.figures m.unit m.variables in
     let graph = graph_rows m.kind m.chains in
     let later = header_row m.kind m.nodes m.entries ∷ map entry_row m.entries in
-    flat_map-append row_text figures (graph ++ later)
-    ∙ ap (λ (l : List ℕ). rows_text figures ++ l)
+    flat_map-append row_text figures (graph ++ later) ∙ ap (λ (l : List ℕ). rows_text figures ++ l)
     (flat_map-append row_text graph later ∙ ap (λ (cs : List (List ℕ)). rows_text (graph_rows m.kind cs) ++ rows_text later) (sym same))

@@ -1,9 +1,6 @@
 -- A text tells its rows, where a row has a word and no word has a space or a line feed in it: both
 -- texts are cut at their first line feed, and both lines at their first space.
-use Rattle.std.proofs.Common.{◌≡◌, ℕ, false, eqb, List, [], ◌∷◌, ◌++◌, refl, sym, ap, ◌∙◌, append_assoc}
-use Rattle.std.specs.List.{AllByRecursion, join_with_byte}
-use Rattle.std.proofs.lemmas.Bool.{eqb-false}
-use Rattle.model_text.specs.Rows.{Row, rows_text}
+use Rattle.model_text.proofs.Common.{nat_tests, arith, ◌≡◌, ℕ, false, eqb, List, [], ◌∷◌, ◌++◌, refl, sym, ap, append_assoc, AllByRecursion, join_with_byte, Row, rows_text}
 
 -- no byte of it is c
 abbrev pub Lacks : ℕ → List ℕ → Type 0
@@ -32,28 +29,17 @@ all_append P (x ∷ xs) ys h k = (h.0, all_append P xs ys h.1 k)
 pub no_such_byte : (c : ℕ) (front bs rest : List ℕ) → Lacks c bs → bs ≡ front ++ c ∷ rest → ⊥
 no_such_byte c [] [] rest h e = cc
 no_such_byte c (a ∷ front) [] rest h e = cc
-no_such_byte c [] (b ∷ bs) rest h e =
-    let same : b ≡ c = cc in
-    eqb-false b c h.0 same
-no_such_byte c (a ∷ front) (b ∷ bs) rest h e =
-    let tails : bs ≡ front ++ c ∷ rest = cc in
-    no_such_byte c front bs rest h.1 tails
+no_such_byte c [] (b ∷ bs) rest h e = grind (arith, nat_tests)
+no_such_byte c (a ∷ front) (b ∷ bs) rest h e = no_such_byte c front bs rest h.1 cc
 
 -- both texts are cut at their first c
 cut_at : (c : ℕ) (front other xs ys : List ℕ) → Lacks c front → Lacks c other
     → front ++ c ∷ xs ≡ other ++ c ∷ ys → (front ≡ other) × (xs ≡ ys)
 cut_at c [] [] xs ys h k e = (refl, cc)
-cut_at c [] (b ∷ other) xs ys h k e =
-    let same : b ≡ c = cc in
-    absurd (eqb-false b c k.0 same)
-cut_at c (a ∷ front) [] xs ys h k e =
-    let same : a ≡ c = cc in
-    absurd (eqb-false a c h.0 same)
+cut_at c [] (b ∷ other) xs ys h k e = grind (arith, nat_tests)
+cut_at c (a ∷ front) [] xs ys h k e = grind (arith, nat_tests)
 cut_at c (a ∷ front) (b ∷ other) xs ys h k e =
-    let heads : a ≡ b = cc in
-    let tails : front ++ c ∷ xs ≡ other ++ c ∷ ys = cc in
-    let rest = cut_at c front other xs ys h.1 k.1 tails in
-    (cc, rest.1)
+    let rest = cut_at c front other xs ys h.1 k.1 cc in (cc, rest.1)
 
 -- ---- the words of a row
 
@@ -65,17 +51,13 @@ words_same w [] v (y ∷ ys) h k e =
 words_same w (x ∷ xs) v [] h k e =
     absurd (no_such_byte 32 w v (join_with_byte 32 (x ∷ xs)) k.0.space (sym e))
 words_same w (x ∷ xs) v (y ∷ ys) h k e =
-    let more = join_with_byte 32 (x ∷ xs) in
-    let others = join_with_byte 32 (y ∷ ys) in
-    let halves = cut_at 32 w v more others h.0.space k.0.space e in
+    let halves = cut_at 32 w v _ _ h.0.space k.0.space e in
     let rest : x ∷ xs ≡ y ∷ ys = words_same x xs y ys h.1 k.1 halves.1 in
     cc
 
 line_lacks_feed : (w : List ℕ) (ws : Row) → IsRow (w ∷ ws) → Lacks 10 (join_with_byte 32 (w ∷ ws))
 line_lacks_feed w [] h = h.0.feed
-line_lacks_feed w (v ∷ vs) h =
-    let rest = 32 ∷ join_with_byte 32 (v ∷ vs) in
-    all_append (λ (b : ℕ). eqb b 10 ≡ false) w rest h.0.feed (refl, line_lacks_feed v vs h.1)
+line_lacks_feed w (v ∷ vs) h = grind (arith, nat_tests, line_lacks_feed v vs h.1, all_append)
 
 -- ---- the rows of a text
 
@@ -87,21 +69,14 @@ not_empty (b ∷ line) rest e = cc
 pub rows_same : (rows others : List Row) → AreRows rows → AreRows others
     → rows_text rows ≡ rows_text others → rows ≡ others
 rows_same [] [] h k e = refl
-rows_same [] (row ∷ others) h k e =
-    absurd (not_empty (join_with_byte 32 row) (rows_text others) e)
+rows_same [] (row ∷ others) h k e = absurd (not_empty (join_with_byte 32 row) (rows_text others) e)
 rows_same (row ∷ rows) [] h k e =
     absurd (not_empty (join_with_byte 32 row) (rows_text rows) (sym e))
 rows_same ([] ∷ rows) (other ∷ others) h k e = absurd h.0
 rows_same ((w ∷ ws) ∷ rows) ([] ∷ others) h k e = absurd k.0
 rows_same ((w ∷ ws) ∷ rows) ((v ∷ vs) ∷ others) h k e =
-    let line = join_with_byte 32 (w ∷ ws) in
-    let other = join_with_byte 32 (v ∷ vs) in
-    let left : (line ++ 10 ∷ []) ++ rows_text rows ≡ line ++ 10 ∷ rows_text rows =
-    append_assoc line (10 ∷ []) (rows_text rows) in
-    let right : (other ++ 10 ∷ []) ++ rows_text others ≡ other ++ 10 ∷ rows_text others =
-    append_assoc other (10 ∷ []) (rows_text others) in
-    let halves = cut_at 10 line other (rows_text rows) (rows_text others)
-    (line_lacks_feed w ws h.0) (line_lacks_feed v vs k.0) (sym left ∙ e ∙ right) in
+    let cut = simp append_assoc at e in
+    let halves = cut_at 10 _ _ _ _ (line_lacks_feed w ws h.0) (line_lacks_feed v vs k.0) cut in
     let first : w ∷ ws ≡ v ∷ vs = words_same w ws v vs h.0 k.0 halves.0 in
     let rest : rows ≡ others = rows_same rows others h.1 k.1 halves.1 in
     cc

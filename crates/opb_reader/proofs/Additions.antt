@@ -2,24 +2,8 @@
 --
 -- A problem that is widened as it goes has in the end as many variables as if it had been widened
 -- at once, and neither products nor constraints ask how many there are.
-use Rattle.std.proofs.Common.{◌≡◌, ℕ, List, [], ◌∷◌, ◌++◌, map, fold, Result, Ok, Err, refl, sym, ap, ◌∙◌, append-nil, append_assoc}
-use Rattle.std.specs.List.{flat_map}
-use Rattle.std.proofs.lemmas.List.Folds.{fold-map}
-use Rattle.std.proofs.lemmas.List.Sums.{fold-append}
-use Rattle.whole_text.specs.declared.faults.TextFault.{TextFault}
-use Rattle.whole_text.specs.Tokens.{Word}
-use Rattle.whole_text.specs.declared.faults.TextAnswer.{TextAnswer}
+use Rattle.opb_reader.proofs.Common.{nat_tests, arith, ◌≡◌, ℕ, List, [], ◌∷◌, ◌++◌, map, fold, Result, Ok, Err, refl, sym, ap, ◌∙◌, append-nil, append_assoc, flat_map, fold-map, fold-append, TextFault, Word, TextAnswer, ◌>>=◌, Fails, end_line, Literal, Product, Constraint, ProblemContent, Widened, AddedProduct, AddedConstraint, normal_form, blank, with_variables, with_product, with_constraint, with_part, as_written, parts_add_up, products_apart, products_written, Listed, Opb, literals_in, widened, variables_of, constraints_at, head_at, reading_of_words, constraint_of, problem_of, problem_of_words, with_term, with_listed, head_read, constraints_read}
 use Rattle.whole_text.specs.declared.faults.TextAnswer.TheVariants as answers
-use Rattle.whole_text.specs.Steps.{◌>>=◌, Fails, end_line}
-use Rattle.literal_lists.specs.declared.literal.Literal.{Literal}
-use Rattle.problem_form.specs.declared.terms.Product.{Product}
-use Rattle.problem_form.specs.declared.terms.Constraint.{Constraint}
-use Rattle.problem_form.specs.Problems.{ProblemContent}
-use Rattle.problem_form.specs.NormalForm.{Widened, AddedProduct, AddedConstraint, normal_form, blank, with_variables, with_product, with_constraint, with_part, as_written}
-use Rattle.problem_form.proofs.AddedParts.{parts_add_up, products_apart, products_written}
-use Rattle.opb_reader.specs.Opb.{Listed, Opb, literals_in, widened, variables_of, constraints_at, head_at, reading_of_words}
-use Rattle.opb_reader.specs.Cost.{constraint_of, problem_of, problem_of_words}
-use Rattle.opb_reader.specs.Views.{with_term, with_listed, head_read, constraints_read}
 use Rattle.opb_reader.proofs.Variables.{widened-append}
 
 -- ---- variables apart
@@ -29,35 +13,31 @@ constraints_apart : (p : ProblemContent) (v : ℕ) (ks : List Constraint)
 constraints_apart p v [] = refl
 constraints_apart p v (k ∷ ks) = constraints_apart (with_constraint p k) v ks
 
-terms_apart : (p : ProblemContent) (ts : List Product)
-    → fold with_term p ts
+terms_apart : (p : ProblemContent) (ts : List Product) → fold with_term p ts
     ≡ with_variables (fold with_product p ts) (widened p.variables (literals_in ts))
 terms_apart p [] = refl
 terms_apart p (t ∷ ts) =
     let v = widened p.variables t.literals in
-    terms_apart (with_term p t) ts
-    ∙ ap (λ (q : ProblemContent). with_variables q (widened v (literals_in ts)))
-    (products_apart (with_product p t) v ts)
-    ∙ ap (with_variables (fold with_product (with_product p t) ts))
-    (sym (widened-append p.variables t.literals (literals_in ts)))
+    let terms = terms_apart (with_term p t) ts in
+    let products = products_apart (with_product p t) v ts in
+    let append = widened-append p.variables t.literals (literals_in ts) in
+    grind (arith, nat_tests)
 
 -- the literals of constraints
 abbrev constraint_literals : List Listed → List Literal
 constraint_literals ks = flat_map (λ (k : Listed). literals_in k.terms) ks
 
 listed_apart : (p : ProblemContent) (ks : List Listed)
-    → fold with_listed p ks
-    ≡ with_variables (fold with_constraint p (map constraint_of ks))
+    → fold with_listed p ks ≡ with_variables (fold with_constraint p (map constraint_of ks))
     (widened p.variables (constraint_literals ks))
 listed_apart p [] = refl
 listed_apart p (k ∷ ks) =
     let v = widened p.variables (literals_in k.terms) in
     let first = with_constraint p (constraint_of k) in
-    listed_apart (with_listed p k) ks
-    ∙ ap (λ (q : ProblemContent). with_variables q (widened v (constraint_literals ks)))
-    (constraints_apart first v (map constraint_of ks))
-    ∙ ap (with_variables (fold with_constraint first (map constraint_of ks)))
-    (sym (widened-append p.variables (literals_in k.terms) (constraint_literals ks)))
+    let listed = listed_apart (with_listed p k) ks in
+    let constraints = constraints_apart first v (map constraint_of ks) in
+    let append = widened-append p.variables (literals_in k.terms) (constraint_literals ks) in
+    grind (arith, nat_tests)
 
 -- ---- parts
 
@@ -82,8 +62,7 @@ parts_are v ts ks =
     ap (λ (p : ProblemContent). fold with_constraint p ks) (sym (fold-map with_part AddedProduct wide ts))
     ∙ sym (fold-map with_part AddedConstraint (fold with_part wide products) ks)
     ∙ sym (fold-append with_part wide products constraints)
-    ∙ parts_add_up (Widened v ∷ products ++ constraints)
-    ∙ ap normal_form
+    ∙ parts_add_up (Widened v ∷ products ++ constraints) ∙ ap normal_form
     (fold-append as_written wide products constraints
     ∙ ap (λ (p : ProblemContent). fold as_written p constraints) (products_written wide ts)
     ∙ constraints_written (record wide { objective = ts }) ks)

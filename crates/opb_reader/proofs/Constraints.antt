@@ -1,25 +1,7 @@
 -- Constraints: one is a sum and its comparison, and one more is read, or they end.
-use Rattle.std.proofs.Common.{◌≡◌, ℕ, ◌+◌, ◌≤◌, ◌<◌, true, false, ℤ, List, [], ◌∷◌, length, map, fold, All, Option, Some, None, Result, Ok, Err, refl, sym, ap, ◌∙◌, arith}
-use Rattle.std.specs.Prelude.{MatchOption, unsigned_abs, codes}
-use Rattle.std.specs.Str.{bytes_eq}
-use Rattle.std.specs.List.{AllByRecursion}
-use Rattle.std.proofs.lemmas.Int.{ints}
-use Rattle.std.proofs.lemmas.List.Sums.{sum_by-cons}
-use Rattle.std.proofs.lemmas.List.Elements.{All-from_recursion, recursion_from_All}
-use Rattle.whole_text.specs.declared.words.WordRef.{WordRef}
-use Rattle.whole_text.specs.declared.faults.TextFault.{TextFault}
-use Rattle.whole_text.specs.declared.faults.TextAnswer.{TextAnswer}
+use Rattle.opb_reader.proofs.Common.{nat_tests, ◌≡◌, ℕ, ◌+◌, ◌≤◌, ◌<◌, true, false, ℤ, List, [], ◌∷◌, length, map, All, Option, Result, Ok, Err, refl, ap, arith, MatchOption, unsigned_abs, codes, bytes_eq, AllByRecursion, ints, sum_by-cons, All-from_recursion, recursion_from_All, WordRef, TextFault, TextAnswer, Word, word_of, ◌>>=◌, Fails, Product, ProblemContent, negated, products_total, constraint_total, Operator, greatest_index, is_operator, sum_at, comparison_at, constraint_at, constraints_at, head_at, compared, put_all, with_listed, objective_read, head_read, constraint_read, constraints_read}
 use Rattle.whole_text.specs.declared.faults.TextAnswer.TheVariants as answers
-use Rattle.whole_text.specs.Tokens.{Word}
-use Rattle.whole_text.specs.TokenTexts.{word_of}
-use Rattle.whole_text.specs.Steps.{◌>>=◌, Fails}
-use Rattle.problem_form.specs.declared.terms.Product.{Product}
-use Rattle.problem_form.specs.Problems.{ProblemContent, negated, products_total, constraint_total}
-use Rattle.opb_reader.specs.declared.operator.Operator.{Operator}
 use Rattle.opb_reader.specs.declared.operator.Operator.TheVariants.{AtLeast, AtMost, Equal}
-use Rattle.opb_reader.specs.Opb.{Listed, greatest_index, is_operator, never, sum_at, comparison_at, constraint_at, constraints_at, head_at}
-use Rattle.opb_reader.specs.Cost.{compared}
-use Rattle.opb_reader.specs.Views.{put_all, with_listed, objective_read, head_read, constraint_read, constraints_read}
 use Rattle.opb_reader.proofs.Many.{many_go_on, many_fail, many_end}
 use Rattle.opb_reader.proofs.Shrinking.{constraint_shrinks}
 use Rattle.opb_reader.proofs.Variables.{AreWithin}
@@ -36,16 +18,14 @@ sum_fails (answers.Bad f) p end w ws h = rw h refl
 pub comparison_fails : (f : TextFault) (p : ProblemContent) (end : ℕ) (w : Word)
     (ws rest : List Word) (terms : List Product)
     → sum_at greatest_index is_operator end (w ∷ ws) ≡ Ok (terms, rest) → comparison_at end rest
-    ≡ Err f
-    → constraint_read p end w ws ≡ Err f
+    ≡ Err f → constraint_read p end w ws ≡ Err f
 unfolding constraint_at
 comparison_fails f p end w ws rest terms sum h = rw (sum, h) refl
 
 pub constraint_is : (p : ProblemContent) (end : ℕ) (w : Word) (ws rest after : List Word)
     (terms : List Product) (operator : Operator) (bound : ℤ)
     → sum_at greatest_index is_operator end (w ∷ ws) ≡ Ok (terms, rest)
-    → comparison_at end rest ≡ Ok (operator, bound, after)
-    → constraint_read p end w ws
+    → comparison_at end rest ≡ Ok (operator, bound, after) → constraint_read p end w ws
     ≡ Ok (with_listed p (record { terms = terms; operator = operator; bound = bound }), after)
 unfolding constraint_at
 constraint_is p end w ws rest after terms operator bound sum h = rw (sum, h) refl
@@ -64,25 +44,18 @@ compared_within AtLeast v ts bound h = h
 compared_within Equal v ts bound h = h
 compared_within AtMost v ts bound h =
     let Within : Product → Type 0 = λ t. All (λ l. l.variable < v) t.literals in
-    All-from_recursion Within (map negated ts)
-    (negated_each v ts (recursion_from_All Within ts h))
+    All-from_recursion Within (map negated ts) (negated_each v ts (recursion_from_All Within ts h))
 
 negated-total : (ts : List Product) → products_total (map negated ts) ≡ products_total ts
 negated-total [] = refl
 negated-total (t ∷ ts) =
-    omega (
-      arith,
-      ints,
-      sum_by-cons (λ (u : Product). unsigned_abs u.coefficient) t ts,
-      sum_by-cons (λ (u : Product). unsigned_abs u.coefficient) (negated t) (map negated ts),
-      negated-total ts,
-    )
+    let sum = sum_by-cons (λ (u : Product). unsigned_abs u.coefficient) t ts in
+    let sum_cons = sum_by-cons (λ (u : Product). unsigned_abs u.coefficient) (negated t) (map negated ts) in
+    omega (arith, ints, negated-total ts)
 
 pub compared-total : (operator : Operator) (ts : List Product) (bound : ℤ)
     → constraint_total (compared operator ts bound) ≡ products_total ts + unsigned_abs bound
-compared-total AtLeast ts bound = refl
-compared-total Equal ts bound = refl
-compared-total AtMost ts bound = omega (arith, ints, negated-total ts)
+compared-total operator ts bound = grind (arith, nat_tests, ints, negated-total)
 
 -- ---- all constraints
 
@@ -92,24 +65,14 @@ first_part x = Ok x.0
 
 pub constraints_read-put : (p : ProblemContent) (end : ℕ) (ws : List Word)
     → constraints_read p end ws ≡ put_all with_listed p (constraints_at end ws) >>= first_part
-constraints_read-put p end ws = go (constraints_at end ws)
-  where
-    go : (read : Result (List Listed × List Word) TextFault)
-        → read >>= (λ (x : List Listed × List Word). first_part (fold with_listed p x.0, x.1))
-        ≡ put_all with_listed p read >>= first_part
-    go (Ok x) = refl
-    go (Err f) = refl
+constraints_read-put p end ws = grind (arith, nat_tests)
 
 pub constraint_goes_on : (p q : ProblemContent) (end : ℕ) (w : Word) (ws rest : List Word)
     → length rest ≤ length ws → constraint_read p end w ws ≡ Ok (q, rest)
     → constraints_read p end (w ∷ ws) ≡ constraints_read q end rest
 unfolding constraints_at
 constraint_goes_on p q end w ws rest le one =
-    constraints_read-put p end (w ∷ ws)
-    ∙ ap (λ (r : Result (ProblemContent × List Word) TextFault). r >>= first_part)
-    (many_go_on with_listed p q never (constraint_at greatest_index end) w ws rest
-    (constraint_shrinks greatest_index end) refl le one)
-    ∙ sym (constraints_read-put q end rest)
+    grind (arith, nat_tests, constraints_read-put, many_go_on, constraint_shrinks)
 
 first_fails : (e : TextAnswer) (read : Result (ProblemContent × List Word) TextFault)
     → Fails e read → Fails e (read >>= first_part)
@@ -120,16 +83,11 @@ pub constraint_fails : (e : TextAnswer) (p : ProblemContent) (end : ℕ) (w : Wo
     → Fails e (constraint_read p end w ws) → Fails e (constraints_read p end (w ∷ ws))
 unfolding constraints_at
 constraint_fails e p end w ws h =
-    rw (constraints_read-put p end (w ∷ ws))
-    (first_fails e (put_all with_listed p (constraints_at end (w ∷ ws)))
-    (many_fail e with_listed p never (constraint_at greatest_index end) w ws refl h))
+    grind (arith, nat_tests, constraints_read-put, first_fails, many_fail)
 
 pub constraints_end : (p : ProblemContent) (end : ℕ) → constraints_read p end [] ≡ Ok p
 unfolding constraints_at
-constraints_end p end =
-    constraints_read-put p end []
-    ∙ ap (λ (r : Result (ProblemContent × List Word) TextFault). r >>= first_part)
-    (many_end with_listed p never (constraint_at greatest_index end))
+constraints_end p end = grind (arith, nat_tests, constraints_read-put, many_end)
 
 -- ---- where the objective may stand
 
@@ -151,11 +109,4 @@ head_none p end = refl
 pub next_is : (ws new rest : List Word) (o : Option WordRef) (w : Word)
     → MatchOption o ((ws ≡ []) × (new ≡ [])) (λ v. ws ≡ word_of v ∷ new) → ws ≡ w ∷ rest
     → ws ≡ w ∷ new
-next_is ws new rest None w h e = absurd (none (sym h.0 ∙ e))
-  where
-    none : [] ≡ w ∷ rest → ⊥
-    none k = absurd cc
-next_is ws new rest (Some v) w h e =
-    let both : word_of v ∷ new ≡ w ∷ rest = sym h ∙ e in
-    let first : word_of v ≡ w = cc in
-    h ∙ ap (λ (u : Word). u ∷ new) first
+next_is ws new rest o w h e = grind (arith, nat_tests)

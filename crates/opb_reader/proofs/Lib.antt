@@ -1,3 +1,4 @@
+pub mod Common
 pub mod Many
 pub mod Literals
 pub mod Shrinking

@@ -1,11 +1,5 @@
 -- Literals that follow one another, and the variables that they need.
-use Rattle.std.proofs.Common.{◌≡◌, ℕ, true, false, List, [], ◌∷◌, ◌++◌, Result, Ok, Err, refl, sym, ap, append_assoc, append-nil}
-use Rattle.whole_text.specs.declared.faults.TextFault.{TextFault}
-use Rattle.whole_text.specs.Tokens.{Word}
-use Rattle.whole_text.specs.Steps.{◌>>=◌, next_of}
-use Rattle.literal_lists.specs.declared.literal.Literal.{Literal}
-use Rattle.opb_reader.specs.Opb.{begins_literal, literal_at, literals_at, product_at}
-use Rattle.opb_reader.specs.Views.{literals_read}
+use Rattle.opb_reader.proofs.Common.{◌≡◌, ℕ, true, false, List, [], ◌∷◌, ◌++◌, Result, Ok, Err, refl, sym, ap, append_assoc, append-nil, TextFault, Word, ◌>>=◌, next_of, Literal, begins_literal, literal_at, literals_at, product_at, literals_read}
 
 -- literals, and what is left
 abbrev Literals : Type 0

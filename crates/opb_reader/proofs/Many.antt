@@ -1,12 +1,5 @@
 -- What is read again and again: one more is read, or it ends.
-use Rattle.std.proofs.Common.{◌≡◌, ℕ, zero, suc, ◌≤◌, Bool, true, false, cond, List, [], ◌∷◌, ◌++◌, length, fold, append-nil, append_assoc, Result, Ok, Err, IfOk, refl, sym, ap, ◌∙◌, arith}
-use Rattle.whole_text.specs.declared.faults.TextFault.{TextFault}
-use Rattle.whole_text.specs.declared.faults.TextAnswer.{TextAnswer}
-use Rattle.whole_text.specs.declared.faults.TextAnswer.TheVariants as answers
-use Rattle.whole_text.specs.Tokens.{Word}
-use Rattle.whole_text.specs.Steps.{◌>>=◌, Fails}
-use Rattle.opb_reader.specs.Opb.{many}
-use Rattle.opb_reader.specs.Views.{put, put_all}
+use Rattle.opb_reader.proofs.Common.{nat_tests, ◌≡◌, ℕ, zero, suc, ◌≤◌, Bool, true, false, cond, List, [], ◌∷◌, ◌++◌, length, fold, append-nil, append_assoc, Result, Ok, Err, IfOk, refl, sym, ap, ◌∙◌, arith, TextFault, TextAnswer, Word, ◌>>=◌, Fails, many, put, put_all}
 
 -- what reads one thing, from its first word and those after it
 abbrev pub Reader : Type 0 → Type 0
@@ -32,11 +25,9 @@ others more x = more x.1 >>= with_first x.0
 
 same_others : {A : Type 0} (most : ℕ) (f g : List Word → Result (List A × List Word) TextFault)
     (first : Result (A × List Word) TextFault) → IfOk first (Leaves most)
-    → ((ws : List Word) → length ws ≤ most → f ws ≡ g ws)
-    → first >>= others f ≡ first >>= others g
+    → ((ws : List Word) → length ws ≤ most → f ws ≡ g ws) → first >>= others f ≡ first >>= others g
 same_others {A = A} most f g (Ok x) h same =
-    ap (λ (read : Result (List A × List Word) TextFault). read >>= with_first x.0)
-    (same x.1 h)
+    ap (λ (read : Result (List A × List Word) TextFault). read >>= with_first x.0) (same x.1 h)
 same_others most f g (Err e) h same = refl
 
 pub many_enough : {A : Type 0} (ends : List ℕ → Bool) (read : Reader A) → Shrinks read
@@ -86,12 +77,6 @@ abbrev pub all_of : {A : Type 0} → (List ℕ → Bool) → Reader A → List W
     → Result (List A × List Word) TextFault
 all_of ends read ws = many ends read (length ws) ws
 
-regroup : {A B : Type 0} (step : B → A → B) (b : B) (a : A)
-    (rest : Result (List A × List Word) TextFault)
-    → put_all step b (rest >>= with_first a) ≡ put_all step (step b a) rest
-regroup step b a (Ok y) = refl
-regroup step b a (Err e) = refl
-
 -- a value that is read
 abbrev read_as : {A : Type 0} → A → Result A TextFault
 read_as a = Ok a
@@ -103,17 +88,12 @@ one_put : {A B : Type 0} (step : B → A → B) (b b' : B) (rest : List Word)
     (f : List Word → Result (List A × List Word) TextFault) (first : Result (A × List Word) TextFault)
     → put step b first ≡ Ok (b', rest)
     → put_all step b (first >>= others f) ≡ put_all step b' (f rest)
-one_put step b b' rest f (Err e) h = absurd cc
-one_put step b b' rest f (Ok x) h =
-    let same = two_parts (step b x.0, x.1) (b', rest) h in
-    regroup step b x.0 (f x.1) ∙ (λ i. put_all step (same.0 i) (f (same.1 i)))
+one_put step b b' rest f first h = grind (arith, nat_tests)
 
 one_fails : {A B : Type 0} (e : TextAnswer) (step : B → A → B) (b : B)
     (f : List Word → Result (List A × List Word) TextFault) (first : Result (A × List Word) TextFault)
     → Fails e (put step b first) → Fails e (put_all step b (first >>= others f))
-one_fails answers.NoMemory step b f first h = tt
-one_fails (answers.Bad g) step b f (Ok x) h = absurd cc
-one_fails (answers.Bad g) step b f (Err k) h = let same : k ≡ g = cc in ap (λ z. Err z) same
+one_fails e step b f first h = grind (arith, nat_tests)
 
 pub many_go_on : {A B : Type 0} (step : B → A → B) (b b' : B) (ends : List ℕ → Bool)
     (read : Reader A) (w : Word) (ws rest : List Word) → Shrinks read → ends w.bytes ≡ false
@@ -179,6 +159,5 @@ unfolding many
 many_all ends read h never n [] le = refl
 many_all ends read h never zero (w ∷ ws) le = absurd (omega (arith, le))
 many_all ends read h never (suc n) (w ∷ ws) le =
-    rw (never w.bytes)
-    (others_none (length ws) (many ends read n) (read w ws) (h.leaves w ws)
+    rw (never w.bytes) (others_none (length ws) (many ends read n) (read w ws) (h.leaves w ws)
     (λ rest less. many_all ends read h never n rest (omega (arith, le, less))))

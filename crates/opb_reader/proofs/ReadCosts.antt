@@ -1,18 +1,6 @@
 -- What the problem of a text costs: what the text costs, constraint by constraint.
-use Rattle.std.proofs.Common.{◌≡◌, Bool, true, false, not, ◌||◌, arith, refl, ap, ◌∙◌, List, [], ◌∷◌, map, ℤ, pos, ◌+ℤ◌, neg_ℤ, int_lt, int_le}
-use Rattle.std.specs.Prelude.{if◌then◌else◌}
-use Rattle.std.specs.List.{list_any}
-use Rattle.std.proofs.lemmas.Int.{ints}
+use Rattle.opb_reader.proofs.Common.{nat_tests, ◌≡◌, Bool, true, false, not, ◌||◌, arith, refl, ◌∙◌, List, [], ◌∷◌, map, ℤ, pos, ◌+ℤ◌, neg_ℤ, int_lt, int_le, if◌then◌else◌, list_any, ints, if_so, Product, all_hold, sum_of, negated, fails, problem_cost, normal_form-cost, Operator, Listed, Opb, stands, is_met, is_broken, opb_cost, compared, constraint_of, problem_of, ReadingKeepsCosts}
 use Rattle.base.specs.declared.costs.Cost.TheVariants.{Whole, Infinite}
-use Rattle.base.specs.Sums.{if_so}
-use Rattle.problem_form.specs.declared.terms.Product.{Product}
-use Rattle.literal_lists.specs.Literals.{all_hold}
-use Rattle.problem_form.specs.Problems.{sum_of, negated, fails, problem_cost}
-use Rattle.problem_form.proofs.NormalForms.{normal_form-cost}
-use Rattle.opb_reader.specs.declared.operator.Operator.{Operator}
-use Rattle.opb_reader.specs.declared.operator.Operator.TheVariants.{AtLeast, AtMost, Equal}
-use Rattle.opb_reader.specs.Opb.{Listed, Opb}
-use Rattle.opb_reader.specs.Cost.{stands, is_met, is_broken, opb_cost, compared, constraint_of, problem_of, ReadingKeepsCosts}
 
 value-negated : (b : Bool) (c : ℤ) → if_so b (neg_ℤ c) ≡ neg_ℤ (if_so b c)
 value-negated true c = refl
@@ -32,10 +20,8 @@ below-negated a b = grind (arith, ints)
 
 fails-compared : (x : List Bool) (operator : Operator) (ts : List Product) (bound : ℤ)
     → fails x (compared operator ts bound) ≡ not (stands operator (sum_of x ts) bound)
-fails-compared x AtLeast ts bound = below (sum_of x ts) bound
-fails-compared x AtMost ts bound =
-    ap (λ s. int_lt s (neg_ℤ bound)) (sum_of-negated x ts) ∙ below-negated (sum_of x ts) bound
-fails-compared x Equal ts bound = refl
+fails-compared x operator ts bound =
+    grind (arith, nat_tests, ints, below, sum_of-negated, below-negated)
 
 fails-constraints : (x : List Bool) (ks : List Listed)
     → list_any (fails x) (map constraint_of ks) ≡ list_any (λ k. not (is_met x k)) ks

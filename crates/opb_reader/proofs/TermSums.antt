@@ -1,29 +1,18 @@
 -- Sums: one more term is read, or it ends; and the objective, which is a sum and its `;`.
-use Rattle.std.proofs.Common.{◌≡◌, ℕ, ◌≤◌, Bool, true, false, List, [], ◌∷◌, length, fold, Result, Ok, Err, refl, ap, ◌∙◌}
-use Rattle.whole_text.specs.declared.faults.TextFault.{TextFault}
+use Rattle.opb_reader.proofs.Common.{nat_tests, arith, ◌≡◌, ℕ, ◌≤◌, Bool, true, false, List, [], ◌∷◌, length, Result, Ok, Err, refl, ap, TextFault, TextAnswer, Word, ◌>>=◌, Fails, fault, Product, ProblemContent, greatest_index, is_semicolon, term_at, sum_at, closed_at, objective_at, put, put_all, with_term, objective_read}
 use Rattle.whole_text.specs.declared.faults.TextKind.TheVariants as kinds
-use Rattle.whole_text.specs.declared.faults.TextAnswer.{TextAnswer}
 use Rattle.whole_text.specs.declared.faults.TextAnswer.TheVariants as answers
-use Rattle.whole_text.specs.Tokens.{Word}
-use Rattle.whole_text.specs.Steps.{◌>>=◌, Fails, fault}
-use Rattle.problem_form.specs.declared.terms.Product.{Product}
-use Rattle.problem_form.specs.Problems.{ProblemContent}
-use Rattle.opb_reader.specs.Opb.{greatest_index, is_semicolon, term_at, sum_at, closed_at, objective_at}
-use Rattle.opb_reader.specs.Views.{put, put_all, with_term, objective_read}
 use Rattle.opb_reader.proofs.Many.{two_parts, many_go_on, many_fail, many_stop, many_end}
 use Rattle.opb_reader.proofs.Shrinking.{term_shrinks}
 
 pub term_goes_on : {B : Type 0} (limit : ℕ) (step : B → Product → B) (b : B) (ends : List ℕ → Bool)
-    (end : ℕ)
-    (w : Word) (ws rest : List Word) (t : Product) → ends w.bytes ≡ false
+    (end : ℕ) (w : Word) (ws rest : List Word) (t : Product) → ends w.bytes ≡ false
     → length rest ≤ length ws → term_at limit end w ws ≡ Ok (t, rest)
     → put_all step b (sum_at limit ends end (w ∷ ws))
     ≡ put_all step (step b t) (sum_at limit ends end rest)
 unfolding sum_at
 term_goes_on limit step b ends end w ws rest t going le read =
-    many_go_on step b (step b t) ends (term_at limit end) w ws rest (term_shrinks limit end) going
-    le
-    (ap (put step b) read)
+    grind (arith, nat_tests, many_go_on, term_shrinks)
 
 put_fails : {A B : Type 0} (e : TextAnswer) (step : B → A → B) (b : B)
     (read : Result (A × List Word) TextFault) → Fails e read → Fails e (put step b read)
@@ -34,20 +23,16 @@ pub term_fails : {B : Type 0} (limit : ℕ) (e : TextAnswer) (step : B → Produ
     (ends : List ℕ → Bool) (end : ℕ) (w : Word) (ws : List Word) → ends w.bytes ≡ false
     → Fails e (term_at limit end w ws) → Fails e (put_all step b (sum_at limit ends end (w ∷ ws)))
 unfolding sum_at
-term_fails limit e step b ends end w ws going fails =
-    many_fail e step b ends (term_at limit end) w ws going
-    (put_fails e step b (term_at limit end w ws) fails)
+term_fails limit e step b ends end w ws going fails = grind (arith, nat_tests, many_fail, put_fails)
 
 pub sum_stops : {B : Type 0} (limit : ℕ) (step : B → Product → B) (b : B) (ends : List ℕ → Bool)
-    (end : ℕ)
-    (w : Word) (ws : List Word) → ends w.bytes ≡ true
+    (end : ℕ) (w : Word) (ws : List Word) → ends w.bytes ≡ true
     → put_all step b (sum_at limit ends end (w ∷ ws)) ≡ Ok (b, w ∷ ws)
 unfolding sum_at
 sum_stops limit step b ends end w ws stops = many_stop step b ends (term_at limit end) w ws stops
 
 pub sum_ends : {B : Type 0} (limit : ℕ) (step : B → Product → B) (b : B) (ends : List ℕ → Bool)
-    (end : ℕ)
-    → put_all step b (sum_at limit ends end []) ≡ Ok (b, [])
+    (end : ℕ) → put_all step b (sum_at limit ends end []) ≡ Ok (b, [])
 unfolding sum_at
 sum_ends limit step b ends end = many_end step b ends (term_at limit end)
 
@@ -77,42 +62,17 @@ pub objective_closed : (p q : ProblemContent) (end : ℕ) (ws rest : List Word) 
     → put_all with_term p (sum_at greatest_index is_semicolon end ws) ≡ Ok (q, w ∷ rest)
     → objective_read p end ws ≡ Ok (q, rest)
 unfolding objective_at
-objective_closed p q end ws rest w semicolon h = go (sum_at greatest_index is_semicolon end ws) h
-  where
-    go : (read : Terms) → put_all with_term p read ≡ Ok (q, w ∷ rest)
-        → put_all with_term p (read >>= close end) ≡ Ok (q, rest)
-    go (Err f) e = absurd cc
-    go (Ok x) e =
-        let same = two_parts (fold with_term p x.0, x.1) (q, w ∷ rest) e in
-        ap (λ (ws' : List Word). put_all with_term p (closed_at end ws' >>= with_rest x)) same.1
-        ∙ ap (λ (c : Result (List Word) TextFault). put_all with_term p (c >>= with_rest x))
-        (closed_by end w rest semicolon)
-        ∙ ap (λ (r : ProblemContent). Ok (r, rest)) same.0
+objective_closed p q end ws rest w semicolon h = grind (arith, nat_tests, two_parts, closed_by)
 
 -- the words end before it
 pub objective_open : (p q : ProblemContent) (end : ℕ) (ws : List Word)
     → put_all with_term p (sum_at greatest_index is_semicolon end ws) ≡ Ok (q, [])
     → objective_read p end ws ≡ Err (fault kinds.End end)
 unfolding objective_at
-objective_open p q end ws h = go (sum_at greatest_index is_semicolon end ws) h
-  where
-    go : (read : Terms) → put_all with_term p read ≡ Ok (q, [])
-        → put_all with_term p (read >>= close end) ≡ Err (fault kinds.End end)
-    go (Err f) e = absurd cc
-    go (Ok x) e =
-        let same = two_parts (fold with_term p x.0, x.1) (q, []) e in
-        ap (λ (ws' : List Word). put_all with_term p (closed_at end ws' >>= with_rest x)) same.1
-        ∙ ap (λ (c : Result (List Word) TextFault). put_all with_term p (c >>= with_rest x))
-        (not_closed end)
+objective_open p q end ws h = grind (arith, nat_tests, two_parts, not_closed)
 
 pub objective_fails : (e : TextAnswer) (p : ProblemContent) (end : ℕ) (ws : List Word)
     → Fails e (put_all with_term p (sum_at greatest_index is_semicolon end ws))
     → Fails e (objective_read p end ws)
 unfolding objective_at
-objective_fails e p end ws h = go e (sum_at greatest_index is_semicolon end ws) h
-  where
-    go : (e : TextAnswer) (read : Terms) → Fails e (put_all with_term p read)
-        → Fails e (put_all with_term p (read >>= close end))
-    go answers.NoMemory read fails = tt
-    go (answers.Bad f) (Ok x) fails = absurd cc
-    go (answers.Bad f) (Err g) fails = fails
+objective_fails e p end ws h = grind (arith, nat_tests)

@@ -1,21 +1,10 @@
 -- As many variables as literals need.
-use Rattle.std.proofs.Common.{◌≡◌, ℕ, ◌+◌, ◌<◌, ◌≤◌, max, List, [], ◌∷◌, ◌++◌, map, fold, All, ap, ◌∙◌, arith}
-use Rattle.std.specs.List.{AllByRecursion}
-use Rattle.std.proofs.Math.Nat.{le-max_left, le-max_right}
-use Rattle.std.proofs.lemmas.List.{map-append}
-use Rattle.std.proofs.lemmas.List.Sums.{fold-append}
-use Rattle.std.proofs.lemmas.List.Elements.{All-from_recursion}
-use Rattle.literal_lists.specs.declared.literal.Literal.{Literal}
-use Rattle.problem_form.specs.declared.terms.Product.{Product}
-use Rattle.opb_reader.specs.Opb.{literals_in, widened}
+use Rattle.opb_reader.proofs.Common.{nat_tests, ◌≡◌, ℕ, ◌+◌, ◌<◌, ◌≤◌, max, List, [], ◌∷◌, ◌++◌, All, arith, AllByRecursion, le-max_left, le-max_right, map-append, fold-append, All-from_recursion, Literal, Product, literals_in, widened}
 
 -- variables for more literals
 pub widened-append : (v : ℕ) (ls ks : List Literal)
     → widened v (ls ++ ks) ≡ widened (widened v ls) ks
-widened-append v ls ks =
-    ap (fold max v) (map-append (λ (l : Literal). l.variable + 1) ls ks)
-    ∙ fold-append max v (map (λ (l : Literal). l.variable + 1) ls)
-    (map (λ (l : Literal). l.variable + 1) ks)
+widened-append v ls ks = grind (arith, nat_tests, map-append, fold-append)
 
 -- no fewer than before
 pub widened-le : (v : ℕ) (ls : List Literal) → v ≤ widened v ls

@@ -1,31 +1,14 @@
 -- What is added to a problem one after another is the normal form of the whole.
 --
 -- A name keeps its number when more names come, so each product can be put down as it is read.
-use Rattle.std.proofs.Common.{◌≡◌, ℕ, List, [], ◌∷◌, ◌++◌, length, map, fold, Result, Ok, Err, refl, sym, ap, ◌∙◌}
-use Rattle.std.proofs.lemmas.List.{map-append}
-use Rattle.std.proofs.lemmas.List.Sums.{fold-append}
-use Rattle.whole_text.specs.declared.faults.TextFault.{TextFault}
-use Rattle.whole_text.specs.declared.faults.TextAnswer.{TextAnswer}
-use Rattle.whole_text.specs.declared.faults.TextAnswer.TheVariants as answers
-use Rattle.whole_text.specs.Tokens.{Word}
-use Rattle.whole_text.specs.Steps.{◌>>=◌, Fails}
-use Rattle.problem_form.specs.Problems.{ProblemContent}
-use Rattle.problem_form.specs.NormalForm.{normal_form, blank, with_variables, with_product}
-use Rattle.problem_form.proofs.AddedParts.{products_add_up, products_apart}
-use Rattle.poly_reader.specs.declared.reading.Polynomial.{Polynomial}
-use Rattle.poly_reader.specs.Poly.{Named, Listed, reading_of_words}
-use Rattle.poly_reader.specs.Numbering.{with_name, names_after, all_literals, names_of}
-use Rattle.poly_reader.specs.Cost.{product_of, problem_of, polynomial_of, polynomial_of_words}
-use Rattle.poly_reader.specs.Views.{with_listed, products_read}
+use Rattle.poly_reader.proofs.Common.{nat_tests, arith, ◌≡◌, ℕ, List, [], ◌∷◌, ◌++◌, length, map, fold, Result, Ok, Err, refl, sym, ap, ◌∙◌, map-append, fold-append, TextFault, TextAnswer, Word, ◌>>=◌, Fails, ProblemContent, normal_form, blank, with_variables, with_product, products_add_up, products_apart, Polynomial, Named, Listed, reading_of_words, names_after, all_literals, names_of, product_of, problem_of, polynomial_of, polynomial_of_words, with_listed, products_read}
 use Rattle.poly_reader.proofs.NameNumbers.{names_after-longer, names_after-all, literals_of-longer}
 
 -- ---- variables apart
 
 names_after-append : (names : List (List ℕ)) (ls ks : List Named)
     → names_after names (ls ++ ks) ≡ names_after (names_after names ls) ks
-names_after-append names ls ks =
-    ap (fold with_name names) (map-append (λ (l : Named). l.name) ls ks)
-    ∙ fold-append with_name names (map (λ (l : Named). l.name) ls) (map (λ (l : Named). l.name) ks)
+names_after-append names ls ks = grind (arith, nat_tests, map-append, fold-append)
 
 -- a product has the same numbers among later names
 product_of-later : (names : List (List ℕ)) (t : Listed) (ls : List Named)
@@ -59,12 +42,7 @@ listed_apart p names (t ∷ ts) e =
 
 put_together : (ts : List Listed)
     → fold with_listed (blank, []) ts ≡ (normal_form (problem_of ts), names_of ts)
-put_together ts =
-    let names = names_of ts in
-    let products = map (product_of names) ts in
-    listed_apart blank [] ts refl
-    ∙ ap (λ (p : ProblemContent). (p, names))
-    (sym (products_apart blank (length names) products) ∙ products_add_up (length names) products)
+put_together ts = grind (arith, nat_tests, listed_apart, products_apart, products_add_up)
 
 -- ---- a text
 
@@ -93,14 +71,9 @@ polynomial_of_words-put ws = whole-put (reading_of_words ws)
 
 pub polynomial_fails : (e : TextAnswer) (ws : List Word) → Fails e (products_read ws)
     → Fails e (polynomial_of_words ws)
-polynomial_fails answers.NoMemory ws h = tt
-polynomial_fails (answers.Bad f) ws h =
-    polynomial_of_words-put ws
-    ∙ ap (λ (r : Result State TextFault). r >>= λ s. Ok (polynomial_from s)) h
+polynomial_fails e ws h = grind (arith, nat_tests, polynomial_of_words-put)
 
 pub polynomial_read : (ws : List Word) (p : ProblemContent) (names : List (List ℕ))
     → products_read ws ≡ Ok (p, names)
     → polynomial_of_words ws ≡ Ok (record { problem = p; names = names })
-polynomial_read ws p names h =
-    polynomial_of_words-put ws
-    ∙ ap (λ (r : Result State TextFault). r >>= λ s. Ok (polynomial_from s)) h
+polynomial_read ws p names h = grind (arith, nat_tests, polynomial_of_words-put)

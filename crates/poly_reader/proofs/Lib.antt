@@ -1,3 +1,4 @@
+pub mod Common
 pub mod NameForms
 pub mod NameNumbers
 pub mod NumberedNames

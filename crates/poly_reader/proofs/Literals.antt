@@ -1,15 +1,5 @@
 -- Literals, one after another: one more is read, it fails, or the line or the text ends.
-use Rattle.std.proofs.Common.{◌≡◌, ℕ, true, false, List, [], ◌∷◌, ◌++◌, Result, Ok, Err, refl, sym, ap, ◌∙◌, append-nil, append_assoc, ◌==◌}
-use Rattle.whole_text.specs.declared.faults.TextFault.{TextFault}
-use Rattle.whole_text.specs.Tokens.{Word}
-use Rattle.whole_text.specs.Steps.{◌>>=◌}
-use Rattle.whole_text.specs.Rows.{each, on_line, past_line}
-use Rattle.literal_lists.specs.declared.literal.Literal.{Literal}
-use Rattle.literal_lists.specs.Literals.{literal_set}
-use Rattle.poly_reader.specs.Poly.{Named, literal_at}
-use Rattle.poly_reader.specs.Numbering.{with_name, names_after}
-use Rattle.poly_reader.specs.Cost.{literal_of}
-use Rattle.poly_reader.specs.Views.{numbered, literals_read}
+use Rattle.poly_reader.proofs.Common.{nat_tests, arith, ◌≡◌, ℕ, true, false, List, [], ◌∷◌, ◌++◌, Result, Ok, Err, refl, ap, append-nil, append_assoc, ◌==◌, TextFault, Word, ◌>>=◌, each, on_line, past_line, Literal, literal_set, Named, literal_at, with_name, names_after, literal_of, numbered, literals_read}
 use Rattle.poly_reader.proofs.NameNumbers.{names_after-longer, has-with_name, literal_of-longer}
 use Rattle.poly_reader.proofs.ProductSets.{literal_set-before}
 
@@ -29,14 +19,8 @@ put_one : (l : Named) (names : List (List ℕ)) (front : List Literal) (rest : L
     (read : Result (List Named) TextFault)
     → put_behind (with_name names l.name) (front ++ literal_of (with_name names l.name) l ∷ []) rest read
     ≡ put_behind names front rest (with_first l read)
-put_one l names front rest (Err e) = refl
-put_one l names front rest (Ok ls) =
-    let next = with_name names l.name in
-    let all = names_after next ls in
-    let same = literal_of-longer next all l (names_after-longer next ls) (has-with_name names l.name) in
-    let lists = append_assoc front (literal_of next l ∷ []) (numbered next ls)
-    ∙ ap (λ (k : Literal). front ++ k ∷ numbered next ls) (sym same) in
-    ap (λ (ks : List Literal). Ok (literal_set ks, all, rest)) lists
+put_one l names front rest read =
+    grind (arith, nat_tests, literal_of-longer, names_after-longer, has-with_name, append_assoc)
 
 pub literal_goes_on : (line : ℕ) (names : List (List ℕ)) (front : List Literal) (w : Word)
     (ws : List Word) (l : Named) → (w.line == line) ≡ true → literal_at w ≡ Ok l
@@ -70,10 +54,7 @@ literals_end line names front ws none =
 behind_alike : (names : List (List ℕ)) (front front' : List Literal) (rest : List Word)
     (read : Result (List Named) TextFault) → literal_set front' ≡ literal_set front
     → put_behind names front' rest read ≡ put_behind names front rest read
-behind_alike names front front' rest (Err e) same = refl
-behind_alike names front front' rest (Ok ls) same =
-    ap (λ (ks : List Literal). Ok (ks, names_after names ls, rest))
-    (literal_set-before front' front (numbered names ls) same)
+behind_alike names front front' rest read same = grind (arith, nat_tests, literal_set-before)
 
 pub literals_settled : (line : ℕ) (names : List (List ℕ)) (front front' : List Literal)
     (ws : List Word) → literal_set front' ≡ literal_set front

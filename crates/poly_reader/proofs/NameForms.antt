@@ -1,11 +1,5 @@
 -- What has the form of a name is ASCII.
-use Rattle.std.proofs.Common.{◌≡◌, ℕ, ◌<◌, true, List, [], ◌∷◌, arith}
-use Rattle.std.proofs.lemmas.Bool.{and_parts}
-use Rattle.std.specs.Str.{IsAscii}
-use Rattle.std.specs.List.{AllByRecursion, list_all}
-use Rattle.std.proofs.lemmas.List.Elements.{All-from_recursion}
-use Rattle.std.proofs.lemmas.Str.Ascii.{IsAscii-from_all}
-use Rattle.poly_reader.specs.Poly.{begins_name, is_name_byte, is_name}
+use Rattle.poly_reader.proofs.Common.{nat_tests, ◌≡◌, ℕ, ◌<◌, true, List, [], ◌∷◌, arith, and_parts, IsAscii, AllByRecursion, list_all, All-from_recursion, IsAscii-from_all, begins_name, is_name_byte, is_name}
 
 first_ascii : (c : ℕ) → begins_name c ≡ true → c < 128
 first_ascii c h = grind (arith, h)
@@ -20,10 +14,7 @@ all_ascii (c ∷ cs) h =
     (byte_ascii c parts.0, all_ascii cs parts.1)
 
 each_ascii : (name : List ℕ) → is_name name ≡ true → AllByRecursion (λ c. c < 128) name
-each_ascii [] h = tt
-each_ascii (c ∷ cs) h =
-    let parts = and_parts (begins_name c) (list_all is_name_byte cs) h in
-    (first_ascii c parts.0, all_ascii cs parts.1)
+each_ascii name h = grind (arith, nat_tests, and_parts, first_ascii, all_ascii)
 
 pub name_ascii : (name : List ℕ) → is_name name ≡ true → IsAscii name
 name_ascii name h =

@@ -1,14 +1,5 @@
 -- Lists of names as they are lent, and of their literals.
-use Rattle.std.proofs.Common.{◌≡◌, ◌<◌, ◌≤◌, ℕ, Bool, true, false, not, cond, ◌||◌, ◌+◌, List, [], ◌∷◌, ◌++◌, All, refl, ap, ◌∙◌, arith}
-use Rattle.std.specs.Prelude.{bytes_eq, if◌then◌else◌}
-use Rattle.std.specs.Borrow.{Bor}
-use Rattle.std.specs.List.{list_any, position_or_len}
-use Rattle.std.proofs.lemmas.List.{map-append}
-use Rattle.std.proofs.lemmas.List.Elements.{All-push}
-use Rattle.indexmap.specs.IndexSet.{insert_key}
-use Rattle.literal_lists.specs.declared.literal.Literal.{Literal}
-use Rattle.poly_reader.specs.Numbering.{with_name, number_of}
-use Rattle.poly_reader.specs.Views.{names_lent}
+use Rattle.poly_reader.proofs.Common.{nat_tests, ◌≡◌, ◌<◌, ◌≤◌, ℕ, Bool, not, cond, ◌||◌, ◌+◌, List, [], ◌∷◌, ◌++◌, All, refl, ap, arith, bytes_eq, Bor, list_any, position_or_len, map-append, All-push, insert_key, Literal, with_name, number_of, names_lent}
 
 -- ---- lent names
 
@@ -29,14 +20,7 @@ number_of-lent (n ∷ ns) name =
 
 pub with_name-lent : (names : List (Bor (List ℕ))) (name : Bor (List ℕ))
     → names_lent (insert_key lent_eq names name) ≡ with_name (names_lent names) name.now
-with_name-lent names name =
-    go (list_any (lent_eq name) names)
-    ∙ ap (λ b. if b then names_lent names else names_lent names ++ name.now ∷ []) (any_lent names name)
-  where
-    go : (b : Bool) → names_lent (if b then names else names ++ name ∷ [])
-        ≡ (if b then names_lent names else names_lent names ++ name.now ∷ [])
-    go true = refl
-    go false = map-append (λ (n : Bor (List ℕ)). n.now) names (name ∷ [])
+with_name-lent names name = grind (arith, nat_tests, any_lent, map-append)
 
 -- ---- literals of so many variables, and one more
 

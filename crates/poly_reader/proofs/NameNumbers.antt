@@ -1,13 +1,5 @@
 -- The number of a name stays, however many names come after it.
-use Rattle.std.proofs.Common.{◌≡◌, ℕ, suc, ◌<◌, ◌≤◌, Bool, true, false, ◌||◌, List, [], ◌∷◌, ◌++◌, length, map, refl, sym, ap, ◌∙◌, append-nil, append_assoc, arith, length-append}
-use Rattle.std.specs.Prelude.{bytes_eq, if◌then◌else◌}
-use Rattle.std.specs.List.{list_any, AllByRecursion}
-use Rattle.std.proofs.Math.Bool.{or-true}
-use Rattle.std.proofs.lemmas.Slice.Eq.{bytes_eq-Decides}
-use Rattle.std.proofs.lemmas.List.Folds.{list_any-append}
-use Rattle.poly_reader.specs.Poly.{Named}
-use Rattle.poly_reader.specs.Numbering.{with_name, names_after, number_of}
-use Rattle.poly_reader.specs.Cost.{literal_of}
+use Rattle.poly_reader.proofs.Common.{nat_tests, ◌≡◌, ℕ, suc, ◌≤◌, Bool, true, false, ◌||◌, List, [], ◌∷◌, ◌++◌, length, map, refl, sym, ap, ◌∙◌, append-nil, append_assoc, arith, length-append, bytes_eq, if◌then◌else◌, list_any, AllByRecursion, or-true, bytes_eq-Decides, list_any-append, Named, with_name, names_after, number_of, literal_of}
 
 -- the name is among these
 abbrev pub has : List (List ℕ) → List ℕ → Bool
@@ -27,15 +19,7 @@ has-append names more name h =
 pub number_of-append : (names more : List (List ℕ)) (name : List ℕ) → has names name ≡ true
     → number_of (names ++ more) name ≡ number_of names name
 number_of-append [] more name h = absurd cc
-number_of-append (n ∷ ns) more name h =
-    go (bytes_eq name n) refl h (number_of-append ns more name)
-  where
-    go : (b : Bool) → bytes_eq name n ≡ b → (b || has ns name) ≡ true
-        → (has ns name ≡ true → number_of (ns ++ more) name ≡ number_of ns name)
-        → number_of (n ∷ (ns ++ more)) name ≡ number_of (n ∷ ns) name
-    go true e k others = rw e refl
-    go false e k others =
-        number_of-next n (ns ++ more) name e ∙ ap suc (others k) ∙ sym (number_of-next n ns name e)
+number_of-append (n ∷ ns) more name h = grind (arith, nat_tests, number_of-append ns more name)
 
 -- ---- one more name
 
@@ -43,44 +27,21 @@ bytes_eq-same : (name : List ℕ) → bytes_eq name name ≡ true
 bytes_eq-same name = (bytes_eq-Decides name name).1 refl
 
 has-last : (names : List (List ℕ)) (name : List ℕ) → has (names ++ name ∷ []) name ≡ true
-has-last names name =
-    list_any-append (bytes_eq name) names (name ∷ [])
-    ∙ ap (λ b. has names name || (b || false)) (bytes_eq-same name)
-    ∙ or-true (has names name)
+has-last names name = grind (arith, nat_tests, list_any-append, bytes_eq-same, or-true)
 
 -- a name that is not there would be the next one
 pub number_of-last : (names : List (List ℕ)) (name : List ℕ) → has names name ≡ false
     → (number_of (names ++ name ∷ []) name ≡ length names) × (number_of names name ≡ length names)
 number_of-last [] name h = (rw (bytes_eq-same name) refl, refl)
-number_of-last (n ∷ ns) name h = go (bytes_eq name n) refl h (number_of-last ns name)
-  where
-    go : (b : Bool) → bytes_eq name n ≡ b → (b || has ns name) ≡ false
-        → (has ns name ≡ false → (number_of (ns ++ name ∷ []) name ≡ length ns) × (number_of ns name ≡ length ns))
-        → (number_of (n ∷ (ns ++ name ∷ [])) name ≡ length (n ∷ ns)) × (number_of (n ∷ ns) name ≡ length (n ∷ ns))
-    go true e k others = absurd cc
-    go false e k others = (
-      number_of-next n (ns ++ name ∷ []) name e ∙ ap suc (others k).0,
-      number_of-next n ns name e ∙ ap suc (others k).1,
-    )
+number_of-last (n ∷ ns) name h = grind (arith, nat_tests, number_of-last ns name)
 
 -- a name that is put behind others has the place where it was looked for
 pub number_of-with_name : (names : List (List ℕ)) (name : List ℕ)
     → number_of (with_name names name) name ≡ number_of names name
-number_of-with_name names name = go (has names name) refl
-  where
-    go : (b : Bool) → has names name ≡ b
-        → number_of (if b then names else names ++ name ∷ []) name ≡ number_of names name
-    go true e = refl
-    go false e = let last = number_of-last names name e in last.0 ∙ sym last.1
+number_of-with_name names name = grind (arith, nat_tests, number_of-last)
 
-pub has-with_name : (names : List (List ℕ)) (name : List ℕ)
-    → has (with_name names name) name ≡ true
-has-with_name names name = go (has names name) refl
-  where
-    go : (b : Bool) → has names name ≡ b
-        → has (if b then names else names ++ name ∷ []) name ≡ true
-    go true e = e
-    go false e = has-last names name
+pub has-with_name : (names : List (List ℕ)) (name : List ℕ) → has (with_name names name) name ≡ true
+has-with_name names name = grind (arith, nat_tests, has-last)
 
 -- names with some more behind them
 abbrev pub Longer : List (List ℕ) → List (List ℕ) → Type 0
@@ -121,16 +82,13 @@ has-longer names later name h k = rw h.1 (has-append names h.0 name k)
 
 pub literal_of-longer : (names later : List (List ℕ)) (l : Named) → Longer names later
     → has names l.name ≡ true → literal_of later l ≡ literal_of names l
-literal_of-longer names later l h k =
-    ap (λ (ns : List (List ℕ)). literal_of ns l) h.1
-    ∙ (λ i. record { variable = number_of-append names h.0 l.name k i; negated = l.negated })
+literal_of-longer names later l h k = grind (arith, nat_tests, number_of-append)
 
 -- all names of the literals are there
 abbrev pub HasAll : List (List ℕ) → List Named → Type 0
 HasAll names ls = AllByRecursion (λ (l : Named). has names l.name ≡ true) ls
 
-pub names_after-all : (names : List (List ℕ)) (ls : List Named)
-    → HasAll (names_after names ls) ls
+pub names_after-all : (names : List (List ℕ)) (ls : List Named) → HasAll (names_after names ls) ls
 names_after-all names [] = tt
 names_after-all names (l ∷ ls) =
     let next = with_name names l.name in (

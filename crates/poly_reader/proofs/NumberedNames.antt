@@ -1,25 +1,13 @@
 -- Each name stands at its number, and at no other place.
-use Rattle.std.proofs.Common.{◌≡◌, ◌⊎◌, inl, inr, ℕ, zero, suc, Bool, true, false, ◌||◌, List, [], ◌∷◌, ◌++◌, length, Some, slice_get, refl, sym, ap, ◌∙◌}
-use Rattle.std.specs.Prelude.{bytes_eq, if◌then◌else◌}
-use Rattle.std.proofs.Math.Bool.{or-true}
-use Rattle.std.proofs.lemmas.Slice.Eq.{bytes_eq-Decides}
-use Rattle.std.proofs.lemmas.List.Elements.{All-contains, All-from_recursion}
-use Rattle.poly_reader.specs.Poly.{Named}
-use Rattle.poly_reader.specs.Numbering.{with_name, names_after, number_of, all_literals, names_of, NamesAreNumbered}
+use Rattle.poly_reader.proofs.Common.{nat_tests, arith, ◌≡◌, ◌⊎◌, inl, inr, ℕ, zero, suc, true, false, ◌||◌, List, [], ◌∷◌, ◌++◌, length, Some, slice_get, refl, sym, ap, ◌∙◌, bytes_eq, or-true, bytes_eq-Decides, All-contains, All-from_recursion, Named, with_name, names_after, number_of, all_literals, names_of, NamesAreNumbered}
 use Rattle.poly_reader.proofs.NameNumbers.{has, number_of-next, number_of-append, number_of-last, names_after-all}
 
 -- a name that is there stands at its number
 stands : (names : List (List ℕ)) (name : List ℕ) → has names name ≡ true
     → slice_get names (number_of names name) ≡ Some name
 stands [] name h = absurd cc
-stands (n ∷ ns) name h = go (bytes_eq name n) refl h (stands ns name)
-  where
-    go : (b : Bool) → bytes_eq name n ≡ b → (b || has ns name) ≡ true
-        → (has ns name ≡ true → slice_get ns (number_of ns name) ≡ Some name)
-        → slice_get (n ∷ ns) (number_of (n ∷ ns) name) ≡ Some name
-    go true e k others = rw e (ap (λ (m : List ℕ). Some m) (sym ((bytes_eq-Decides name n).0 e)))
-    go false e k others =
-        ap (slice_get (n ∷ ns)) (number_of-next n ns name e) ∙ others k
+stands (n ∷ ns) name h =
+    grind (arith, nat_tests, stands ns name, has, bytes_eq-Decides, number_of-next)
 
 -- what stands at a place has this number
 abbrev pub IsPlaced : List (List ℕ) → Type 0
@@ -43,30 +31,17 @@ last_or_before : (names : List (List ℕ)) (last : List ℕ) (i : ℕ) (name : L
 last_or_before [] last zero name h = let same : last ≡ name = cc in inr (refl, same)
 last_or_before [] last (suc i) name h = absurd cc
 last_or_before (n ∷ ns) last zero name h = inl h
-last_or_before (n ∷ ns) last (suc i) name h = go (last_or_before ns last i name h)
-  where
-    go : (slice_get ns i ≡ Some name) ⊎ ((i ≡ length ns) × (last ≡ name))
-        → (slice_get (n ∷ ns) (suc i) ≡ Some name) ⊎ ((suc i ≡ length (n ∷ ns)) × (last ≡ name))
-    go (inl k) = inl k
-    go (inr k) = inr (ap suc k.0, k.1)
+last_or_before (n ∷ ns) last (suc i) name h =
+    grind (arith, nat_tests, last_or_before ns last i name h)
 
 placed-last : (names : List (List ℕ)) (last : List ℕ) → has names last ≡ false → IsPlaced names
     → IsPlaced (names ++ last ∷ [])
-placed-last names last new placed i name h = go (last_or_before names last i name h)
-  where
-    go : (slice_get names i ≡ Some name) ⊎ ((i ≡ length names) × (last ≡ name))
-        → number_of (names ++ last ∷ []) name ≡ i
-    go (inl k) = number_of-append names (last ∷ []) name (inside names i name k) ∙ placed i name k
-    go (inr k) =
-        ap (number_of (names ++ last ∷ [])) (sym k.1) ∙ (number_of-last names last new).0 ∙ sym k.0
+placed-last names last new placed i name h =
+    grind (arith, nat_tests, last_or_before, number_of-append, inside, number_of-last)
 
 placed-with_name : (names : List (List ℕ)) (name : List ℕ) → IsPlaced names
     → IsPlaced (with_name names name)
-placed-with_name names name placed = go (has names name) refl
-  where
-    go : (b : Bool) → has names name ≡ b → IsPlaced (if b then names else names ++ name ∷ [])
-    go true e = placed
-    go false e = placed-last names name e placed
+placed-with_name names name placed = grind (arith, nat_tests, has, placed-last)
 
 placed-after : (names : List (List ℕ)) (ls : List Named) → IsPlaced names
     → IsPlaced (names_after names ls)

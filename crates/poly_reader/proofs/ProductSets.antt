@@ -1,14 +1,5 @@
 -- Sets of literals in place of the literals: of a product, and of those that stand before others.
-use Rattle.std.proofs.Common.{◌≡◌, ◌||◌, List, [], ◌∷◌, ◌++◌, pos, ap, ◌∙◌}
-use Rattle.std.specs.Prelude.{◌+ℤ◌, if◌then◌else◌}
-use Rattle.std.specs.Ordering.{int_eq}
-use Rattle.literal_lists.specs.declared.literal.Literal.{Literal}
-use Rattle.literal_lists.specs.Literals.{literal_set, with_literal}
-use Rattle.literal_lists.proofs.LiteralSets.{literal_set-ascends, literal_set-ascending, literal_set-turned, has_clash-literal_set}
-use Rattle.problem_form.specs.declared.terms.Product.{Product}
-use Rattle.problem_form.specs.Problems.{ProblemContent}
-use Rattle.problem_form.specs.NormalForm.{with_product}
-use Rattle.problem_form.proofs.KeptClauses.{is_empty-literal_set}
+use Rattle.poly_reader.proofs.Common.{◌≡◌, ◌||◌, List, [], ◌∷◌, ◌++◌, pos, ap, ◌∙◌, ◌+ℤ◌, if◌then◌else◌, int_eq, Literal, literal_set, with_literal, literal_set-ascends, literal_set-ascending, literal_set-turned, has_clash-literal_set, Product, ProblemContent, with_product, is_empty-literal_set}
 
 -- the product of the set
 abbrev pub set_product : Product → Product
@@ -23,8 +14,7 @@ with_product-set p t =
     let same = literal_set-ascending (literal_set t.literals) (literal_set-ascends t.literals) in
     (λ i. record p {
       constant = p.constant +ℤ (if empty i then t.coefficient else pos 0);
-      objective = p.objective ++ (if clash i || int_eq t.coefficient (pos 0) || empty i
-          then []
+      objective = p.objective ++ (if clash i || int_eq t.coefficient (pos 0) || empty i then []
           else record { literals = same i; coefficient = t.coefficient } ∷ []);
     })
 

@@ -1,21 +1,5 @@
 -- Products, one after another: one more is read, it fails, or the text ends.
-use Rattle.std.proofs.Common.{◌≡◌, ℕ, ℤ, List, [], ◌∷◌, length, fold, Result, Ok, Err, refl, sym, ap, subst, ◌∙◌}
-use Rattle.whole_text.specs.declared.faults.TextFault.{TextFault}
-use Rattle.whole_text.specs.declared.faults.TextAnswer.{TextAnswer}
-use Rattle.whole_text.specs.declared.faults.TextAnswer.TheVariants as answers
-use Rattle.whole_text.specs.Tokens.{Word}
-use Rattle.whole_text.specs.Steps.{◌>>=◌, Fails, integer_at}
-use Rattle.whole_text.specs.Rows.{each, by_line, on_line, past_line}
-use Rattle.whole_text.proofs.Rows.{row_of, by_line-first}
-use Rattle.literal_lists.specs.declared.literal.Literal.{Literal}
-use Rattle.literal_lists.specs.Literals.{literal_set}
-use Rattle.problem_form.specs.declared.terms.Product.{Product}
-use Rattle.problem_form.specs.Problems.{ProblemContent}
-use Rattle.problem_form.specs.NormalForm.{with_variables, with_product}
-use Rattle.poly_reader.specs.Poly.{Named, Listed, literal_at, product_at, reading_of_words}
-use Rattle.poly_reader.specs.Numbering.{names_after}
-use Rattle.poly_reader.specs.Cost.{product_of}
-use Rattle.poly_reader.specs.Views.{numbered, product_read, with_listed, products_put}
+use Rattle.poly_reader.proofs.Common.{nat_tests, ints, arith, ◌≡◌, ℕ, ℤ, List, [], ◌∷◌, length, fold, Result, Ok, Err, refl, sym, ap, ◌∙◌, TextFault, TextAnswer, Word, ◌>>=◌, Fails, integer_at, each, by_line, on_line, past_line, row_of, by_line-first, Literal, literal_set, Product, ProblemContent, with_variables, with_product, Named, Listed, literal_at, product_at, reading_of_words, names_after, product_of, numbered, product_read, with_listed, products_put}
 use Rattle.poly_reader.proofs.ProductSets.{with_product-set}
 
 -- a problem and the names of its variables
@@ -78,18 +62,14 @@ one_fails : (e : TextAnswer) (s : State) (names : List (List ℕ)) (rest : List 
     (others : Result (List Listed) TextFault)
     → Fails e (number >>= λ c. (read >>= put_literals names rest) >>= put_product c)
     → Fails e (put_all s ((number >>= λ c. read >>= listed c) >>= before others))
-one_fails answers.NoMemory s names rest number read others h = tt
-one_fails (answers.Bad f) s names rest (Err g) read others h = let same : g ≡ f = cc in ap (λ e. Err e) same
-one_fails (answers.Bad f) s names rest (Ok c) (Err g) others h = let same : g ≡ f = cc in ap (λ e. Err e) same
-one_fails (answers.Bad f) s names rest (Ok c) (Ok ls) others h = absurd cc
+one_fails e s names rest number read others h = grind (arith, nat_tests, ints)
 
 -- ---- words
 
 abbrev products_by : List Word → Result (List Listed) TextFault
 products_by ws = each product_at (by_line ws)
 
-first_line : (w : Word) (ws : List Word)
-    → products_by (w ∷ ws)
+first_line : (w : Word) (ws : List Word) → products_by (w ∷ ws)
     ≡ product_at (row_of w (on_line w.line ws)) >>= before (products_by (past_line w.line ws))
 unfolding each
 first_line w ws = ap (each product_at) (by_line-first w ws)
@@ -106,10 +86,7 @@ product_goes_on p names names' w ws rest t h =
 pub product_fails : (e : TextAnswer) (p : ProblemContent) (names : List (List ℕ)) (w : Word)
     (ws : List Word) → Fails e (product_read names w ws) → Fails e (products_put (p, names) (w ∷ ws))
 unfolding reading_of_words product_at
-product_fails e p names w ws h =
-    let same = ap (put_all (p, names)) (first_line w ws) in
-    subst (Fails e) (sym same)
-    (one_fails e (p, names) names (past_line w.line ws) (integer_at w) (each literal_at (on_line w.line ws)) (products_by (past_line w.line ws)) h)
+product_fails e p names w ws h = grind (arith, nat_tests, first_line, one_fails)
 
 pub products_end : (s : State) (ws : List Word) → ws ≡ [] → products_put s ws ≡ Ok s
 unfolding reading_of_words each by_line

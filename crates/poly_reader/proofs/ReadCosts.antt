@@ -1,15 +1,5 @@
 -- What the problem of a text costs: what the text costs, product by product.
-use Rattle.std.proofs.Common.{◌≡◌, ℕ, Bool, ◌&&◌, List, [], ◌∷◌, map, pos, ◌+ℤ◌, refl, ap, ◌∙◌, arith}
-use Rattle.std.specs.List.{list_all}
-use Rattle.std.proofs.lemmas.Int.{ints}
-use Rattle.base.specs.declared.costs.Cost.TheVariants.{Whole}
-use Rattle.base.specs.Sums.{total_by, if_so}
-use Rattle.literal_lists.specs.Literals.{all_hold}
-use Rattle.problem_form.specs.Problems.{sum_of, problem_cost}
-use Rattle.problem_form.proofs.NormalForms.{normal_form-cost}
-use Rattle.poly_reader.specs.Poly.{Named, Listed}
-use Rattle.poly_reader.specs.Numbering.{names_of}
-use Rattle.poly_reader.specs.Cost.{is_true, value_of, poly_cost, literal_of, product_of, problem_of, ReadingKeepsCosts}
+use Rattle.poly_reader.proofs.Common.{nat_tests, ◌≡◌, ℕ, Bool, ◌&&◌, List, [], ◌∷◌, map, ◌+ℤ◌, refl, ◌∙◌, arith, list_all, total_by, if_so, all_hold, sum_of, problem_cost, normal_form-cost, Named, Listed, is_true, value_of, poly_cost, literal_of, product_of, problem_of, ReadingKeepsCosts}
 
 all_hold-numbered : (names : List (List ℕ)) (x : List Bool) (ls : List Named)
     → all_hold x (map (literal_of names) ls) ≡ list_all (is_true names x) ls
@@ -24,11 +14,7 @@ sum_of-listed names x (t ∷ ts) =
 
 problem_of-cost : (ts : List Listed) (x : List Bool)
     → problem_cost (problem_of ts) x ≡ poly_cost ts x
-problem_of-cost ts x =
-    let names = names_of ts in
-    let sum = sum_of x (map (product_of names) ts) in
-    let whole : pos 0 +ℤ sum +ℤ pos 0 ≡ sum = omega (arith, ints) in
-    ap (λ z. Whole z) (whole ∙ sum_of-listed names x ts)
+problem_of-cost ts x = grind (arith, nat_tests, sum_of-listed)
 
 pub reading_keeps_costs : ReadingKeepsCosts
 reading_keeps_costs ts x = normal_form-cost (problem_of ts) x ∙ problem_of-cost ts x

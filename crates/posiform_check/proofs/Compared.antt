@@ -1,32 +1,12 @@
 -- The tables of a model and of a certificate have the coefficients of their bit forms, so the first
 -- difference of the one is that of the other.
-use Rattle.std.proofs.Common.{◌≡◌, ◌≢◌, Bool, true, false, List, [], ◌∷◌, ◌++◌, ℤ, pos, ◌+ℤ◌, ◌-ℤ◌, ◌*ℤ◌, ◌≤ℤ◌, int_lt, Option, Some, None, refl, sym, ap, subst, ◌∙◌, arith, All}
-use Rattle.std.specs.Prelude.{if◌then◌else◌}
-use Rattle.std.specs.List.{flat_map, AllByRecursion}
-use Rattle.std.specs.Ordering.{is_eq}
+use Rattle.posiform_check.proofs.Common.{nat_tests, elements, ◌≡◌, ◌≢◌, Bool, false, List, [], ◌∷◌, ◌++◌, ℤ, pos, ◌+ℤ◌, ◌-ℤ◌, ◌≤ℤ◌, int_lt, Option, Some, None, refl, sym, ap, subst, ◌∙◌, arith, All, if◌then◌else◌, flat_map, AllByRecursion, is_eq, ints, All-from_recursion, recursion_from_All, if_so, total_by, total_by-append, Entry, Kind, energy, Written, form_of, Literal, Term, set_cmp, coefficient_of, with_additions, if_so-plus, weight-in_front, coefficient_of-with_additions, OfSet, Under, All-with_additions, nonzero-in_front, nonzero-with_additions, Ascends-in_front, Ascends-with_additions, Line, CertificateContent, bit_sets, spin_sets, entry_constant, entry_sets, entry_terms, model_list, model_terms, certificate_terms, AreSameForms, first_negative, IsRefusal, FaultsProveNothing, Proves, DifferAt, difference}
 use Rattle.std.specs.declared.cmp.Ordering.TheVariants.{Less}
-use Rattle.std.proofs.lemmas.Int.{ints}
-use Rattle.std.proofs.lemmas.List.Elements.{All-from_recursion, recursion_from_All}
-use Rattle.base.specs.Sums.{if_so, total_by}
-use Rattle.base.proofs.Totals.{total_by-append}
-use Rattle.bits_model.specs.declared.output.Entry.{Entry}
-use Rattle.bits_model.specs.declared.output.Kind.{Kind}
 use Rattle.bits_model.specs.declared.output.Kind.TheVariants.{Qubo, Ising, Chimera}
-use Rattle.base.specs.Costs.{energy}
-use Rattle.bits_model.specs.Output.{Written, form_of, is_node}
-use Rattle.literal_lists.specs.declared.literal.Literal.{Literal}
-use Rattle.term_table.specs.Terms.{Term, set_cmp, coefficient_of, with_additions}
-use Rattle.term_table.proofs.Additions.{if_so-plus, weight-in_front, coefficient_of-with_additions}
-use Rattle.term_table.proofs.KeptTerms.{OfSet, Under, All-with_additions, nonzero-in_front, nonzero-with_additions, Ascends-in_front, Ascends-with_additions}
-use Rattle.posiform_check.specs.declared.lines.Line.{Line}
-use Rattle.posiform_check.specs.BitForms.{CertificateContent, node_set, pair_set, coupling_sets, bit_sets, spin_sets, entry_constant, entry_sets, entry_terms, model_list, model_terms, certificate_terms, AreSameForms}
-use Rattle.posiform_check.specs.declared.faults.ProofFault.TheVariants.{Negative, Differs, NotZero}
+use Rattle.posiform_check.specs.declared.faults.ProofFault.TheVariants.{NotZero}
 use Rattle.posiform_check.specs.declared.faults.ProofAnswer.TheVariants.{Fault}
-use Rattle.posiform_check.specs.Certificates.{first_negative, IsRefusal, FaultsProveNothing}
-use Rattle.posiform_check.specs.Proved.{Proves}
 use Rattle.posiform_check.proofs.Energies.{model_value}
 use Rattle.posiform_check.proofs.Values.{same_value, bound_below}
-use Rattle.posiform_check.specs.Differences.{DifferAt, difference}
 use Rattle.posiform_check.proofs.FirstDifferences.{Says, difference_says}
 
 -- ---- the constant apart from the sets
@@ -39,33 +19,18 @@ apart : (kind : Kind) (set : List Literal) (es : List Entry)
     → coefficient_of set (flat_map (entry_terms kind) es)
     ≡ if_so (is_none set) (total_by (entry_constant kind) es)
     +ℤ coefficient_of set (flat_map (entry_sets kind) es)
-apart kind set [] = nothing (is_none set)
-  where
-    nothing : (b : Bool) → pos 0 ≡ if_so b (pos 0) +ℤ pos 0
-    nothing true = refl
-    nothing false = refl
+apart kind set [] = grind (arith, nat_tests, ints, elements)
 apart kind set (e ∷ es) =
     let share : Term → ℤ = λ (t : Term). if_so (is_eq (set_cmp set t.0)) t.1 in
-    omega (
-      arith,
-      ints,
-      total_by-append share (entry_terms kind e) (flat_map (entry_terms kind) es),
-      total_by-append share (entry_sets kind e) (flat_map (entry_sets kind) es),
-      apart kind set es,
-      if_so-plus (is_none set) (entry_constant kind e) (total_by (entry_constant kind) es),
-    )
+    let total = total_by-append share (entry_terms kind e) (flat_map (entry_terms kind) es) in
+    let total_append = total_by-append share (entry_sets kind e) (flat_map (entry_sets kind) es) in
+    let same = if_so-plus (is_none set) (entry_constant kind e) (total_by (entry_constant kind) es) in
+    omega (arith, ints, apart kind set es)
 
 pub model_list-coefficients : (m : Written) (set : List Literal)
     → coefficient_of set (model_list m) ≡ coefficient_of set (model_terms m)
 model_list-coefficients m set =
-    omega (
-      arith,
-      ints,
-      weight-in_front (λ ls. is_eq (set_cmp set ls)) [] (total_by (entry_constant m.kind) m.entries)
-          (with_additions [] (flat_map (entry_sets m.kind) m.entries)),
-      coefficient_of-with_additions set (flat_map (entry_sets m.kind) m.entries),
-      apart m.kind set m.entries,
-    )
+    grind (arith, nat_tests, elements, weight-in_front, coefficient_of-with_additions, apart)
 
 -- ---- the constant stands before the sets
 
@@ -73,24 +38,10 @@ abbrev IsAfterNone : List Literal → Type 0
 IsAfterNone ls = set_cmp [] ls ≡ Less
 
 bit_sets-after : (e : Entry) → AllByRecursion (OfSet IsAfterNone) (bit_sets e)
-bit_sets-after e = go (is_node e)
-  where
-    go : (node : Bool)
-        → AllByRecursion (OfSet IsAfterNone)
-        ((if node then node_set e.first else pair_set e.first e.second, e.weight) ∷ [])
-    go true = (refl, tt)
-    go false = (refl, tt)
+bit_sets-after e = grind (arith, nat_tests)
 
 spin_sets-after : (e : Entry) → AllByRecursion (OfSet IsAfterNone) (spin_sets e)
-spin_sets-after e = go (is_node e)
-  where
-    go : (node : Bool)
-        → AllByRecursion (OfSet IsAfterNone)
-        (if node
-        then (node_set e.first, pos 2 *ℤ e.weight) ∷ []
-        else coupling_sets e.first e.second e.weight)
-    go true = (refl, tt)
-    go false = (refl, (refl, (refl, tt)))
+spin_sets-after e = grind (arith, nat_tests)
 
 entry_sets-after : (kind : Kind) (e : Entry)
     → AllByRecursion (OfSet IsAfterNone) (entry_sets kind e)
@@ -128,15 +79,7 @@ none_under kind es =
 -- what is the first difference of lists is that of forms with their coefficients
 differ_alike : (ts us ts' us' : List Term) (a b : ℤ) → AreSameForms ts ts' → AreSameForms us us'
     → DifferAt ts us a b → DifferAt ts' us' a b
-differ_alike ts us ts' us' a b s s' d = (
-  d.0,
-  record {
-    differs = λ e. d.1.differs (s d.0 ∙ e ∙ sym (s' d.0));
-    first = λ other less. sym (s other) ∙ d.1.first other less ∙ s' other;
-  },
-  sym (s d.0) ∙ d.2,
-  sym (s' d.0) ∙ d.3,
-)
+differ_alike ts us ts' us' a b s s' d = grind (arith, nat_tests, ints)
 
 -- what the comparison says of a model and of a certificate
 abbrev pub SaysOf : Option (ℤ × ℤ) → Written → CertificateContent → Type 0
@@ -144,12 +87,9 @@ SaysOf None m c = AreSameForms (model_terms m) (certificate_terms c)
 SaysOf (Some found) m c = DifferAt (model_terms m) (certificate_terms c) found.0 found.1
 
 pub comparison_says : (m : Written) (c : CertificateContent) (found : Option (ℤ × ℤ))
-    → found ≡ difference (model_list m) (with_additions [] (certificate_terms c))
-    → SaysOf found m c
+    → found ≡ difference (model_list m) (with_additions [] (certificate_terms c)) → SaysOf found m c
 comparison_says m c found e =
-    go found
-    (subst (λ f. Says f ts us) (sym e)
-    (difference_says ts us
+    go found (subst (λ f. Says f ts us) (sym e) (difference_says ts us
     (Ascends-in_front [] constant sets (none_under m.kind m.entries) (Ascends-with_additions added))
     (Ascends-with_additions (certificate_terms c))
     (nonzero-in_front [] constant sets (nonzero-with_additions added))
@@ -182,21 +122,10 @@ comparison_says m c found e =
 
 -- ---- signs
 
-negative_or : (c : ℤ) → int_lt c (pos 0) ≡ false → pos 0 ≤ℤ c
-negative_or c e = grind (arith, ints)
-
 none_negative : (ls : List Line) → first_negative ls ≡ None
     → AllByRecursion (λ (l : Line). pos 0 ≤ℤ l.coefficient) ls
 none_negative [] e = tt
-none_negative (l ∷ ls) e = go (int_lt l.coefficient (pos 0)) refl e (none_negative ls)
-  where
-    go : (b : Bool) → int_lt l.coefficient (pos 0) ≡ b
-        → (if b then Some l.line else first_negative ls) ≡ None
-        → (first_negative ls ≡ None
-        → AllByRecursion (λ (k : Line). pos 0 ≤ℤ k.coefficient) ls)
-        → AllByRecursion (λ (k : Line). pos 0 ≤ℤ k.coefficient) (l ∷ ls)
-    go true h k rest = absurd cc
-    go false h k rest = (negative_or l.coefficient h, rest k)
+none_negative (l ∷ ls) e = grind (arith, nat_tests, ints, none_negative ls)
 
 pub signs : (ls : List Line) → first_negative ls ≡ None
     → All (λ (l : Line). pos 0 ≤ℤ l.coefficient) ls
@@ -211,13 +140,8 @@ pub not_zero : (m : Written) (c : CertificateContent) (y : List Bool) (e above :
     → IsRefusal m c y (Fault (NotZero above))
 not_zero m c y e above none same is differ by =
     let low : c.bound ≤ℤ energy (form_of m) y =
-    omega (
-      arith,
-      ints,
-      model_value m y,
-      same_value (model_terms m) (certificate_terms c) same y,
-      bound_below c y (signs c.lines none),
-    ) in
+    let value = same_value (model_terms m) (certificate_terms c) same y in
+    omega (arith, ints, model_value m y, bound_below c y (signs c.lines none)) in
     (none, same, omega (arith, ints, is, by), omega (arith, ints, is, by, differ, low))
 
 pub proved : (m : Written) (c : CertificateContent) (y : List Bool) (e : ℤ)
@@ -242,13 +166,4 @@ first_none (l ∷ ls) h =
     ∙ first_none ls h.1
 
 pub faults_prove_nothing : FaultsProveNothing
-faults_prove_nothing m c y (Negative line) fault p =
-    let none = first_none c.lines
-    (recursion_from_All (λ (l : Line). pos 0 ≤ℤ l.coefficient) c.lines p.signs) in
-    absurd (no (sym none ∙ fault))
-  where
-    no : None ≡ Some line → ⊥
-    no e = absurd cc
-faults_prove_nothing m c y (Differs a b) fault p = fault.1.1.differs (p.forms fault.1.0)
-faults_prove_nothing m c y (NotZero above) fault p =
-    absurd (omega (arith, ints, p.bound, fault.2, fault.3))
+faults_prove_nothing m c y is fault p = grind (arith, nat_tests, first_none, recursion_from_All)

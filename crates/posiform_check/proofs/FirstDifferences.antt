@@ -1,19 +1,6 @@
 -- The difference of two ascending lists without zeros is the first set whose coefficients differ.
-use Rattle.std.proofs.Common.{◌≡◌, ◌≢◌, Bool, true, false, List, [], ◌∷◌, ℤ, pos, Option, Some, None, refl, sym, ap, subst, ◌∙◌, arith, All}
-use Rattle.std.specs.Prelude.{if◌then◌else◌}
-use Rattle.std.specs.List.Sorted.{IsStrictlySortedBy}
-use Rattle.std.specs.Ordering.{int_eq, is_eq, match_ordering}
-use Rattle.std.specs.declared.cmp.Ordering.{Ordering}
+use Rattle.posiform_check.proofs.Common.{nat_tests, ◌≡◌, ◌≢◌, Bool, true, false, List, [], ◌∷◌, ℤ, pos, Option, Some, None, refl, sym, ap, subst, ◌∙◌, arith, All, if◌then◌else◌, IsStrictlySortedBy, int_eq, is_eq, match_ordering, Ordering, ints, Decides-int_eq, All-head, All-tail, if_so, Literal, Term, set_cmp, coefficient_of, Ascends, same_set, set_itself, Under, Under-further, greater_back, DifferAt, difference}
 use Rattle.std.specs.declared.cmp.Ordering.TheVariants.{Less, Equal, Greater}
-use Rattle.std.proofs.lemmas.Int.{ints}
-use Rattle.std.proofs.lemmas.Bool.Decides.{Decides-int_eq}
-use Rattle.std.proofs.lemmas.List.Elements.{All-head, All-tail}
-use Rattle.base.specs.Sums.{if_so}
-use Rattle.literal_lists.specs.declared.literal.Literal.{Literal}
-use Rattle.term_table.specs.Terms.{Term, set_cmp, coefficient_of, Ascends}
-use Rattle.term_table.proofs.SetOrder.{same_set, set_itself}
-use Rattle.term_table.proofs.KeptTerms.{Under, Under-further, greater_back}
-use Rattle.posiform_check.specs.Differences.{DifferAt, difference}
 
 -- what the first term gives a set
 abbrev given : List Literal → Term → ℤ
@@ -38,8 +25,7 @@ first_given t ts under =
 
 before_first : (ls : List Literal) (t : Term) (ts : List Term) → set_cmp ls t.0 ≡ Less
     → Under t.0 ts → coefficient_of ls (t ∷ ts) ≡ pos 0
-before_first ls t ts less under =
-    none_under ls (t ∷ ts) (less, Under-further ls t.0 ts less under)
+before_first ls t ts less under = none_under ls (t ∷ ts) (less, Under-further ls t.0 ts less under)
 
 -- the other list has only later sets
 left_alone : (t : Term) (ts us : List Term) → IsNonzero t → Under t.0 ts → Under t.0 us
@@ -47,10 +33,8 @@ left_alone : (t : Term) (ts us : List Term) → IsNonzero t → Under t.0 ts →
 left_alone t ts us nonzero under later = (
   t.0,
   record {
-    differs =
-        λ same. nonzero (sym (first_given t ts under) ∙ same ∙ none_under t.0 us later);
-    first = λ ls less.
-        before_first ls t ts less under
+    differs = λ same. nonzero (sym (first_given t ts under) ∙ same ∙ none_under t.0 us later);
+    first = λ ls less. before_first ls t ts less under
         ∙ sym (none_under ls us (Under-further ls t.0 us less later));
   },
   first_given t ts under,
@@ -62,10 +46,8 @@ right_alone : (ts : List Term) (u : Term) (us : List Term) → IsNonzero u → U
 right_alone ts u us nonzero later under = (
   u.0,
   record {
-    differs =
-        λ same. nonzero (sym (first_given u us under) ∙ sym same ∙ none_under u.0 ts later);
-    first = λ ls less.
-        none_under ls ts (Under-further ls u.0 ts less later)
+    differs = λ same. nonzero (sym (first_given u us under) ∙ sym same ∙ none_under u.0 ts later);
+    first = λ ls less. none_under ls ts (Under-further ls u.0 ts less later)
         ∙ sym (before_first ls u us less under);
   },
   none_under u.0 ts later,
@@ -76,48 +58,16 @@ right_alone ts u us nonzero later under = (
 
 both_differ : (t u : Term) (ts us : List Term) → t.0 ≡ u.0 → t.1 ≢ u.1 → Under t.0 ts
     → Under u.0 us → DifferAt (t ∷ ts) (u ∷ us) t.1 u.1
-both_differ t u ts us set other a b =
-    let here : coefficient_of t.0 (u ∷ us) ≡ u.1 =
-    ap (λ ls. coefficient_of ls (u ∷ us)) set ∙ first_given u us b in (
-      t.0,
-      record {
-        differs = λ same. other (sym (first_given t ts a) ∙ same ∙ here);
-        first = λ ls less.
-            before_first ls t ts less a
-            ∙ sym (before_first ls u us (ap (set_cmp ls) (sym set) ∙ less) b);
-      },
-      first_given t ts a,
-      here,
-    )
+both_differ t u ts us set other a b = grind (arith, nat_tests, first_given, before_first)
 
 -- a set whose coefficients differ further on is not the first one
 is_other : (ls ks : List Literal) (c : ℤ) → ls ≢ ks → if_so (is_eq (set_cmp ls ks)) c ≡ pos 0
-is_other ls ks c apart = go (set_cmp ls ks) refl
-  where
-    go : (o : Ordering) → set_cmp ls ks ≡ o → if_so (is_eq o) c ≡ pos 0
-    go Less e = refl
-    go Equal e = absurd (apart (same_set ls ks e))
-    go Greater e = refl
+is_other ls ks c apart = grind (arith, nat_tests, ints, same_set)
 
 differ_later : (t u : Term) (ts us : List Term) (a b : ℤ) → t ≡ u → Under t.0 ts → Under t.0 us
     → DifferAt ts us a b → DifferAt (t ∷ ts) (u ∷ us) a b
 differ_later t u ts us a b same under_t under_u later =
-    let apart : later.0 ≢ t.0 =
-    λ e. later.1.differs
-    (ap (λ ls. coefficient_of ls ts) e ∙ none_under t.0 ts under_t
-    ∙ sym (ap (λ ls. coefficient_of ls us) e ∙ none_under t.0 us under_u)) in
-    let none : given later.0 t ≡ pos 0 = is_other later.0 t.0 t.1 apart in
-    let none_too : given later.0 u ≡ pos 0 = ap (given later.0) (sym same) ∙ none in (
-      later.0,
-      record {
-        differs = λ e. later.1.differs (omega (arith, ints, e, none, none_too));
-        first = λ ls less.
-            let one : given ls t ≡ given ls u = ap (given ls) same in
-            omega (arith, ints, later.1.first ls less);
-      },
-      omega (arith, ints, none, later.2),
-      omega (arith, ints, none_too, later.3),
-    )
+    grind (arith, nat_tests, ints, none_under, is_other)
 
 -- ---- all
 
@@ -130,10 +80,8 @@ pub difference_says : (ts us : List Term) → Ascends ts → Ascends us → All 
     → All IsNonzero us → Says (difference ts us) ts us
 unfolding IsStrictlySortedBy
 difference_says [] [] a b m n = refl
-difference_says [] (u ∷ us) a b m n =
-    right_alone [] u us (All-head IsNonzero u us n) tt b.0
-difference_says (t ∷ ts) [] a b m n =
-    left_alone t ts [] (All-head IsNonzero t ts m) a.0 tt
+difference_says [] (u ∷ us) a b m n = right_alone [] u us (All-head IsNonzero u us n) tt b.0
+difference_says (t ∷ ts) [] a b m n = left_alone t ts [] (All-head IsNonzero t ts m) a.0 tt
 difference_says (t ∷ ts) (u ∷ us) a b m n =
     go (set_cmp t.0 u.0) refl
     (difference_says ts us a.1 b.1 (All-tail IsNonzero t ts m) (All-tail IsNonzero u us n))
@@ -155,15 +103,11 @@ difference_says (t ∷ ts) (u ∷ us) a b m n =
             (subst (λ (ls : List Literal). Under ls us) (sym set) b.0) differ
 
     go : (o : Ordering) → set_cmp t.0 u.0 ≡ o → Says (difference ts us) ts us
-        → Says
-        (match_ordering o
-        (Some (t.1, pos 0))
-        (if int_eq t.1 u.1 then difference ts us else Some (t.1, u.1))
-        (Some (pos 0, u.1)))
+        → Says (match_ordering o (Some (t.1, pos 0))
+        (if int_eq t.1 u.1 then difference ts us else Some (t.1, u.1)) (Some (pos 0, u.1)))
         (t ∷ ts) (u ∷ us)
     go Less e rest =
-        left_alone t ts (u ∷ us) (All-head IsNonzero t ts m) a.0
-        (e, Under-further t.0 u.0 us e b.0)
+        left_alone t ts (u ∷ us) (All-head IsNonzero t ts m) a.0 (e, Under-further t.0 u.0 us e b.0)
     go Equal e rest = equal (int_eq t.1 u.1) refl (same_set t.0 u.0 e) rest
     go Greater e rest =
         let back = greater_back t.0 u.0 e in

@@ -1,19 +1,7 @@
 -- The first fault as it is computed: without one the state is proved, and each one is why it is not.
-use Rattle.std.proofs.Common.{◌≡◌, ◌≢◌, Bool, true, false, List, ℕ, ℤ, pos, ◌-ℤ◌, Option, Some, None, refl, ap, subst, arith}
-use Rattle.std.specs.Prelude.{if◌then◌else◌}
-use Rattle.std.specs.Ordering.{int_eq}
-use Rattle.std.proofs.lemmas.Int.{ints}
-use Rattle.std.proofs.lemmas.Bool.Decides.{Decides-int_eq}
-use Rattle.base.specs.Costs.{energy}
-use Rattle.bits_model.specs.Output.{Written, form_of}
-use Rattle.posiform_check.specs.declared.faults.ProofFault.{ProofFault}
+use Rattle.posiform_check.proofs.Common.{◌≡◌, ◌≢◌, Bool, true, false, List, ℕ, ℤ, pos, ◌-ℤ◌, Option, Some, None, refl, ap, subst, arith, if◌then◌else◌, int_eq, ints, Decides-int_eq, energy, Written, form_of, ProofFault, CertificateContent, model_list, certificate_list, difference, first_negative, IsRefusal, first_of, proof_fault, FirstFaultsTell, Proves}
 use Rattle.posiform_check.specs.declared.faults.ProofFault.TheVariants.{NotZero}
 use Rattle.posiform_check.specs.declared.faults.ProofAnswer.TheVariants.{Fault}
-use Rattle.posiform_check.specs.BitForms.{CertificateContent, model_list, certificate_list}
-use Rattle.posiform_check.specs.Differences.{difference}
-use Rattle.posiform_check.specs.Certificates.{first_negative, IsRefusal}
-use Rattle.posiform_check.specs.FirstFaults.{first_of, proof_fault, FirstFaultsTell}
-use Rattle.posiform_check.specs.Proved.{Proves}
 use Rattle.posiform_check.proofs.Compared.{comparison_says, not_zero, proved, faults_prove_nothing}
 
 -- a number that is not 0 is the fault, where none comes before it
@@ -40,8 +28,7 @@ module _ (m : Written) (c : CertificateContent) (y : List Bool) where
   abbrev last_of : Bool → Option ProofFault
   last_of b = if b then None else Some (NotZero above)
 
-  told_last : first_negative c.lines ≡ None
-      → None ≡ difference (model_list m) (certificate_list c)
+  told_last : first_negative c.lines ≡ None → None ≡ difference (model_list m) (certificate_list c)
       → (b : Bool) → int_eq above (pos 0) ≡ b → Told (last_of b)
   told_last none found true e =
       let zero = (Decides-int_eq above (pos 0)).0 e in

@@ -1,29 +1,6 @@
 -- The terms of a model and of a certificate, one after another, and that they fit a table.
-use Rattle.std.proofs.Common.{◌≡◌, ◌≢◌, cond, fold, ℕ, suc, ◌+◌, ◌*◌, ◌<◌, ◌≤◌, ◌^◌, Bool, true, false, List, [], ◌∷◌, ◌++◌, length, map, ℤ, pos, ◌*ℤ◌, neg_ℤ, unsigned_abs, None, refl, sym, ap, subst, ◌∙◌, arith, All}
-use Rattle.std.specs.Prelude.{if◌then◌else◌, nat_lt, max}
-use Rattle.std.specs.List.{flat_map, sum_by, AllByRecursion}
-use Rattle.std.proofs.lemmas.Int.{ints}
-use Rattle.std.proofs.lemmas.Bool.Decides.{Decides-eqb, nat_tests}
-use Rattle.std.proofs.lemmas.List.Sums.{sum_by-cons}
-use Rattle.std.proofs.lemmas.List.Elements.{All-from_recursion, recursion_from_All}
-use Rattle.bits_model.specs.declared.output.Entry.{Entry}
-use Rattle.bits_model.specs.declared.output.Kind.{Kind}
+use Rattle.posiform_check.proofs.Common.{◌≡◌, fold, ℕ, ◌+◌, ◌*◌, ◌<◌, ◌≤◌, ◌^◌, Bool, true, false, List, [], ◌∷◌, ◌++◌, length, map, ℤ, pos, ◌*ℤ◌, neg_ℤ, unsigned_abs, None, refl, sym, ap, subst, ◌∙◌, arith, All, nat_lt, max, flat_map, sum_by, AllByRecursion, ints, nat_tests, sum_by-cons, All-from_recursion, recursion_from_All, Entry, Kind, is_node, weight_total, IsPlaced, Literal, Term, terms_total, IsTermSet, TableContent, AreAdditions, with_more, terms_total-append, terms_total-cons, OfSet, IsTermSet-none, IsTermSet-one, IsTermSet-two, AreFew, complements-cons, contributions-grow, contributions-sets, complements, contributions, behind, behind-nothing, additions_first, additions_second, both_made, Line, IsLine, IsCertificate, AreOfNodes, certificate_fault, most_literals, CertificateContent, line_terms, certificate_terms, bit, node_set, pair_set, coupling_sets, bit_sets, spin_constant, spin_sets, entry_constant, entry_sets}
 use Rattle.bits_model.specs.declared.output.Kind.TheVariants.{Qubo, Ising, Chimera}
-use Rattle.bits_model.specs.Output.{is_node, weight_total, IsPlaced}
-use Rattle.literal_lists.specs.declared.literal.Literal.{Literal}
-use Rattle.term_table.specs.Terms.{Term, terms_total, IsTermSet}
-use Rattle.term_table.specs.Tables.{TableContent, AreAdditions, with_more}
-use Rattle.term_table.proofs.Additions.{terms_total-append, terms_total-cons}
-use Rattle.term_table.proofs.KeptTerms.{OfSet}
-use Rattle.term_table.proofs.SmallSets.{IsTermSet-none, IsTermSet-one, IsTermSet-two}
-use Rattle.term_table.proofs.PlainSums.{AreFew, complements-cons, contributions-grow}
-use Rattle.term_table.proofs.PlainSets.{contributions-sets}
-use Rattle.term_table.specs.MultipliedOut.{complements, contributions}
-use Rattle.normal_form.specs.Behind.{behind}
-use Rattle.normal_form.proofs.PlainSteps.{behind-nothing, additions_first, additions_second, both_made}
-use Rattle.posiform_check.specs.declared.lines.Line.{Line}
-use Rattle.posiform_check.specs.Certificates.{IsLine, IsCertificate, AreOfNodes, certificate_fault, most_literals}
-use Rattle.posiform_check.specs.BitForms.{CertificateContent, line_terms, certificate_terms, bit, node_set, pair_set, coupling_sets, bit_sets, spin_constant, spin_sets, entry_constant, entry_sets}
 
 -- ---- a coupling, term by term
 
@@ -53,8 +30,7 @@ module _ (old : TableContent) (i j : ℕ) (w : ℤ)
       (first ∷ second ∷ third ∷ []) refl made fits in
       rw e (additions_first now (second ∷ []) (third ∷ []) (second ∷ third ∷ []) refl rest)
 
-  two_made : (now next : TableContent)
-      → now ≡ with_more old ((node_set i, neg_ℤ (pos 2 *ℤ w)) ∷ [])
+  two_made : (now next : TableContent) → now ≡ with_more old ((node_set i, neg_ℤ (pos 2 *ℤ w)) ∷ [])
       → next ≡ with_more now ((node_set j, neg_ℤ (pos 2 *ℤ w)) ∷ [])
       → next ≡ with_more old (first ∷ second ∷ [])
   two_made now next made more =
@@ -72,17 +48,13 @@ module _ (old : TableContent) (i j : ℕ) (w : ℤ)
 
 -- the sets of an entry are of the model's nodes
 below_one : (n : ℕ) (e : Entry) → IsPlaced n e → IsTermSet n (node_set e.first)
-below_one n e placed =
-    IsTermSet-one n (bit e.first) (omega (arith, placed.upward, placed.within))
+below_one n e placed = IsTermSet-one n (bit e.first) (omega (arith, placed.upward, placed.within))
 
 below_two : (n : ℕ) (e : Entry) → IsPlaced n e → IsTermSet n (node_set e.second)
 below_two n e placed = IsTermSet-one n (bit e.second) placed.within
 
 upward : (e : Entry) (n : ℕ) → IsPlaced n e → is_node e ≡ false → e.first < e.second
-upward e n placed other =
-    let differ : e.first ≢ e.second =
-    λ same. let h = (Decides-eqb e.first e.second).1 same in absurd cc in
-    omega (arith, placed.upward, differ)
+upward e n placed other = grind (arith, nat_tests)
 
 below_pair : (n : ℕ) (e : Entry) → IsPlaced n e → is_node e ≡ false
     → IsTermSet n (pair_set e.first e.second)
@@ -93,25 +65,17 @@ abbrev AreSets : ℕ → List Term → Type 0
 AreSets n ts = AllByRecursion (OfSet (IsTermSet n)) ts
 
 bit_sets-sets : (n : ℕ) (e : Entry) → IsPlaced n e → AreSets n (bit_sets e)
-bit_sets-sets n e placed = go (is_node e) refl
-  where
-    go : (node : Bool) → is_node e ≡ node
-        → AreSets n
-        ((if node then node_set e.first else pair_set e.first e.second, e.weight) ∷ [])
-    go true h = (below_one n e placed, tt)
-    go false h = (below_pair n e placed h, tt)
+bit_sets-sets n e placed =
+    let below = below_one n e placed in
+    let pair = below_pair n e placed in
+    grind (arith, nat_tests)
 
 spin_sets-sets : (n : ℕ) (e : Entry) → IsPlaced n e → AreSets n (spin_sets e)
-spin_sets-sets n e placed = go (is_node e) refl
-  where
-    go : (node : Bool) → is_node e ≡ node
-        → AreSets n
-        (if node
-        then (node_set e.first, pos 2 *ℤ e.weight) ∷ []
-        else coupling_sets e.first e.second e.weight)
-    go true h = (below_one n e placed, tt)
-    go false h =
-        (below_one n e placed, (below_two n e placed, (below_pair n e placed h, tt)))
+spin_sets-sets n e placed =
+    let below = below_one n e placed in
+    let two = below_two n e placed in
+    let pair = below_pair n e placed in
+    grind (arith, nat_tests, ints)
 
 entry_sets-sets : (kind : Kind) (n : ℕ) (e : Entry) → IsPlaced n e → AreSets n (entry_sets kind e)
 entry_sets-sets Qubo n e placed = bit_sets-sets n e placed
@@ -123,37 +87,10 @@ total_one : (ls : List Literal) (c : ℤ) → terms_total ((ls, c) ∷ []) ≡ u
 total_one ls c = omega (arith, terms_total-cons (ls, c) [])
 
 bit_sets-total : (e : Entry) → terms_total (bit_sets e) ≤ 8 * unsigned_abs e.weight
-bit_sets-total e =
-    omega (
-      arith,
-      total_one (if is_node e then node_set e.first else pair_set e.first e.second) e.weight,
-    )
+bit_sets-total e = omega (arith, total_one)
 
 spin_sets-total : (e : Entry) → terms_total (spin_sets e) ≤ 8 * unsigned_abs e.weight
-spin_sets-total e = go (is_node e)
-  where
-    w : ℤ
-    w = e.weight
-
-    go : (node : Bool)
-        → terms_total
-        (if node
-        then (node_set e.first, pos 2 *ℤ e.weight) ∷ []
-        else coupling_sets e.first e.second e.weight)
-        ≤ 8 * unsigned_abs e.weight
-    go true = omega (arith, ints, total_one (node_set e.first) (pos 2 *ℤ e.weight))
-    go false =
-        omega (
-          arith,
-          ints,
-          terms_total-cons (node_set e.first, neg_ℤ (pos 2 *ℤ e.weight))
-              ((node_set e.second, neg_ℤ (pos 2 *ℤ e.weight))
-              ∷ (pair_set e.first e.second, pos 4 *ℤ e.weight)
-              ∷ []),
-          terms_total-cons (node_set e.second, neg_ℤ (pos 2 *ℤ e.weight))
-              ((pair_set e.first e.second, pos 4 *ℤ e.weight) ∷ []),
-          total_one (pair_set e.first e.second) (pos 4 *ℤ e.weight),
-        )
+spin_sets-total e = grind (arith, nat_tests)
 
 entry_sets-total : (kind : Kind) (e : Entry)
     → terms_total (entry_sets kind e) ≤ 8 * unsigned_abs e.weight
@@ -176,13 +113,7 @@ all_total : (kind : Kind) (es : List Entry)
     → terms_total (flat_map (entry_sets kind) es) ≤ 8 * weight_total es
 all_total kind [] = omega arith
 all_total kind (e ∷ es) =
-    omega (
-      arith,
-      terms_total-append (entry_sets kind e) (flat_map (entry_sets kind) es),
-      entry_sets-total kind e,
-      all_total kind es,
-      sum_by-cons (λ (x : Entry). unsigned_abs x.weight) e es,
-    )
+    omega (arith, terms_total-append, entry_sets-total, all_total kind es, sum_by-cons)
 
 -- the terms of a model's entries make a table
 pub model_fits : (kind : Kind) (n : ℕ) (es : List Entry) → All (IsPlaced n) es
@@ -211,8 +142,7 @@ pub next_left : (kind : Kind) (now next all : TableContent) (e : Entry) (left re
 next_left kind now next all e left rest steps whole made =
     both_made now next (with_more next (flat_map (entry_sets kind) rest)) (entry_sets kind e)
     (flat_map (entry_sets kind) rest) (flat_map (entry_sets kind) left)
-    (ap (flat_map (entry_sets kind)) steps) made refl
-    ∙ whole
+    (ap (flat_map (entry_sets kind)) steps) made refl ∙ whole
 
 -- ---- a certificate
 
@@ -224,22 +154,12 @@ lines_contribute : (ls : List Line) → flat_map line_terms ls ≡ contributions
 lines_contribute [] = refl
 lines_contribute (l ∷ ls) = ap (λ ts. line_terms l ++ ts) (lines_contribute ls)
 
-most_left : (a b m : ℕ) → max a b ≤ m → a ≤ m
-most_left a b m h = omega (arith, h)
-
-most_right : (a b m : ℕ) → max a b ≤ m → b ≤ m
-most_right a b m h = omega (arith, h)
-
 -- no number is above the greatest
 pub none_above : (a m : ℕ) (ls : List Line)
     → fold max a (map (λ (l : Line). length l.literals) ls) ≤ m
     → (a ≤ m) × AllByRecursion (λ (l : Line). length l.literals ≤ m) ls
 none_above a m [] h = (h, tt)
-none_above a m (l ∷ ls) h =
-    let rest = none_above (max a (length l.literals)) m ls h in (
-      most_left a (length l.literals) m rest.0,
-      (most_right a (length l.literals) m rest.0, rest.1),
-    )
+none_above a m (l ∷ ls) h = grind (arith, nat_tests, none_above (max a (length l.literals)) m ls h)
 
 few_literals : (c : CertificateContent) → certificate_fault c ≡ None → most_literals c.lines ≤ 8
 few_literals c e = go (nat_lt 8 (most_literals c.lines)) refl e
@@ -249,14 +169,10 @@ few_literals c e = go (nat_lt 8 (most_literals c.lines)) refl e
     go true h k = absurd cc
     go false h k = grind (arith, nat_tests)
 
+-- no set has more complements than literals
 pub few_complements : (l : List Literal) → complements l ≤ length l
 few_complements [] = omega arith
-few_complements (l ∷ ls) = go l.negated (complements-cons l ls) (few_complements ls)
-  where
-    go : (n : Bool) → complements (l ∷ ls) ≡ cond n 1 0 + complements ls
-        → complements ls ≤ length ls → complements (l ∷ ls) ≤ suc (length ls)
-    go true e rest = omega (arith, e, rest)
-    go false e rest = omega (arith, e, rest)
+few_complements (l ∷ ls) = grind (arith, nat_tests, complements-cons l ls, few_complements ls)
 
 lines_few : (ls : List Line) → AllByRecursion (λ (l : Line). length l.literals ≤ 8) ls
     → AreFew 8 (map term_of ls)
@@ -267,24 +183,13 @@ lines_sets : (n : ℕ) (ls : List Line) → AllByRecursion IsLine ls
     → AllByRecursion (λ (l : Line). All (λ k. k.variable < n) l.literals) ls
     → AllByRecursion (λ (l : Line). length l.literals ≤ 8) ls → AreSets n (map term_of ls)
 lines_sets n [] is within few = tt
-lines_sets n (l ∷ ls) is within few = (
-  record {
-    set = record { ordered = is.0.ordered; apart = is.0.apart; within = within.0 };
-    short = omega (arith, few.0);
-  },
-  lines_sets n ls is.1 within.1 few.1,
-)
+lines_sets n (l ∷ ls) is within few = grind (arith, nat_tests, lines_sets n ls is.1 within.1 few.1)
 
+-- lines have the sizes of their coefficients
 lines_total : (ls : List Line)
     → terms_total (map term_of ls) ≡ sum_by (λ (l : Line). unsigned_abs l.coefficient) ls
 lines_total [] = refl
-lines_total (l ∷ ls) =
-    omega (
-      arith,
-      terms_total-cons (term_of l) (map term_of ls),
-      lines_total ls,
-      sum_by-cons (λ (x : Line). unsigned_abs x.coefficient) l ls,
-    )
+lines_total (l ∷ ls) = omega (arith, terms_total-cons, lines_total ls, sum_by-cons)
 
 -- the terms of a certificate make a table
 pub certificate_fits : (n : ℕ) (c : CertificateContent) → IsCertificate c
@@ -304,14 +209,9 @@ certificate_fits n c is accepted within =
           All-from_recursion (OfSet (IsTermSet n)) (certificate_terms c)
           (IsTermSet-none n, subst (AreSets n) (sym same) rest);
       small =
-          omega (
-            arith,
-            is.small,
-            terms_total-cons ([], c.bound) (flat_map line_terms c.lines),
-            ap terms_total same,
-            contributions-grow 8 ts (lines_few c.lines few),
-            lines_total c.lines,
-          );
+          let terms = terms_total-cons ([], c.bound) (flat_map line_terms c.lines) in
+          let contributions_grow = contributions-grow 8 ts (lines_few c.lines few) in
+          omega (arith, is.small, ap terms_total same, lines_total c.lines);
     }
 
 -- its bound fits
@@ -332,8 +232,7 @@ line_fits now all l left rest steps whole fits =
 
 pub lines_left : (now next all : TableContent) (l : Line) (left rest : List Line)
     → left ≡ l ∷ rest → with_more now (flat_map line_terms left) ≡ all
-    → next ≡ with_more now (line_terms l)
-    → with_more next (flat_map line_terms rest) ≡ all
+    → next ≡ with_more now (line_terms l) → with_more next (flat_map line_terms rest) ≡ all
 lines_left now next all l left rest steps whole made =
     both_made now next (with_more next (flat_map line_terms rest)) (line_terms l)
     (flat_map line_terms rest) (flat_map line_terms left) (ap (flat_map line_terms) steps) made refl
@@ -342,12 +241,7 @@ lines_left now next all l left rest steps whole made =
 -- ---- the constants of a model's entries
 
 spin_constant-size : (e : Entry) → unsigned_abs (spin_constant e) ≤ unsigned_abs e.weight
-spin_constant-size e = go (is_node e)
-  where
-    go : (node : Bool)
-        → unsigned_abs (if node then neg_ℤ e.weight else e.weight) ≤ unsigned_abs e.weight
-    go true = omega (arith, ints)
-    go false = omega (arith, ints)
+spin_constant-size e = grind (arith, nat_tests)
 
 pub constant-size : (kind : Kind) (e : Entry)
     → unsigned_abs (entry_constant kind e) ≤ unsigned_abs e.weight
@@ -376,7 +270,5 @@ pub behind_left : (now next all : TableContent) (list : List Literal) (l : Line)
     → next ≡ with_more now (behind list (line_terms l))
     → with_more next (flat_map line_terms rest) ≡ all
 behind_left now next all list l left rest steps empty whole made =
-    lines_left now next all l left rest steps whole
-    (made
-    ∙ ap (with_more now)
+    lines_left now next all l left rest steps whole (made ∙ ap (with_more now)
     (ap (λ ls. behind ls (line_terms l)) empty ∙ behind-nothing (line_terms l)))

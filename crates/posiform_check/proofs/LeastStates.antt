@@ -1,10 +1,5 @@
 -- A proved state is least.
-use Rattle.std.proofs.Common.{List, Bool, ◌≤ℤ◌, arith}
-use Rattle.std.proofs.lemmas.Int.{ints}
-use Rattle.base.specs.Costs.{energy}
-use Rattle.bits_model.specs.Output.{Written, form_of}
-use Rattle.posiform_check.specs.BitForms.{CertificateContent, model_terms, certificate_terms}
-use Rattle.posiform_check.specs.Proved.{Proves, ProvedIsLeast}
+use Rattle.posiform_check.proofs.Common.{List, Bool, ◌≤ℤ◌, arith, ints, energy, Written, form_of, CertificateContent, model_terms, certificate_terms, Proves, ProvedIsLeast}
 use Rattle.posiform_check.proofs.Energies.{model_value}
 use Rattle.posiform_check.proofs.Values.{same_value, bound_below}
 
@@ -12,13 +7,8 @@ use Rattle.posiform_check.proofs.Values.{same_value, bound_below}
 pub energy_above : (m : Written) (c : CertificateContent) (y z : List Bool) → Proves m c y
     → c.bound ≤ℤ energy (form_of m) z
 energy_above m c y z p =
-    omega (
-      arith,
-      ints,
-      model_value m z,
-      same_value (model_terms m) (certificate_terms c) p.forms z,
-      bound_below c z p.signs,
-    )
+    let same = same_value (model_terms m) (certificate_terms c) p.forms z in
+    omega (arith, ints, model_value m z, bound_below c z p.signs)
 
 pub proved_is_least : ProvedIsLeast
 proved_is_least m c y w p = record {

@@ -1,3 +1,4 @@
+pub mod Common
 pub mod Energies
 pub mod Values
 pub mod LeastStates

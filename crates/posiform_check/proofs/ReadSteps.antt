@@ -1,23 +1,6 @@
 -- Literals and lines, one after another: one more is read, it fails, or there are no more.
-use Rattle.std.proofs.Common.{◌≡◌, ℕ, ℤ, pos, ◌+ℤ◌, true, false, List, [], ◌∷◌, ◌++◌, fold, Result, Ok, Err, refl, sym, ap, subst, ◌∙◌, append-nil, append_assoc, ◌==◌, arith}
-use Rattle.std.specs.Prelude.{Option, Some, None, MatchOption}
-use Rattle.std.specs.List.{flat_map}
-use Rattle.std.proofs.lemmas.Int.{ints}
-use Rattle.base.specs.Sums.{total_by}
-use Rattle.whole_text.specs.declared.faults.TextFault.{TextFault}
-use Rattle.whole_text.specs.declared.faults.TextAnswer.{TextAnswer}
+use Rattle.posiform_check.proofs.Common.{nat_tests, ◌≡◌, ℕ, ℤ, pos, ◌+ℤ◌, true, false, List, [], ◌∷◌, ◌++◌, fold, Result, Ok, Err, refl, sym, ap, ◌∙◌, append-nil, append_assoc, ◌==◌, arith, Option, Some, None, MatchOption, flat_map, ints, total_by, TextFault, TextAnswer, WordRef, word_of, Word, ◌>>=◌, Fails, Literal, by_line, each, left, on_line, past_line, Line, CertificateContent, written, literal_at, line_at, bound_of, kept_line, content_of, reading_of_words, literals_read, line_read, with_line, blank, lines_put, row_of, by_line-first}
 use Rattle.whole_text.specs.declared.faults.TextAnswer.TheVariants as answers
-use Rattle.whole_text.specs.declared.words.WordRef.{WordRef}
-use Rattle.whole_text.specs.TokenTexts.{word_of}
-use Rattle.whole_text.specs.Tokens.{Word}
-use Rattle.whole_text.specs.Steps.{◌>>=◌, Fails, integer_at}
-use Rattle.literal_lists.specs.declared.literal.Literal.{Literal}
-use Rattle.whole_text.specs.Rows.{by_line, each, left, on_line, past_line}
-use Rattle.posiform_check.specs.declared.lines.Line.{Line}
-use Rattle.posiform_check.specs.BitForms.{CertificateContent}
-use Rattle.posiform_check.specs.Texts.{written, literal_at, line_at, bound_of, kept_line, content_of, reading_of_words}
-use Rattle.posiform_check.specs.ReadingSteps.{literals_read, line_read, with_line, blank, lines_put}
-use Rattle.whole_text.proofs.Rows.{row_of, by_line-first}
 
 -- ---- literals
 
@@ -71,10 +54,6 @@ Part = Line × List Word
 abbrev read_as : Part → Result Part TextFault
 read_as x = Ok x
 
-both_parts : (x y : Part) → read_as x ≡ read_as y → (x.0 ≡ y.0) × (x.1 ≡ y.1)
-both_parts x y h =
-    let same : x ≡ y = cc in (ap (λ (z : Part). z.0) same, ap (λ (z : Part). z.1) same)
-
 abbrev written_on : ℕ → ℤ → List Literal → Result Line TextFault
 written_on n c ls = Ok (written ls c n)
 
@@ -88,41 +67,25 @@ abbrev put_all : CertificateContent → Result (List Line) TextFault
     → Result CertificateContent TextFault
 put_all s read = read >>= λ ls. Ok (fold with_line s ls)
 
-put_one : (s : CertificateContent) (l : Line) (others : Result (List Line) TextFault)
-    → put_all s (before others l) ≡ put_all (with_line s l) others
-put_one s l (Ok ls) = refl
-put_one s l (Err f) = refl
-
 one_goes_on : (s : CertificateContent) (n : ℕ) (rest rest' : List Word) (l : Line)
     (number : Result ℤ TextFault) (read : Result (List Literal) TextFault)
     (others : List Word → Result (List Line) TextFault)
     → (number >>= λ c. put_behind [] rest read >>= put_line n c) ≡ Ok (l, rest')
     → put_all s ((number >>= λ c. read >>= written_on n c) >>= before (others rest))
     ≡ put_all (with_line s l) (others rest')
-one_goes_on s n rest rest' l (Err f) read others h = absurd cc
-one_goes_on s n rest rest' l (Ok c) (Err f) others h = absurd cc
-one_goes_on s n rest rest' l (Ok c) (Ok ls) others h =
-    let same = both_parts (written ls c n, rest) (l, rest') h in
-    put_one s (written ls c n) (others rest)
-    ∙ (λ i. put_all (with_line s (same.0 i)) (others (same.1 i)))
+one_goes_on s n rest rest' l number read others h = grind (arith, nat_tests, ints)
 
 one_fails : (e : TextAnswer) (s : CertificateContent) (n : ℕ) (rest : List Word)
     (number : Result ℤ TextFault) (read : Result (List Literal) TextFault)
     (others : Result (List Line) TextFault)
     → Fails e (number >>= λ c. put_behind [] rest read >>= put_line n c)
     → Fails e (put_all s ((number >>= λ c. read >>= written_on n c) >>= before others))
-one_fails answers.NoMemory s n rest number read others h = tt
-one_fails (answers.Bad f) s n rest (Err g) read others h =
-    let same : g ≡ f = cc in ap (λ e. Err e) same
-one_fails (answers.Bad f) s n rest (Ok c) (Err g) others h =
-    let same : g ≡ f = cc in ap (λ e. Err e) same
-one_fails (answers.Bad f) s n rest (Ok c) (Ok ls) others h = absurd cc
+one_fails e s n rest number read others h = grind (arith, nat_tests, ints)
 
 abbrev lines_by : ℕ → List Word → Result (List Line) TextFault
 lines_by nodes ws = each (line_at nodes) (by_line ws)
 
-first_line : (nodes : ℕ) (w : Word) (ws : List Word)
-    → lines_by nodes (w ∷ ws)
+first_line : (nodes : ℕ) (w : Word) (ws : List Word) → lines_by nodes (w ∷ ws)
     ≡ line_at nodes (row_of w (on_line w.line ws)) >>= before (lines_by nodes (past_line w.line ws))
 unfolding each
 first_line nodes w ws = ap (each (line_at nodes)) (by_line-first w ws)
@@ -131,18 +94,12 @@ pub line_goes_on : (nodes : ℕ) (s : CertificateContent) (w : Word) (ws rest : 
     → line_read nodes w ws ≡ Ok (l, rest)
     → lines_put nodes s (w ∷ ws) ≡ lines_put nodes (with_line s l) rest
 unfolding line_at
-line_goes_on nodes s w ws rest l h =
-    ap (put_all s) (first_line nodes w ws)
-    ∙ one_goes_on s w.line (past_line w.line ws) rest l (integer_at w)
-    (each (literal_at nodes) (on_line w.line ws)) (lines_by nodes) h
+line_goes_on nodes s w ws rest l h = grind (arith, nat_tests, first_line, one_goes_on)
 
 pub line_fails : (nodes : ℕ) (e : TextAnswer) (s : CertificateContent) (w : Word) (ws : List Word)
     → Fails e (line_read nodes w ws) → Fails e (lines_put nodes s (w ∷ ws))
 unfolding line_at
-line_fails nodes e s w ws h =
-    subst (Fails e) (sym (ap (put_all s) (first_line nodes w ws)))
-    (one_fails e s w.line (past_line w.line ws) (integer_at w)
-    (each (literal_at nodes) (on_line w.line ws)) (lines_by nodes (past_line w.line ws)) h)
+line_fails nodes e s w ws h = grind (arith, nat_tests, first_line, one_fails)
 
 pub lines_end : (nodes : ℕ) (s : CertificateContent) (ws : List Word) → ws ≡ []
     → lines_put nodes s ws ≡ Ok s
@@ -151,17 +108,12 @@ lines_end nodes s ws none = rw none refl
 
 -- ---- all lines
 
-all_lines : (s : CertificateContent) (ls : List Line)
-    → fold with_line s ls
+all_lines : (s : CertificateContent) (ls : List Line) → fold with_line s ls
     ≡ record { bound = s.bound +ℤ total_by bound_of ls; lines = s.lines ++ flat_map kept_line ls }
 all_lines s [] =
     let same : s.bound ≡ s.bound +ℤ pos 0 = omega (arith, ints) in
     λ i. record { bound = same i; lines = sym (append-nil s.lines) i }
-all_lines s (l ∷ ls) =
-    let same : (s.bound +ℤ bound_of l) +ℤ total_by bound_of ls
-    ≡ s.bound +ℤ total_by bound_of (l ∷ ls) = omega (arith, ints) in
-    let lines = append_assoc s.lines (kept_line l) (flat_map kept_line ls) in
-    all_lines (with_line s l) ls ∙ (λ i. record { bound = same i; lines = lines i })
+all_lines s (l ∷ ls) = grind (arith, nat_tests, ints, all_lines (with_line s l) ls, append_assoc)
 
 from_blank : (ls : List Line) → fold with_line blank ls ≡ content_of ls
 from_blank ls =
@@ -180,7 +132,6 @@ lines_all nodes ws = all_read (lines_by nodes ws)
 -- ---- the next word, which is taken
 
 pub next_left : (next : Option WordRef) (old new : List Word)
-    → MatchOption next ((old ≡ []) × (new ≡ [])) (λ w. old ≡ word_of w ∷ new)
-    → left next new ≡ old
+    → MatchOption next ((old ≡ []) × (new ≡ [])) (λ w. old ≡ word_of w ∷ new) → left next new ≡ old
 next_left None old new h = sym h.0
 next_left (Some w) old new h = sym h

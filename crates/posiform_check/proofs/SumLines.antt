@@ -1,21 +1,5 @@
 -- Lines that are added to sums, or to gathered terms beside them.
-use Rattle.std.proofs.Common.{◌≡◌, ℕ, List, [], ◌∷◌, ◌++◌, ℤ, Option, Some, None, refl, ap, subst, ◌∙◌, arith}
-use Rattle.std.specs.List.{AllByRecursion, flat_map}
-use Rattle.std.proofs.lemmas.Int.{ints}
-use Rattle.std.proofs.lemmas.List.Elements.{All-from_recursion, recursion_from_All}
-use Rattle.literal_lists.specs.declared.literal.Literal.{Literal}
-use Rattle.term_table.specs.Terms.{Term, coefficient_of, IsTermSet}
-use Rattle.term_table.specs.Tables.{TableContent, AreAdditions, with_more}
-use Rattle.term_table.proofs.Additions.{terms_total-append}
-use Rattle.term_table.proofs.KeptTerms.{OfSet}
-use Rattle.normal_form.specs.Behind.{behind}
-use Rattle.normal_form.proofs.PlainSteps.{behind-nothing, additions_first}
-use Rattle.bits_model.specs.Output.{Written}
-use Rattle.posiform_check.specs.declared.lines.Line.{Line}
-use Rattle.posiform_check.specs.BitForms.{CertificateContent, line_terms, certificate_terms, certificate_list, model_terms, model_list, AreSameForms}
-use Rattle.posiform_check.specs.Certificates.{IsCertificate, AreOfNodes, certificate_fault}
-use Rattle.posiform_check.specs.Differences.{difference}
-use Rattle.posiform_check.specs.Sums.{HasMore}
+use Rattle.posiform_check.proofs.Common.{nat_tests, ◌≡◌, ℕ, List, [], ◌∷◌, ◌++◌, ℤ, Option, Some, None, refl, ap, subst, ◌∙◌, arith, AllByRecursion, flat_map, All-from_recursion, recursion_from_All, Literal, Term, IsTermSet, TableContent, AreAdditions, with_more, terms_total-append, OfSet, behind, behind-nothing, additions_first, Written, Line, CertificateContent, line_terms, certificate_terms, certificate_list, model_terms, model_list, AreSameForms, IsCertificate, AreOfNodes, certificate_fault, difference, HasMore}
 use Rattle.posiform_check.proofs.Compared.{comparison_says}
 use Rattle.posiform_check.proofs.Gathering.{certificate_fits}
 use Rattle.posiform_check.proofs.Sums.{coefficients-append}
@@ -24,25 +8,10 @@ use Rattle.posiform_check.proofs.Sums.{coefficients-append}
 
 -- more beside terms that stay
 pub more_before : (a b ts us : List Term) → HasMore a ts b → HasMore (a ++ us) ts (b ++ us)
-more_before a b ts us more set =
-    omega (
-      arith,
-      ints,
-      more set,
-      coefficients-append set a us,
-      coefficients-append set b us,
-    )
+more_before a b ts us more set = grind (arith, nat_tests, coefficients-append)
 
 pub more_behind : (a b ts us : List Term) → b ≡ a ++ ts → HasMore (us ++ a) ts (us ++ b)
-more_behind a b ts us made set =
-    omega (
-      arith,
-      ints,
-      ap (coefficient_of set) made,
-      coefficients-append set a ts,
-      coefficients-append set us a,
-      coefficients-append set us b,
-    )
+more_behind a b ts us made set = grind (arith, nat_tests, coefficients-append)
 
 both_ends : (P : Term → Type 0) (ts us vs : List Term) → AllByRecursion P (ts ++ (us ++ vs))
     → AllByRecursion P (ts ++ vs)
@@ -58,14 +27,7 @@ additions_without t us vs h = record {
       let P = OfSet (IsTermSet t.width) in
       All-from_recursion P (t.terms ++ vs)
       (both_ends P t.terms us vs (recursion_from_All P (t.terms ++ (us ++ vs)) h.sets));
-  small =
-      omega (
-        arith,
-        h.small,
-        terms_total-append t.terms (us ++ vs),
-        terms_total-append us vs,
-        terms_total-append t.terms vs,
-      );
+  small = omega (arith, h.small, terms_total-append);
 }
 
 -- terms behind an empty list are the terms

@@ -1,22 +1,7 @@
 -- Forms that are gathered by adding to them.
-use Rattle.std.proofs.Common.{◌≡◌, ℕ, zero, suc, ◌+◌, ◌<◌, ◌≤◌, ◌&&◌, Bool, true, false, take, List, [], ◌∷◌, ◌++◌, map, length, ℤ, pos, ◌+ℤ◌, refl, sym, ap, ◌∙◌, arith, All}
-use Rattle.std.specs.Prelude.{slice_set, get_or, replicate}
-use Rattle.std.specs.Ordering.{int_eq, is_eq}
-use Rattle.std.specs.List.{AllByRecursion, list_all}
-use Rattle.std.proofs.lemmas.Bool.Decides.{Decides-int_eq}
-use Rattle.std.proofs.lemmas.List.{take_more, take_all}
-use Rattle.std.specs.List.Sorted.{IsPermutation}
-use Rattle.std.proofs.lemmas.Int.{ints}
-use Rattle.std.proofs.lemmas.List.Elements.{All-from_recursion, recursion_from_All}
-use Rattle.base.specs.Sums.{if_so}
-use Rattle.base.proofs.Totals.{total_by-append, total_by-map, total_by-IsPermutation}
-use Rattle.literal_lists.specs.declared.literal.Literal.{Literal}
-use Rattle.term_table.specs.Terms.{Term, set_cmp, coefficient_of}
-use Rattle.term_table.proofs.Additions.{if_so-plus}
-use Rattle.posiform_check.specs.declared.set_sums.PairTerm.{PairTerm}
+use Rattle.posiform_check.proofs.Common.{nat_tests, elements, ◌≡◌, ℕ, zero, suc, ◌+◌, ◌<◌, ◌≤◌, Bool, true, false, take, List, [], ◌∷◌, ◌++◌, map, length, ℤ, pos, ◌+ℤ◌, refl, ap, arith, All, slice_set, get_or, replicate, int_eq, is_eq, AllByRecursion, list_all, take_more, take_all, IsPermutation, ints, All-from_recursion, recursion_from_All, if_so, total_by-append, total_by-map, total_by-IsPermutation, Literal, Term, set_cmp, coefficient_of, node_set, AreSameForms, HasMore, HasNone, node_terms, pair_term, sum_term, sums_terms}
 use Rattle.posiform_check.specs.declared.set_sums.PairSum.{PairSum}
-use Rattle.posiform_check.specs.BitForms.{node_set, pair_set, AreSameForms}
-use Rattle.posiform_check.specs.Sums.{HasMore, HasNone, node_terms, pair_term, sum_term, sums_terms}
+use Rattle.posiform_check.specs.declared.set_sums.PairTerm.{PairTerm}
 
 -- what a term gives a set
 abbrev pub given : List Literal → Term → ℤ
@@ -31,63 +16,34 @@ nothing-given true = refl
 nothing-given false = refl
 
 -- one addition after another
-pub more_then : (a b c ts us : List Term) → HasMore a ts b → HasMore b us c
-    → HasMore a (ts ++ us) c
-more_then a b c ts us h k set =
-    omega (arith, ints, h set, k set, coefficients-append set ts us)
+pub more_then : (a b c ts us : List Term) → HasMore a ts b → HasMore b us c → HasMore a (ts ++ us) c
+more_then a b c ts us h k set = omega (arith, ints, h set, k set, coefficients-append set ts us)
 
 -- ---- nodes
 
 pub node_more : (set : List Literal) (n i : ℕ) (ws : List ℤ) (c new : ℤ) → i < length ws
-    → new ≡ get_or ws i (pos 0) +ℤ c
-    → coefficient_of set (node_terms n (slice_set ws i new))
+    → new ≡ get_or ws i (pos 0) +ℤ c → coefficient_of set (node_terms n (slice_set ws i new))
     ≡ coefficient_of set (node_terms n ws) +ℤ given set (node_set (n + i), c)
 node_more set n i [] c new h e = absurd (omega (arith, h))
-node_more set n zero (w ∷ ws) c new h e =
-    let whole : given set (node_set n, new) ≡ given set (node_set n, w +ℤ c) =
-    ap (λ x. given set (node_set n, x)) e in
-    let first : given set (node_set (n + 0), c) ≡ given set (node_set n, c) =
-    ap (λ k. given set (node_set k, c)) (omega arith) in
-    omega (arith, ints, whole, first, if_so-plus (is_eq (set_cmp set (node_set n))) w c)
+node_more set n zero (w ∷ ws) c new h e = grind (arith, nat_tests, ints, elements)
 node_more set n (suc i) (w ∷ ws) c new h e =
-    let same : given set (node_set (suc n + i), c) ≡ given set (node_set (n + suc i), c) =
-    ap (λ k. given set (node_set k, c)) (omega arith) in
-    omega (arith, ints, node_more set (suc n) i ws c new (omega (arith, h)) e, same)
+    grind (arith, nat_tests, ints, elements, node_more set (suc n) i ws c new (omega (arith, h)) e)
 
 zeros_tested : (ws : List ℤ) → list_all (λ w. int_eq w (pos 0)) ws ≡ true
     → AllByRecursion (λ w. w ≡ pos 0) ws
 zeros_tested [] h = tt
-zeros_tested (w ∷ ws) h = go (int_eq w (pos 0)) refl h (zeros_tested ws)
-  where
-    go : (b : Bool) → int_eq w (pos 0) ≡ b
-        → (b && list_all (λ k. int_eq k (pos 0)) ws) ≡ true
-        → (list_all (λ k. int_eq k (pos 0)) ws ≡ true → AllByRecursion (λ k. k ≡ pos 0) ws)
-        → AllByRecursion (λ k. k ≡ pos 0) (w ∷ ws)
-    go true e rest later = ((Decides-int_eq w (pos 0)).0 e, later rest)
-    go false e rest later = absurd cc
+zeros_tested (w ∷ ws) h = grind (arith, nat_tests, ints, zeros_tested ws)
 
 zeros-replicate : (set : List Literal) (n count : ℕ)
     → coefficient_of set (node_terms n (replicate count (pos 0))) ≡ pos 0
 zeros-replicate set n zero = refl
 zeros-replicate set n (suc count) =
-    omega (
-      arith,
-      ints,
-      zeros-replicate set (suc n) count,
-      nothing-given (is_eq (set_cmp set (node_set n))),
-    )
+    grind (arith, nat_tests, elements, zeros-replicate set (suc n) count)
 
 zeros : (set : List Literal) (n : ℕ) (ws : List ℤ) → AllByRecursion (λ w. w ≡ pos 0) ws
     → coefficient_of set (node_terms n ws) ≡ pos 0
 zeros set n [] h = refl
-zeros set n (w ∷ ws) h =
-    omega (
-      arith,
-      ints,
-      zeros set (suc n) ws h.1,
-      ap (λ c. given set (node_set n, c)) h.0,
-      nothing-given (is_eq (set_cmp set (node_set n))),
-    )
+zeros set n (w ∷ ws) h = grind (arith, nat_tests, ints, elements, zeros set (suc n) ws h.1)
 
 pub are_zeros : (set : List Literal) (ws : List ℤ) → All (λ w. w ≡ pos 0) ws
     → coefficient_of set (node_terms 0 ws) ≡ pos 0
@@ -107,26 +63,11 @@ pub pairs-step : (ps : List PairTerm) (i : ℕ) (d : PairTerm) (s next : PairSum
     → HasMore (sum_term s ∷ []) (pair_term (get_or ps i d) ∷ []) (sum_term next ∷ [])
     → AreSameForms (map pair_term (take (i + 1) ps)) (sum_term next ∷ [])
 pairs-step ps i d s next h so_far more set =
-    omega (
-      arith,
-      ints,
-      ap (λ xs. coefficient_of set (map pair_term xs)) (take_more ps i d h),
-      pairs-append set (take i ps) (get_or ps i d ∷ []),
-      so_far set,
-      more set,
-    )
+    grind (arith, nat_tests, take_more ps i d h, pairs-append set (take i ps) (get_or ps i d ∷ []))
 
 pub pairs-end : (ps : List PairTerm) (i : ℕ) (s : PairSum) → length ps ≤ i → s.sum ≡ pos 0
     → AreSameForms (map pair_term (take i ps)) (sum_term s ∷ []) → HasNone (map pair_term ps)
-pairs-end ps i s h nothing all set =
-    omega (
-      arith,
-      ints,
-      ap (λ xs. coefficient_of set (map pair_term xs)) (take_all i ps h),
-      all set,
-      ap (λ c. given set (pair_set s.first s.second, c)) nothing,
-      nothing-given (is_eq (set_cmp set (pair_set s.first s.second))),
-    )
+pairs-end ps i s h nothing all set = grind (arith, nat_tests, take_all, nothing-given)
 
 -- the default does not count
 pub same_default : (ws : List ℤ) (i : ℕ) (d e : ℤ) → i < length ws → get_or ws i d ≡ get_or ws i e
@@ -137,15 +78,12 @@ same_default (w ∷ ws) (suc i) d e h = same_default ws i d e (omega (arith, h))
 pub pairs-permuted : (set : List Literal) (ps qs : List PairTerm) → IsPermutation ps qs
     → coefficient_of set (map pair_term qs) ≡ coefficient_of set (map pair_term ps)
 pairs-permuted set ps qs h =
-    total_by-map (given set) pair_term qs
-    ∙ total_by-IsPermutation (λ p. given set (pair_term p)) ps qs h
-    ∙ sym (total_by-map (given set) pair_term ps)
+    grind (arith, nat_tests, elements, total_by-map, total_by-IsPermutation)
 
 -- ---- all sums
 
 pub sums_parts : (set : List Literal) (constant : ℤ) (ws : List ℤ) (ps : List PairTerm)
-    → coefficient_of set (sums_terms constant ws ps)
-    ≡ given set ([], constant)
+    → coefficient_of set (sums_terms constant ws ps) ≡ given set ([], constant)
     +ℤ (coefficient_of set (node_terms 0 ws) +ℤ coefficient_of set (map pair_term ps))
 sums_parts set constant ws ps =
     ap (λ s. given set ([], constant) +ℤ s)
@@ -161,68 +99,37 @@ sums_node constant ws ps i c new old h e is set =
     ap (λ k. given set (node_set k, c)) (omega arith) in
     let more : coefficient_of set (node_terms 0 (slice_set ws i new))
     ≡ coefficient_of set (node_terms 0 ws) +ℤ coefficient_of set ((node_set i, c) ∷ []) =
-    omega (
-      arith,
-      ints,
-      node_more set 0 i ws c new h e,
-      first,
-    ) in
-    omega (
-      arith,
-      ints,
-      more,
-      sums_parts set constant ws ps,
-      sums_parts set constant (slice_set ws i new) ps,
-      ap (coefficient_of set) is,
-    )
+    omega (arith, ints, node_more set 0 i ws c new h e, first) in
+    let sums = sums_parts set constant (slice_set ws i new) ps in
+    omega (arith, ints, more, sums_parts set constant ws ps, ap (coefficient_of set) is)
 
 -- one term more is listed
 pub sums_pair : (constant : ℤ) (ws : List ℤ) (ps qs : List PairTerm) (p : PairTerm) (t : Term)
     (old : List Term) → qs ≡ ps ++ p ∷ [] → pair_term p ≡ t → sums_terms constant ws ps ≡ old
     → HasMore old (t ∷ []) (sums_terms constant ws qs)
 sums_pair constant ws ps qs p t old more term is set =
-    omega (
-      arith,
-      ints,
-      sums_parts set constant ws ps,
-      sums_parts set constant ws qs,
-      ap (coefficient_of set) is,
-      ap (λ xs. coefficient_of set (map pair_term xs)) more,
-      pairs-append set ps (p ∷ []),
-      ap (given set) term,
-    )
+    let sums = sums_parts set constant ws ps in
+    let parts = sums_parts set constant ws qs in
+    let same = ap (λ xs. coefficient_of set (map pair_term xs)) more in
+    let pairs_append = pairs-append set ps (p ∷ []) in
+    omega (arith, ints, ap (coefficient_of set) is, ap (given set) term)
 
 -- no sums
 pub sums_none : (ws : List ℤ) (ps : List PairTerm) (count : ℕ) → ws ≡ replicate count (pos 0)
-    → ps ≡ []
-    → HasNone (sums_terms (pos 0) ws ps)
+    → ps ≡ [] → HasNone (sums_terms (pos 0) ws ps)
 sums_none ws ps count blank none set =
-    omega (
-      arith,
-      ints,
-      sums_parts set (pos 0) ws ps,
-      ap (λ xs. coefficient_of set (node_terms 0 xs)) blank,
-      zeros-replicate set 0 count,
-      ap (λ xs. coefficient_of set (map pair_term xs)) none,
-      nothing-given (is_eq (set_cmp set [])),
-    )
+    grind (arith, nat_tests, ints, elements, sums_parts, zeros-replicate, nothing-given)
 
 -- all cancel
 pub sums_cancel : (constant : ℤ) (ws : List ℤ) (ps qs : List PairTerm) (all : List Term)
     → constant ≡ pos 0 → list_all (λ w. int_eq w (pos 0)) ws ≡ true → IsPermutation ps qs
     → HasNone (map pair_term qs) → sums_terms constant ws ps ≡ all → HasNone all
 sums_cancel constant ws ps qs all nothing tested moved none is set =
-    omega (
-      arith,
-      ints,
-      sums_parts set constant ws ps,
-      ap (λ c. given set ([], c)) nothing,
-      nothing-given (is_eq (set_cmp set [])),
-      are_zeros set ws (All-from_recursion (λ w. w ≡ pos 0) ws (zeros_tested ws tested)),
-      pairs-permuted set ps qs moved,
-      none set,
-      ap (coefficient_of set) is,
-    )
+    let same = ap (λ c. given set ([], c)) nothing in
+    let nothing_given = nothing-given (is_eq (set_cmp set [])) in
+    let are = are_zeros set ws (All-from_recursion (λ w. w ≡ pos 0) ws (zeros_tested ws tested)) in
+    let pairs_permuted = pairs-permuted set ps qs moved in
+    omega (arith, ints, sums_parts set constant ws ps, none set, ap (coefficient_of set) is)
 
 -- what was added with the other sign is taken away
 opposite_given : (b : Bool) (w less : ℤ) → less +ℤ w ≡ pos 0 → if_so b less +ℤ if_so b w ≡ pos 0

@@ -1,8 +1,5 @@
 -- The words of a clause, and clauses, appended one after another.
-use Rattle.std.proofs.Common.{◌≡◌, ℕ, suc, List, [], ◌∷◌, ◌++◌, sym, ap, ◌∙◌, append_assoc, append-nil}
-use Rattle.std.specs.Prelude.{codes}
-use Rattle.std.specs.List.{flat_map}
-use Rattle.sample_text.specs.Sample.{after, clause_words, drawn_clauses, line}
+use Rattle.sample_text.proofs.Common.{nat_tests, arith, ◌≡◌, ℕ, suc, List, [], ◌∷◌, ◌++◌, sym, ap, ◌∙◌, append_assoc, append-nil, codes, flat_map, after, clause_words, drawn_clauses, line}
 
 -- ---- the words of one clause
 
@@ -15,10 +12,7 @@ pub words_added : (old first second third fourth text w a b c : List ℕ) → fi
     → third ≡ second ++ 32 ∷ b → fourth ≡ third ++ 32 ∷ c → text ≡ fourth ++ 32 ∷ 48 ∷ 10 ∷ []
     → text ≡ old ++ line (w ∷ a ∷ b ∷ c ∷ codes "0" ∷ [])
 words_added old first second third fourth text w a b c weight one two three zero =
-    let two_words = one ∙ ap (λ (l : List ℕ). l ++ 32 ∷ a) weight in
-    let three_words = two ∙ ap (λ (l : List ℕ). l ++ 32 ∷ b) two_words in
-    let four_words = three ∙ ap (λ (l : List ℕ). l ++ 32 ∷ c) three_words in
-    zero ∙ ap (λ (l : List ℕ). l ++ 32 ∷ 48 ∷ 10 ∷ []) four_words ∙ words_joined old w a b c
+    grind (arith, nat_tests, words_joined)
 
 -- ---- clauses one after another
 
@@ -30,12 +24,8 @@ pub clause_added : (text more whole : List ℕ) (left rest variables top state m
 clause_added text more whole left rest variables top state moved is so_far added moves =
     (λ k. added k ++ flat_map line (drawn_clauses rest variables top (moves k)))
     ∙ append_assoc text (line (clause_words variables top state)) _
-    ∙ ap (λ n. text ++ flat_map line (drawn_clauses n variables top state)) (sym is)
-    ∙ so_far
+    ∙ ap (λ n. text ++ flat_map line (drawn_clauses n variables top state)) (sym is) ∙ so_far
 
 pub clauses_done : (text whole : List ℕ) (left variables top state : ℕ) → left ≡ 0
     → text ++ flat_map line (drawn_clauses left variables top state) ≡ whole → text ≡ whole
-clauses_done text whole left variables top state none so_far =
-    sym (append-nil text)
-    ∙ ap (λ n. text ++ flat_map line (drawn_clauses n variables top state)) (sym none)
-    ∙ so_far
+clauses_done text whole left variables top state none so_far = grind (arith, nat_tests, append-nil)

@@ -1,15 +1,6 @@
 -- Each sample text is read, and what it says passes no limit.
-use Rattle.std.proofs.Common.{◌≡◌, ℕ, zero, suc, ◌≤◌, Bool, true, false, cond, length, map, Some, None, Result, Ok, ap, unwrap_or, arith}
-use Rattle.std.specs.Prelude.{nat_le}
-use Rattle.std.specs.List.{AllByRecursion}
-use Rattle.whole_text.specs.declared.faults.TextFault.{TextFault}
-use Rattle.whole_text.specs.Steps.{◌>>=◌}
-use Rattle.problem_form.specs.NormalForm.{normal_form}
+use Rattle.sample_text.proofs.Common.{◌≡◌, ℕ, zero, suc, ◌≤◌, Bool, true, false, cond, length, map, Some, None, Result, Ok, ap, unwrap_or, arith, nat_le, AllByRecursion, TextFault, ◌>>=◌, normal_form, Wcnf, clause_of, problem_of, normal_reading, seed, after, drawn_weight, variables_of, top_of, EachSampleIsRead}
 use Rattle.wcnf_reader.specs.declared.layout.ClauseLayout.TheVariants.{Older}
-use Rattle.wcnf_reader.specs.Wcnf.{Wcnf}
-use Rattle.wcnf_reader.specs.Cost.{clause_of, problem_of, normal_reading}
-use Rattle.sample_text.specs.Sample.{seed, after, drawn_weight, variables_of, top_of}
-use Rattle.sample_text.specs.Read.{EachSampleIsRead}
 use Rattle.sample_text.proofs.Sizes.{weight_small}
 use Rattle.sample_text.proofs.Readings.{listed_clause, listed_clauses, sample, sample_again}
 use Rattle.sample_text.proofs.Bounds.{IsSmall, clauses_pass_none}
@@ -27,16 +18,14 @@ clause_small variables top state light =
       light = omega (arith, soft_part (nat_le top w) w, weight_small top state);
     }
 
-all_small : (count variables top state : ℕ) → top ≤ 1000001
-    → AllByRecursion IsSmall
+all_small : (count variables top state : ℕ) → top ≤ 1000001 → AllByRecursion IsSmall
     (map (clause_of (Older (Some top))) (listed_clauses count variables top state))
 all_small zero variables top state light = tt
 all_small (suc count) variables top state light =
     (clause_small variables top state light, all_small count variables top (after 7 state) light)
 
 all_counted : (count variables top state : ℕ)
-    → length (map (clause_of (Older (Some top))) (listed_clauses count variables top state))
-    ≡ count
+    → length (map (clause_of (Older (Some top))) (listed_clauses count variables top state)) ≡ count
 all_counted zero variables top state = omega arith
 all_counted (suc count) variables top state =
     omega (arith, all_counted count variables top (after 7 state))

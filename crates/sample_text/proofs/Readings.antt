@@ -1,18 +1,7 @@
 -- The words of a sample text are read: its header, its clauses, and nothing more.
-use Rattle.std.proofs.Common.{◌≡◌, ℕ, zero, suc, ◌+◌, ◌%◌, ◌<◌, ◌≤◌, ◌^◌, Bool, true, false, cond, eqb, ℤ, pos, neg_ℤ, List, [], ◌∷◌, ◌++◌, map, Some, Result, Ok, refl, sym, ap, ◌∙◌, arith}
-use Rattle.std.specs.Prelude.{nat_abs, codes}
-use Rattle.std.specs.Fmt.{decimal, signed_decimal, digits}
-use Rattle.std.proofs.Math.Nat.{mod-lt}
-use Rattle.std.proofs.lemmas.Bool.{ne_eqb, le-leb}
-use Rattle.whole_text.specs.declared.faults.TextFault.{TextFault}
+use Rattle.sample_text.proofs.Common.{nat_tests, ints, ◌≡◌, ℕ, zero, suc, ◌+◌, ◌<◌, ◌≤◌, ◌^◌, ℤ, pos, List, [], ◌∷◌, ◌++◌, map, Some, Result, Ok, refl, sym, ap, ◌∙◌, arith, nat_abs, codes, decimal, signed_decimal, digits, ne_eqb, le-leb, TextFault, Word, word, tokens_of, ◌>>=◌, IsInk, AreInk, tokens_after, no_lines, words_then, decimal_ink, signed_ink, number_first, integer_again, natural_again, Header, Listed, Wcnf, weight_of, literal_at, literals_at, clause_at, wanted_word, header_number, at_line_end, top_at, header_at, clauses_at, older_of, reading_of_words, reading, seed, after, drawn_weight, drawn_literal, clause_words, drawn_clauses, header_words, variables_of, top_of, sample_text}
 use Rattle.whole_text.specs.declared.token.Style.TheVariants.{Plain}
-use Rattle.whole_text.specs.Tokens.{Word, word, tokens_of}
-use Rattle.whole_text.specs.Steps.{◌>>=◌, end_line}
-use Rattle.whole_text.proofs.LineTokens.{IsInk, AreInk, tokens_after, no_lines, words_then}
-use Rattle.whole_text.proofs.WordsAgain.{decimal_ink, signed_ink, number_first, integer_again, natural_again}
 use Rattle.wcnf_reader.specs.declared.layout.ClauseLayout.TheVariants.{Older}
-use Rattle.wcnf_reader.specs.Wcnf.{Header, Listed, Wcnf, weight_of, literal_at, literals_at, clause_at, wanted_word, header_number, at_line_end, top_at, header_at, clauses_at, older_of, reading_of_words, reading}
-use Rattle.sample_text.specs.Sample.{seed, drawn, after, drawn_weight, drawn_literal, clause_words, drawn_clauses, header_words, variables_of, top_of, sample_text}
 use Rattle.sample_text.proofs.Sizes.{weight_small}
 
 -- ---- literals
@@ -25,18 +14,9 @@ zero_text = refl
 abbrev pub IsDrawn : ℕ → ℤ → Type 0
 IsDrawn variables z = (0 < nat_abs z) × (nat_abs z ≤ variables)
 
-size_signed : (b : Bool) (n : ℕ) → nat_abs (cond b (neg_ℤ (pos (1 + n))) (pos (1 + n))) ≡ suc n
-size_signed true n =
-    let next : 1 + n ≡ suc n = omega arith in
-    ap (λ k. nat_abs (neg_ℤ (pos k))) next
-size_signed false n = omega arith
-
 literal_drawn : (variables state : ℕ) → 0 < variables
     → IsDrawn variables (drawn_literal variables state)
-literal_drawn variables state some =
-    let size = size_signed (eqb (after 2 state % 2) 1) (drawn state % variables) in
-    let below = mod-lt (drawn state) some in
-    (omega (arith, size), omega (arith, size, below))
+literal_drawn variables state some = grind (arith, nat_tests)
 
 literal_again : (variables line : ℕ) (z : ℤ) → nat_abs z ≤ variables → variables < 2 ^ 64
     → literal_at (Some variables) (word line (signed_decimal z)) ≡ Ok z
@@ -52,13 +32,10 @@ abbrev with_literal : ℤ → List ℤ × List Word → Literals
 with_literal z more = Ok (z ∷ more.0, more.1)
 
 literal_then : (variables end line : ℕ) (z : ℤ) (ws : List Word) → IsDrawn variables z
-    → variables < 2 ^ 64
-    → literals_at (Some variables) end (word line (signed_decimal z) ∷ ws)
+    → variables < 2 ^ 64 → literals_at (Some variables) end (word line (signed_decimal z) ∷ ws)
     ≡ literals_at (Some variables) end ws >>= with_literal z
 unfolding literals_at
-literal_then variables end line z ws d small =
-    let filled = ne_eqb (nat_abs z) 0 (λ e. omega (arith, d.0)) in
-    rw (literal_again variables line z d.1 small, filled) refl
+literal_then variables end line z ws d small = grind (arith, nat_tests, ints, ne_eqb, literal_again)
 
 zero_then : (variables end line : ℕ) (ws : List Word) → variables < 2 ^ 64
     → literals_at (Some variables) end (word line (codes "0") ∷ ws) ≡ Ok ([], ws)
@@ -75,20 +52,10 @@ literal_words a b c = signed_decimal a ∷ signed_decimal b ∷ signed_decimal c
 
 literals_again : (variables end line : ℕ) (a b c : ℤ) (ws : List Word) → IsDrawn variables a
     → IsDrawn variables b → IsDrawn variables c → variables < 2 ^ 64
-    → literals_at (Some variables) end
-    (map (word line) (literal_words a b c) ++ ws)
+    → literals_at (Some variables) end (map (word line) (literal_words a b c) ++ ws)
     ≡ Ok (a ∷ b ∷ c ∷ [], ws)
 literals_again variables end line a b c ws in_a in_b in_c small =
-    let last = word line (codes "0") ∷ ws in
-    let third = word line (signed_decimal c) ∷ last in
-    let second = word line (signed_decimal b) ∷ third in
-    literal_then variables end line a second in_a small
-    ∙ ap (λ (r : Literals). r >>= with_literal a)
-    (literal_then variables end line b third in_b small)
-    ∙ ap (λ (r : Literals). (r >>= with_literal b) >>= with_literal a)
-    (literal_then variables end line c last in_c small)
-    ∙ ap (λ (r : Literals). ((r >>= with_literal c) >>= with_literal b) >>= with_literal a)
-    (zero_then variables end line ws small)
+    grind (arith, nat_tests, ints, literal_then, zero_then)
 
 -- ---- clauses
 
@@ -96,10 +63,8 @@ literals_again variables end line a b c ws in_a in_b in_c small =
 abbrev pub listed_clause : ℕ → ℕ → ℕ → Listed
 listed_clause variables top state = record {
   weight = Some (drawn_weight top state);
-  literals = drawn_literal variables (after 1 state)
-      ∷ drawn_literal variables (after 3 state)
-      ∷ drawn_literal variables (after 5 state)
-      ∷ [];
+  literals = drawn_literal variables (after 1 state) ∷ drawn_literal variables (after 3 state)
+      ∷ drawn_literal variables (after 5 state) ∷ [];
 }
 
 -- so many clauses, each drawn from the state that the one before leaves
@@ -157,29 +122,18 @@ tokens_again : (n count variables top state : ℕ) → IsLawful variables top
 tokens_again n zero variables top state h = no_lines n
 tokens_again n (suc count) variables top state h =
     words_then n (decimal (drawn_weight top state)) (later_words variables state)
-    (drawn_clauses count variables top (after 7 state))
-    (clause_ink variables top state h)
+    (drawn_clauses count variables top (after 7 state)) (clause_ink variables top state h)
     (number_first (drawn_weight top state) (later_words variables state)
     (omega (arith, weight_small top state, h.light)))
     ∙ ap (λ (rest : List Word). map (word n) (clause_words variables top state) ++ rest)
     (tokens_again (n + 1) count variables top (after 7 state) h)
 
 clause_again : (variables top state end n : ℕ) (ws : List Word) → IsLawful variables top
-    → clause_at (Older (Some top)) (Some variables) end
-    (word n (decimal (drawn_weight top state)))
-    (map (word n) (later_words variables state) ++ ws)
-    ≡ Ok (listed_clause variables top state, ws)
+    → clause_at (Older (Some top)) (Some variables) end (word n (decimal (drawn_weight top state)))
+    (map (word n) (later_words variables state) ++ ws) ≡ Ok (listed_clause variables top state, ws)
 unfolding clause_at weight_of
 clause_again variables top state end n ws h =
-    let weight = natural_again 0 n (drawn_weight top state) (omega arith)
-    (omega (arith, weight_small top state, h.light)) in
-    let literals = literals_again variables end n (drawn_literal variables (after 1 state))
-    (drawn_literal variables (after 3 state)) (drawn_literal variables (after 5 state)) ws
-    (literal_drawn variables (after 1 state) h.some)
-    (literal_drawn variables (after 3 state) h.some)
-    (literal_drawn variables (after 5 state) h.some)
-    (omega (arith, h.few)) in
-    rw (weight, literals) refl
+    grind (arith, nat_tests, natural_again, weight_small, literals_again, literal_drawn)
 
 -- the numbers of a header
 abbrev header_numbers : ℕ → ℕ → ℕ → Header
@@ -188,16 +142,11 @@ header_numbers variables clauses top =
 
 clauses_again : (count n variables clauses top state end : ℕ) → IsLawful variables top
     → clauses_at count (header_numbers variables clauses top) end
-    (clause_tokens n count variables top state)
-    ≡ Ok (listed_clauses count variables top state, [])
+    (clause_tokens n count variables top state) ≡ Ok (listed_clauses count variables top state, [])
 unfolding clauses_at
 clauses_again zero n variables clauses top state end h = refl
 clauses_again (suc count) n variables clauses top state end h =
-    rw (
-      clause_again variables top state end n
-          (clause_tokens (n + 1) count variables top (after 7 state)) h,
-      clauses_again count (n + 1) variables clauses top (after 7 state) end h,
-    ) refl
+    grind (arith, nat_tests, clauses_again count (n + 1) variables clauses top (after 7 state) end h, clause_again)
 
 -- ---- the header
 
@@ -220,10 +169,7 @@ header_again : (variables clauses top end : ℕ) (ws : List Word) → IsLawful v
     ≡ Ok (header_numbers variables clauses top, ws)
 unfolding header_at wanted_word header_number top_at
 header_again variables clauses top end ws h few heavy ended =
-    let first = natural_again 0 1 variables (omega arith) (omega (arith, h.few)) in
-    let second = natural_again 0 1 clauses (omega arith) (omega arith) in
-    let third = natural_again 1 1 top heavy (omega (arith, h.light)) in
-    rw (first, second, third, ended) refl
+    grind (arith, nat_tests, natural_again)
 
 p_ink : IsInk (codes "p")
 p_ink = record { filled = omega arith; blank = (refl, tt); feed = (refl, tt) }
@@ -280,24 +226,15 @@ sample_cut number clauses few =
     ∙ ap (λ (rest : List Word). map (word 1) (header_words variables clauses top) ++ rest)
     (tokens_again 2 clauses variables top (seed number) h)
 
-words_again : (number clauses end : ℕ) → clauses ≤ 100000
-    → older_of 1 end
+words_again : (number clauses end : ℕ) → clauses ≤ 100000 → older_of 1 end
     (map (word 1) (header_rest (variables_of clauses) clauses (top_of clauses))
     ++ clause_tokens 2 clauses (variables_of clauses) (top_of clauses) (seed number))
     ≡ Ok (sample number clauses)
 unfolding older_of
 words_again number clauses end few =
-    let variables = variables_of clauses in
-    let top = top_of clauses in
-    let h = lawful clauses few in
-    let header = header_again variables clauses top end
-    (clause_tokens 2 clauses variables top (seed number)) h few (omega arith)
-    (line_ended (Some top) clauses variables top (seed number)) in
-    rw (header, clauses_again clauses 2 variables clauses top (seed number) end h) refl
+    grind (arith, nat_tests, lawful, header_again, line_ended, clauses_again)
 
 pub sample_again : (number clauses : ℕ) → clauses ≤ 100000
     → reading (sample_text number clauses) ≡ Ok (sample number clauses)
 unfolding reading reading_of_words
-sample_again number clauses few =
-    ap reading_of_words (sample_cut number clauses few)
-    ∙ words_again number clauses (end_line (sample_tokens number clauses)) few
+sample_again number clauses few = grind (arith, nat_tests, sample_cut, words_again)

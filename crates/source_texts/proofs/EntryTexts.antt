@@ -1,20 +1,11 @@
 -- Texts of entries, QUBO and Ising: their problems stand for what they say.
-use Rattle.std.proofs.Common.{◌≡◌, List, Ok, refl}
-use Rattle.form_steps.specs.Stated.{HasSameCosts}
-use Rattle.whole_text.specs.Tokens.{Word}
-use Rattle.whole_text.specs.Steps.{◌>>=◌}
+use Rattle.source_texts.proofs.Common.{◌≡◌, List, Ok, refl, HasSameCosts, Word, ◌>>=◌, normal_form, Layout, Listing, listing_of, problem_of, reading_keeps_costs, Read, own, plain}
 use Rattle.problem_form.specs.Problems as problems
-use Rattle.problem_form.specs.NormalForm.{normal_form}
 use Rattle.command_words.specs.declared.commands.Format.TheVariants as formats
-use Rattle.entry_reader.specs.declared.layout.Layout.{Layout}
 use Rattle.entry_reader.specs.declared.layout.Layout.TheVariants as layouts
-use Rattle.entry_reader.specs.Entries.{Listing, listing_of}
-use Rattle.entry_reader.specs.Problems.{problem_of, problem_of_words}
+use Rattle.entry_reader.specs.Problems.{problem_of_words}
 use Rattle.entry_reader.specs.Cost.{form_of}
-use Rattle.entry_reader.proofs.ReadCosts.{reading_keeps_costs}
-use Rattle.source_texts.specs.declared.reading.Read.{Read}
 use Rattle.source_texts.specs.Sources as sources
-use Rattle.source_texts.specs.Sources.{own, plain}
 use Rattle.source_texts.proofs.Readings.{AreRead, kept_as, same_costs_stand, same_costs, source_by}
 
 -- the problem of what a text says
@@ -35,15 +26,13 @@ entries_read layout = record {
 }
 
 -- words are read into the problem of their reader
-pub ising_words : (ws : List Word)
-    → sources.problem_of_words formats.Ising ws
+pub ising_words : (ws : List Word) → sources.problem_of_words formats.Ising ws
     ≡ (problem_of_words layouts.Ising ws >>= λ p. Ok (own p))
 unfolding problem_of_words
 ising_words ws =
     kept_as (listing_of layouts.Ising ws) (λ s. normal_form (problem_of layouts.Ising s)) own
 
-pub qubo_words : (ws : List Word)
-    → sources.problem_of_words formats.Qubo ws
+pub qubo_words : (ws : List Word) → sources.problem_of_words formats.Qubo ws
     ≡ (problem_of_words layouts.Qubo ws >>= λ p. Ok (own p))
 unfolding problem_of_words
 qubo_words ws =

@@ -1,17 +1,10 @@
 -- OPB texts: their problems stand for what they say.
-use Rattle.std.proofs.Common.{◌≡◌, List, Ok, refl}
-use Rattle.form_steps.specs.Stated.{HasSameCosts}
-use Rattle.whole_text.specs.Tokens.{Word}
-use Rattle.whole_text.specs.Steps.{◌>>=◌}
+use Rattle.source_texts.proofs.Common.{◌≡◌, List, Ok, refl, HasSameCosts, Word, ◌>>=◌, normal_form, Opb, reading_of_words, Read, own, plain}
 use Rattle.problem_form.specs.Problems as problems
-use Rattle.problem_form.specs.NormalForm.{normal_form}
 use Rattle.command_words.specs.declared.commands.Format.TheVariants as formats
-use Rattle.opb_reader.specs.Opb.{Opb, reading_of_words}
 use Rattle.opb_reader.specs.Cost.{form_of, problem_of, problem_of_words}
 use Rattle.opb_reader.proofs.ReadCosts.{reading_keeps_costs}
-use Rattle.source_texts.specs.declared.reading.Read.{Read}
 use Rattle.source_texts.specs.Sources as sources
-use Rattle.source_texts.specs.Sources.{own, plain}
 use Rattle.source_texts.proofs.Readings.{AreRead, kept_as, same_costs_stand, same_costs, source_by}
 
 -- the problem of what a text says

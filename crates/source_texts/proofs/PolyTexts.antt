@@ -1,16 +1,11 @@
 -- Polynomial texts: their problems stand for what they say.
-use Rattle.std.proofs.Common.{◌≡◌, List, Ok, refl}
-use Rattle.form_steps.specs.Stated.{HasSameCosts}
-use Rattle.whole_text.specs.Tokens.{Word}
-use Rattle.whole_text.specs.Steps.{◌>>=◌}
+use Rattle.source_texts.proofs.Common.{◌≡◌, List, Ok, refl, HasSameCosts, Word, ◌>>=◌, Listed, polynomial_of, polynomial_of_words, Read, named}
 use Rattle.problem_form.specs.Problems as problems
 use Rattle.command_words.specs.declared.commands.Format.TheVariants as formats
-use Rattle.poly_reader.specs.Poly.{Listed, reading_of_words}
-use Rattle.poly_reader.specs.Cost.{form_of, polynomial_of, polynomial_of_words}
+use Rattle.poly_reader.specs.Poly.{reading_of_words}
+use Rattle.poly_reader.specs.Cost.{form_of}
 use Rattle.poly_reader.proofs.ReadCosts.{reading_keeps_costs}
-use Rattle.source_texts.specs.declared.reading.Read.{Read}
 use Rattle.source_texts.specs.Sources as sources
-use Rattle.source_texts.specs.Sources.{named}
 use Rattle.source_texts.proofs.Readings.{AreRead, kept_as, same_costs_stand, same_costs, source_by}
 
 -- the problem of what a text says

@@ -1,8 +1,6 @@
 -- The problem that a text is read into stands for the source that the text says, and costs what it
 -- does, and has its names, and the words of a text are read as the text is: a line a format.
-use Rattle.std.proofs.Common.{◌≡◌, ℕ, List, Ok, refl}
-use Rattle.base.specs.Costs.{Source}
-use Rattle.command_words.specs.declared.commands.Format.{Format}
+use Rattle.source_texts.proofs.Common.{nat_tests, arith, ◌≡◌, ℕ, List, Ok, refl, Source, Format, Read, names_of, source_of, words_in, StandsBounded, CostsAs, ProblemsCostAsSources, WordsAreReadAsTexts}
 use Rattle.command_words.specs.declared.commands.Format.TheVariants.{Wcnf, Opb, Wbo, Poly, Ising, Qubo}
 use Rattle.wcnf_reader.specs.Wcnf as wcnf
 use Rattle.opb_reader.specs.Opb as opb
@@ -10,10 +8,9 @@ use Rattle.wbo_reader.specs.Reading as wbo
 use Rattle.poly_reader.specs.Poly as poly
 use Rattle.entry_reader.specs.Entries as entries
 use Rattle.entry_reader.specs.declared.layout.Layout.TheVariants as layouts
-use Rattle.source_texts.specs.declared.reading.Read.{Read}
-use Rattle.source_texts.specs.Sources.{names_of, source_of, problem_of, words_in, StandsBounded, CostsAs, ProblemsCostAsSources, WordsAreReadAsTexts}
+use Rattle.source_texts.specs.Sources.{problem_of}
 use Rattle.source_texts.proofs.Bounded.{costs_bounded}
-use Rattle.source_texts.proofs.Readings.{no_names, read_stands, read_costs, said_names}
+use Rattle.source_texts.proofs.Readings.{read_stands, read_costs}
 use Rattle.source_texts.proofs.WcnfTexts.{wcnf_read}
 use Rattle.source_texts.proofs.OpbTexts.{opb_read}
 use Rattle.source_texts.proofs.WboTexts.{wbo_read}
@@ -60,16 +57,7 @@ problem_costs format text r s most e said = costs_bounded s r most (own_costs fo
 -- what is read has the names that the text says
 pub names_read : (format : Format) (text : List ℕ) (r : Read) → problem_of format text ≡ Ok r
     → names_of format text ≡ r.names
-names_read Wcnf text r e =
-    no_names (wcnf.reading_of_words (words_in Wcnf text)) _ r (λ s. refl) e
-names_read Opb text r e = no_names (opb.reading_of_words (words_in Opb text)) _ r (λ s. refl) e
-names_read Wbo text r e = no_names (wbo.reading_of_words (words_in Wbo text)) _ r (λ s. refl) e
-names_read Poly text r e =
-    said_names (poly.reading_of_words (words_in Poly text)) _ r _ (λ s. refl) e
-names_read Ising text r e =
-    no_names (entries.listing_of layouts.Ising (words_in Ising text)) _ r (λ s. refl) e
-names_read Qubo text r e =
-    no_names (entries.listing_of layouts.Qubo (words_in Qubo text)) _ r (λ s. refl) e
+names_read format text r e = grind (arith, nat_tests)
 
 pub words_read : WordsAreReadAsTexts
 words_read format text = refl

@@ -1,15 +1,8 @@
 -- WBO texts: the problems that they are rewritten to stand for what they say.
-use Rattle.std.proofs.Common.{◌≡◌, List, Ok, refl, ◌∙◌}
-use Rattle.whole_text.specs.Tokens.{Word}
-use Rattle.whole_text.specs.Steps.{◌>>=◌}
+use Rattle.source_texts.proofs.Common.{◌≡◌, List, Ok, refl, ◌∙◌, Word, ◌>>=◌, WboText, content_of, content_of_words, reading_keeps_costs_of_text, carries_assignments, content_is_normal, rewrites_its_text, Read, eased, StandsBounded, CostsAs}
 use Rattle.command_words.specs.declared.commands.Format.TheVariants as formats
-use Rattle.wbo_reader.specs.Reading.{WboText, content_of, content_of_words, form_of, reading_of_words}
-use Rattle.wbo_reader.proofs.ReadCosts.{reading_keeps_costs_of_text}
-use Rattle.wbo_reader.proofs.Rewritten.{carries_assignments}
-use Rattle.wbo_reader.proofs.Standing.{content_is_normal, rewrites_its_text}
-use Rattle.source_texts.specs.declared.reading.Read.{Read}
+use Rattle.wbo_reader.specs.Reading.{form_of, reading_of_words}
 use Rattle.source_texts.specs.Sources as sources
-use Rattle.source_texts.specs.Sources.{eased, StandsBounded, CostsAs}
 use Rattle.source_texts.proofs.Bounded.{rewritten_stand}
 use Rattle.source_texts.proofs.Readings.{AreRead, kept_as, source_by}
 

@@ -1,16 +1,5 @@
 -- Problems that are sound with more rows or products: the first of these can be added.
-use Rattle.std.proofs.Common.{◌≡◌, ℕ, ◌+◌, ◌<◌, ◌^◌, List, [], ◌∷◌, ◌++◌, All, unsigned_abs, sym, subst, arith}
-use Rattle.std.specs.List.{AllByRecursion}
-use Rattle.std.proofs.lemmas.List.{append_assoc, append-nil}
-use Rattle.std.proofs.lemmas.List.Sums.{sum_by-append, sum_by-cons}
-use Rattle.std.proofs.lemmas.List.Elements.{All-from_recursion, recursion_from_All}
-use Rattle.literal_lists.specs.declared.literal.Literal.{Literal}
-use Rattle.problem_form.specs.declared.terms.Product.{Product}
-use Rattle.problem_form.specs.declared.terms.Constraint.{Constraint}
-use Rattle.problem_form.specs.Problems.{ProblemContent, constraint_total, problem_total, IsNormalProduct}
-use Rattle.problem_form.specs.Fields.{IsSound}
-use Rattle.wbo_reader.specs.Wbo.{IsNormalConstraint}
-use Rattle.wbo_reader.specs.Rewriting.{with_products, with_rows}
+use Rattle.wbo_reader.proofs.Common.{◌≡◌, ℕ, ◌+◌, ◌<◌, ◌^◌, List, [], ◌∷◌, ◌++◌, All, unsigned_abs, sym, subst, arith, AllByRecursion, append_assoc, append-nil, sum_by-append, sum_by-cons, All-from_recursion, recursion_from_All, Literal, Product, Constraint, ProblemContent, constraint_total, problem_total, IsNormalProduct, IsSound, IsNormalConstraint, with_products, with_rows}
 
 -- ---- all of some
 
@@ -50,13 +39,7 @@ first_rows p xs ys h =
             (subst (All (IsNormalConstraint p.variables)) (sym joined) h.0.constraints);
         most = h.0.most;
       },
-      omega (
-        arith,
-        h.1,
-        sum_by-append constraint_total p.constraints (xs ++ ys),
-        sum_by-append constraint_total xs ys,
-        sum_by-append constraint_total p.constraints xs,
-      ),
+      omega (arith, h.1, sum_by-append),
     )
 
 pub row_normal : (p : ProblemContent) (k : Constraint) → IsSound (with_rows p (k ∷ []))
@@ -65,13 +48,7 @@ row_normal p k h = All-last (IsNormalConstraint p.variables) p.constraints k h.0
 
 pub row_small : (p : ProblemContent) (k : Constraint) → IsSound (with_rows p (k ∷ []))
     → problem_total p + constraint_total k < 2 ^ 100
-row_small p k h =
-    omega (
-      arith,
-      h.1,
-      sum_by-append constraint_total p.constraints (k ∷ []),
-      sum_by-cons constraint_total k [],
-    )
+row_small p k h = omega (arith, sum_by-append, sum_by-cons)
 
 -- ---- products
 
@@ -94,13 +71,7 @@ first_products p xs ys h =
         constraints = h.0.constraints;
         most = h.0.most;
       },
-      omega (
-        arith,
-        h.1,
-        sum_by-append size p.objective (xs ++ ys),
-        sum_by-append size xs ys,
-        sum_by-append size p.objective xs,
-      ),
+      omega (arith, h.1, sum_by-append),
     )
 
 -- ---- literals

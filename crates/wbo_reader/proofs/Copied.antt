@@ -1,23 +1,5 @@
 -- A constraint in normal form is its own normal form, and what a constraint is eased to.
-use Rattle.std.proofs.Common.{◌≡◌, ◌≢◌, Result, Ok, Err, OnOk, ℕ, zero, suc, ◌+◌, ◌≤◌, Bool, true, false, ◌||◌, List, [], ◌∷◌, ◌++◌, map, take, Some, ℤ, pos, ◌+ℤ◌, ◌-ℤ◌, negsuc, int_le, int_lt, unsigned_abs, refl, sym, ap, ◌∙◌, arith}
-use Rattle.std.specs.Prelude.{if◌then◌else◌}
-use Rattle.std.specs.List.{flat_map, slice_get, sum_by, AllByRecursion}
-use Rattle.std.proofs.lemmas.Int.{ints}
-use Rattle.std.proofs.lemmas.List.Sums.{sum_by-cons}
-use Rattle.std.proofs.lemmas.List.Elements.{recursion_from_All}
-use Rattle.std.proofs.lemmas.List.{append_assoc, map-append}
-use Rattle.base.specs.Sums.{total_by, positive_part}
-use Rattle.literal_lists.specs.declared.literal.Literal.{Literal}
-use Rattle.problem_form.specs.declared.terms.Product.{Product}
-use Rattle.problem_form.specs.declared.terms.Constraint.{Constraint}
-use Rattle.literal_lists.specs.Literals.{has_clash}
-use Rattle.problem_form.specs.Problems.{IsNormalProduct, negated, constraint_total, fails}
-use Rattle.problem_form.specs.NormalForm.{is_empty, kept_product, product_constant, normal_constraint}
-use Rattle.literal_lists.proofs.LiteralSets.{literal_set-ascending}
-use Rattle.problem_form.proofs.KeptProducts.{kept_product-kept}
-use Rattle.wbo_reader.specs.declared.soft.Soft.{Soft}
-use Rattle.wbo_reader.specs.Wbo.{IsNormalConstraint, soft_total}
-use Rattle.wbo_reader.specs.Rewriting.{bit_product, least_part, least_sum, eased}
+use Rattle.wbo_reader.proofs.Common.{nat_tests, ◌≡◌, ◌≢◌, Result, OnOk, ℕ, zero, suc, ◌+◌, ◌≤◌, Bool, true, false, ◌||◌, List, [], ◌∷◌, ◌++◌, map, take, Some, ℤ, pos, ◌+ℤ◌, ◌-ℤ◌, int_le, int_lt, unsigned_abs, refl, sym, ap, ◌∙◌, arith, if◌then◌else◌, flat_map, slice_get, sum_by, AllByRecursion, ints, sum_by-cons, recursion_from_All, append_assoc, map-append, total_by, positive_part, Literal, Product, Constraint, IsNormalProduct, negated, constraint_total, fails, is_empty, kept_product, product_constant, normal_constraint, literal_set-ascending, kept_product-kept, Soft, IsNormalConstraint, soft_total, bit_product, least_part, least_sum, eased}
 
 -- ---- normal form
 
@@ -31,9 +13,7 @@ neither false b e f = f
 
 pub product_itself : (n : ℕ) (t : Product) → IsNormalProduct n t → kept_product t ≡ t ∷ []
 product_itself n t is =
-    sym (kept_product-kept t t.literals (sym (literal_set-ascending t.literals is.set.ordered))
-    is.nonzero (neither (has_clash t.literals) (is_empty t.literals) is.set.apart
-    (not_empty t.literals is.filled)))
+    grind (arith, nat_tests, kept_product-kept, literal_set-ascending, neither, not_empty)
 
 pub no_constant : (n : ℕ) (t : Product) → IsNormalProduct n t → product_constant t ≡ pos 0
 no_constant n t is = ap (λ b. if b then t.coefficient else pos 0) (not_empty t.literals is.filled)
@@ -41,8 +21,7 @@ no_constant n t is = ap (λ b. if b then t.coefficient else pos 0) (not_empty t.
 products_themselves : (n : ℕ) (ts : List Product) → AllByRecursion (IsNormalProduct n) ts
     → flat_map kept_product ts ≡ ts
 products_themselves n [] h = refl
-products_themselves n (t ∷ ts) h =
-    λ i. product_itself n t h.0 i ++ products_themselves n ts h.1 i
+products_themselves n (t ∷ ts) h = λ i. product_itself n t h.0 i ++ products_themselves n ts h.1 i
 
 no_constants : (n : ℕ) (ts : List Product) → AllByRecursion (IsNormalProduct n) ts
     → total_by product_constant ts ≡ pos 0
@@ -63,8 +42,7 @@ normal_itself n k h =
 -- ---- what is eased
 
 pub eased_more : (v : ℕ) (ts : List Product) (bound : ℤ) → int_le bound (least_sum ts) ≡ false
-    → eased v ts bound
-    ≡ record {
+    → eased v ts bound ≡ record {
       products = ts ++ bit_product v (bound -ℤ least_sum ts) ∷ [];
       bound = bound;
       exact = false;
@@ -80,9 +58,7 @@ eased_more v ts bound e = λ i. record {
 pub soft_within : (ss : List Soft) (i : ℕ) (s : Soft) → slice_get ss i ≡ Some s
     → constraint_total s.constraint ≤ sum_by soft_total ss
 soft_within [] i s at = absurd cc
-soft_within (t ∷ ss) zero s at =
-    let same : t ≡ s = cc in
-    omega (arith, sum_by-cons soft_total t ss, ap soft_total same)
+soft_within (t ∷ ss) zero s at = simp sum_by-cons (grind (arith, nat_tests))
 soft_within (t ∷ ss) (suc i) s at =
     omega (arith, sum_by-cons soft_total t ss, soft_within ss i s at)
 
@@ -94,52 +70,31 @@ pub eased_pushed : {A E : Type 0} (v : ℕ) (k : Constraint) (r : Result A E) (n
     → OnOk r (new ≡ k.products ++ record { literals = ls; coefficient = c } ∷ [])
     → OnOk r (record { products = new; bound = k.bound; exact = k.exact }
     ≡ eased v k.products k.bound)
-eased_pushed v k (Err e) new ls c short inexact literals gap pushed = tt
-eased_pushed v k (Ok a) new ls c short inexact literals gap pushed =
-    (λ i. record {
-      products = (pushed
-          ∙ (λ j. k.products ++ record { literals = literals j; coefficient = gap j } ∷ [])) i;
-      bound = k.bound;
-      exact = inexact i;
-    })
-    ∙ sym (eased_more v k.products k.bound short)
+eased_pushed v k r new ls c short inexact literals gap pushed = grind (arith, nat_tests, ints)
 
 -- ---- least sums
 
 pub least_part_negative : (c : ℤ) → int_lt c (pos 0) ≡ true → least_part c ≡ c
-least_part_negative (pos zero) e = absurd cc
-least_part_negative (pos (suc n)) e =
-    let other : int_lt (pos (suc n)) (pos 0) ≡ false = grind (arith, ints) in
-    absurd cc
-least_part_negative (negsuc n) e = omega (arith, ints)
+least_part_negative c e = grind (arith, nat_tests, ints)
 
 pub least_part_other : (c : ℤ) → int_lt c (pos 0) ≡ false → least_part c ≡ pos 0
-least_part_other (pos zero) e = refl
-least_part_other (pos (suc n)) e = refl
-least_part_other (negsuc n) e = absurd cc
+least_part_other c e = grind (arith, nat_tests, ints)
 
 pub least_part-size : (c : ℤ) → unsigned_abs (least_part c) ≤ unsigned_abs c
-least_part-size (pos zero) = omega arith
-least_part-size (pos (suc n)) = omega arith
-least_part-size (negsuc n) = omega (arith, ints)
+least_part-size c = grind (arith, nat_tests, ints)
 
 pub least_sum-cons : (t : Product) (ts : List Product)
     → least_sum (t ∷ ts) ≡ least_part t.coefficient +ℤ least_sum ts
 least_sum-cons t ts =
-    omega (
-      arith,
-      ints,
-      sum_by-cons (λ (u : Product). positive_part u.coefficient) (negated t) (map negated ts),
-    )
+    let sum = sum_by-cons (λ (u : Product). positive_part u.coefficient) (negated t) (map negated ts) in
+    omega (arith, ints)
 
 -- ---- bits, one after another
 
 take_at : {A : Type 0} (xs : List A) (i : ℕ) (x : A) → slice_get xs i ≡ Some x
     → take (suc i) xs ≡ take i xs ++ x ∷ []
 take_at [] i x at = absurd cc
-take_at (a ∷ xs) zero x at =
-    let same : a ≡ x = cc in
-    ap (λ b. b ∷ []) same
+take_at (a ∷ xs) zero x at = grind (arith, nat_tests)
 take_at (a ∷ xs) (suc i) x at = ap (λ ys. a ∷ ys) (take_at xs i x at)
 
 pub bits_more : (x y new : List Bool) (soft : List Soft) (i : ℕ) (s : Soft) (b : Bool)
@@ -149,8 +104,6 @@ pub bits_more : (x y new : List Bool) (soft : List Soft) (i : ℕ) (s : Soft) (b
 bits_more x y new soft i s b so_far at is more =
     let f : Soft → Bool = λ (k : Soft). fails x k.constraint in
     let next : i + 1 ≡ suc i = omega arith in
-    more
-    ∙ (λ j. so_far j ++ is j ∷ [])
-    ∙ append_assoc x (map f (take i soft)) (f s ∷ [])
+    more ∙ (λ j. so_far j ++ is j ∷ []) ∙ append_assoc x (map f (take i soft)) (f s ∷ [])
     ∙ ap (λ bs. x ++ bs) (sym (map-append f (take i soft) (s ∷ [])))
     ∙ ap (λ ss. x ++ map f ss) (sym (take_at soft i s at) ∙ ap (λ n. take n soft) (sym next))

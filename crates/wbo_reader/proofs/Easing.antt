@@ -1,17 +1,5 @@
 -- The constraints that stand for a soft one: they fail where its bit is 0 and it fails.
-use Rattle.std.proofs.Common.{◌≡◌, ℕ, Bool, true, false, not, ◌&&◌, ◌||◌, List, [], ◌∷◌, ◌++◌, map, get_or, ℤ, pos, negsuc, ◌+ℤ◌, ◌-ℤ◌, ◌≤ℤ◌, neg_ℤ, int_lt, int_le, refl, ap, ◌∙◌, arith}
-use Rattle.std.specs.Prelude.{if◌then◌else◌}
-use Rattle.std.specs.Ordering.{int_eq}
-use Rattle.std.specs.List.{list_any}
-use Rattle.std.proofs.lemmas.Int.{ints}
-use Rattle.std.proofs.lemmas.List.Sums.{sum_by-cons}
-use Rattle.base.specs.Sums.{if_so, positive_part}
-use Rattle.base.proofs.Totals.{total_by-append}
-use Rattle.problem_form.specs.declared.terms.Product.{Product}
-use Rattle.problem_form.specs.declared.terms.Constraint.{Constraint}
-use Rattle.literal_lists.specs.Literals.{all_hold}
-use Rattle.problem_form.specs.Problems.{product_value, sum_of, negated, fails}
-use Rattle.wbo_reader.specs.Rewriting.{bit_product, least_sum, eased, eased_row}
+use Rattle.wbo_reader.proofs.Common.{nat_tests, ◌≡◌, ℕ, Bool, true, false, not, ◌&&◌, ◌||◌, List, [], ◌∷◌, ◌++◌, map, get_or, ℤ, pos, ◌+ℤ◌, ◌-ℤ◌, ◌≤ℤ◌, neg_ℤ, int_lt, int_le, refl, arith, int_eq, list_any, ints, sum_by-cons, if_so, positive_part, total_by-append, Product, Constraint, all_hold, product_value, sum_of, negated, fails, bit_product, least_sum, eased, eased_row}
 
 -- the bit of a variable
 abbrev pub bit_of : List Bool → ℕ → Bool
@@ -33,47 +21,23 @@ sum_of-negated x (t ∷ ts) =
 -- the value of the variable alone
 pub bit_product-value : (x : List Bool) (v : ℕ) (c : ℤ)
     → product_value x (bit_product v c) ≡ if_so (bit_of x v) c
-bit_product-value x v c = go (bit_of x v)
-  where
-    go : (b : Bool) → if_so (b && true) c ≡ if_so b c
-    go true = refl
-    go false = refl
+bit_product-value x v c = grind (arith, nat_tests, ints)
 
-part-least : (b : Bool) (c : ℤ)
-    → neg_ℤ (pos (positive_part (neg_ℤ c))) ≤ℤ if_so b c
-part-least true c = positive_size-least c
-  where
-    positive_size-least : (c : ℤ) → neg_ℤ (pos (positive_part (neg_ℤ c))) ≤ℤ c
-    positive_size-least c = go (neg_ℤ c) c refl
-      where
-        go : (m c : ℤ) → neg_ℤ c ≡ m → neg_ℤ (pos (positive_part m)) ≤ℤ c
-        go (pos k) c e = omega (arith, ints)
-        go (negsuc k) c e = omega (arith, ints)
-part-least false c = omega (arith, ints)
+part-least : (b : Bool) (c : ℤ) → neg_ℤ (pos (positive_part (neg_ℤ c))) ≤ℤ if_so b c
+part-least b c = grind (arith, nat_tests, ints)
 
 -- no sum is below the least one
 pub least_sum-le : (x : List Bool) (ts : List Product) → least_sum ts ≤ℤ sum_of x ts
 least_sum-le x [] = omega (arith, ints)
 least_sum-le x (t ∷ ts) =
-    omega (
-      arith,
-      ints,
-      part-least (all_hold x t.literals) t.coefficient,
-      least_sum-le x ts,
-      sum_by-cons (λ (u : Product). positive_part u.coefficient) (negated t) (map negated ts),
-    )
+    let sum = sum_by-cons (λ (u : Product). positive_part u.coefficient) (negated t) (map negated ts) in
+    omega (arith, ints, part-least (all_hold x t.literals) t.coefficient, least_sum-le x ts)
 
 -- ---- one constraint with its bit
 
 sum_with_bit : (x : List Bool) (v : ℕ) (ts : List Product) (c : ℤ)
     → sum_of x (ts ++ bit_product v c ∷ []) ≡ sum_of x ts +ℤ if_so (bit_of x v) c
-sum_with_bit x v ts c =
-    omega (
-      arith,
-      ints,
-      total_by-append (product_value x) ts (bit_product v c ∷ []),
-      bit_product-value x v c,
-    )
+sum_with_bit x v ts c = grind (arith, nat_tests, ints, total_by-append, bit_product-value)
 
 -- whether a sum with the bit is less than the bound
 with_bit : (b : Bool) (sum low bound : ℤ) → low ≤ℤ sum
@@ -92,26 +56,18 @@ int_le-true a b e = grind (arith, ints)
 
 pub eased-fails : (x : List Bool) (v : ℕ) (ts : List Product) (bound : ℤ)
     → fails x (eased v ts bound) ≡ (not (bit_of x v) && int_lt (sum_of x ts) bound)
-eased-fails x v ts bound = go (int_le bound (least_sum ts)) refl
-  where
-    go : (enough : Bool) → int_le bound (least_sum ts) ≡ enough
-        → int_lt
-        (sum_of x
-        (if enough then ts else ts ++ bit_product v (bound -ℤ least_sum ts) ∷ [])) bound
-        ≡ (not (bit_of x v) && int_lt (sum_of x ts) bound)
-    go true e =
-        without_bit (bit_of x v) (sum_of x ts) (least_sum ts) bound (least_sum-le x ts)
-        (int_le-true bound (least_sum ts) e)
-    go false e =
-        ap (λ s. int_lt s bound) (sum_with_bit x v ts (bound -ℤ least_sum ts))
-        ∙ with_bit (bit_of x v) (sum_of x ts) (least_sum ts) bound (least_sum-le x ts)
+eased-fails x v ts bound =
+    let least = least_sum-le x ts in
+    let int = int_le-true bound (least_sum ts) in
+    let without = without_bit (bit_of x v) (sum_of x ts) (least_sum ts) bound (least_sum-le x ts) in
+    let sum = sum_with_bit x v ts (bound -ℤ least_sum ts) in
+    let with = with_bit (bit_of x v) (sum_of x ts) (least_sum ts) bound (least_sum-le x ts) in
+    grind (arith, nat_tests, ints)
 
 -- ---- a row
 
 one_side : (b fail : Bool) → ((not b && fail) || false) ≡ (not b && fail)
-one_side true fail = refl
-one_side false true = refl
-one_side false false = refl
+one_side b fail = grind (arith, nat_tests)
 
 two_sides : (b : Bool) (sum bound : ℤ)
     → ((not b && int_lt sum bound) || ((not b && int_lt (neg_ℤ sum) (neg_ℤ bound)) || false))
@@ -122,23 +78,4 @@ two_sides false sum bound = grind (arith, ints)
 -- what stands for a constraint fails where the bit is 0 and the constraint fails
 pub eased_row-fails : (x : List Bool) (v : ℕ) (k : Constraint)
     → list_any (fails x) (eased_row v k) ≡ (not (bit_of x v) && fails x k)
-eased_row-fails x v k = go k.exact
-  where
-    sum : ℤ
-    sum = sum_of x k.products
-
-    go : (exact : Bool)
-        → list_any (fails x)
-        (if exact
-        then eased v k.products k.bound ∷ eased v (map negated k.products) (neg_ℤ k.bound) ∷ []
-        else eased v k.products k.bound ∷ [])
-        ≡ (not (bit_of x v) && (if exact then not (int_eq sum k.bound) else int_lt sum k.bound))
-    go true =
-        (λ i. eased-fails x v k.products k.bound i
-        || (eased-fails x v (map negated k.products) (neg_ℤ k.bound) i || false))
-        ∙ (λ i. (not (bit_of x v) && int_lt sum k.bound)
-        || ((not (bit_of x v) && int_lt (sum_of-negated x k.products i) (neg_ℤ k.bound)) || false))
-        ∙ two_sides (bit_of x v) sum k.bound
-    go false =
-        (λ i. eased-fails x v k.products k.bound i || false)
-        ∙ one_side (bit_of x v) (int_lt sum k.bound)
+eased_row-fails x v k = grind (arith, nat_tests, eased-fails, sum_of-negated, two_sides, one_side)

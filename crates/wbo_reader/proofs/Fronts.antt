@@ -1,14 +1,5 @@
 -- What is read of a constraint with its weight leaves no more words than there were.
-use Rattle.std.proofs.Common.{ℕ, ◌≤◌, Bool, true, false, List, [], ◌∷◌, length, Option, Some, None, Result, Ok, Err, IfOk, codes, arith, refl}
-use Rattle.std.specs.Prelude.{bytes_eq, if◌then◌else◌}
-use Rattle.whole_text.specs.declared.faults.TextFault.{TextFault}
-use Rattle.whole_text.specs.declared.faults.TextKind.TheVariants as kinds
-use Rattle.whole_text.specs.Tokens.{Word}
-use Rattle.whole_text.specs.Steps.{◌>>=◌, fault, next_of, natural_at}
-use Rattle.opb_reader.specs.Opb.{Listed, never, constraint_at}
-use Rattle.opb_reader.proofs.Many.{Leaves, Shrinks, many_enough, many_all}
-use Rattle.opb_reader.proofs.Shrinking.{constraint_shrinks}
-use Rattle.wbo_reader.specs.Reading.{Weighed, greatest_index, after_word, weight_at, front_at, weighed_at, constraints_at, WordsAreEnough}
+use Rattle.wbo_reader.proofs.Common.{nat_tests, ℕ, ◌≤◌, Bool, true, false, List, [], ◌∷◌, length, Option, Some, None, Result, Ok, Err, IfOk, codes, arith, bytes_eq, if◌then◌else◌, TextFault, Word, ◌>>=◌, next_of, natural_at, Listed, constraint_at, Leaves, Shrinks, many_enough, many_all, constraint_shrinks, Weighed, greatest_index, after_word, weight_at, front_at, weighed_at, constraints_at, WordsAreEnough}
 
 -- a fact on what a first step gives, and one on what the next gives with it
 pub bind_if : {A B : Type 0} (P : A → Type 0) (Q : B → Type 0) (first : Result A TextFault)
@@ -37,30 +28,13 @@ with_weight weight rest = Ok (weight, rest)
 abbrev close_part : ℕ → Word × List Word → Result (ℕ × List Word) TextFault
 close_part weight w = after_word (codes "]") w >>= with_weight weight
 
-close_leaves : (weight most : ℕ) (w : Word × List Word) → length w.1 ≤ most
-    → IfOk (close_part weight w) (Leaves most)
-close_leaves weight most w le = go (bytes_eq w.0.bytes (codes "]"))
-  where
-    go : (b : Bool)
-        → IfOk ((if b then Ok w.1 else Err (fault kinds.Word w.0.line)) >>= with_weight weight)
-        (Leaves most)
-    go true = le
-    go false = tt
-
 abbrev number_part : ℕ → Word × List Word → Result (ℕ × List Word) TextFault
 number_part end number =
     natural_at 0 number.0 >>= λ weight. next_of end number.1 >>= close_part weight
 
 weight_leaves : (end : ℕ) (ws : List Word) → IfOk (weight_at end ws) (Leaves (length ws))
 unfolding weight_at
-weight_leaves end ws =
-    let most = length ws in
-    bind_if (Leaves most) (Leaves most) (next_of end ws) (number_part end) (next_leaves end ws)
-    (λ number h. bind_if Any (Leaves most) (natural_at 0 number.0)
-    (λ weight. next_of end number.1 >>= close_part weight) (any (natural_at 0 number.0))
-    (λ weight _. bind_if (Leaves (length number.1)) (Leaves most) (next_of end number.1)
-    (close_part weight) (next_leaves end number.1)
-    (λ close k. close_leaves weight most close (omega (arith, h, k)))))
+weight_leaves end ws = grind (arith, nat_tests)
 
 -- ---- what stands before a sum
 
@@ -79,8 +53,7 @@ front_leaves : (end : ℕ) (w : Word) (ws : List Word)
 unfolding front_at
 front_leaves end w ws = go (bytes_eq w.bytes (codes "["))
   where
-    go : (b : Bool)
-        → IfOk (if b then (weight_at end ws >>= soft_part end) else Ok (None, w, ws))
+    go : (b : Bool) → IfOk (if b then (weight_at end ws >>= soft_part end) else Ok (None, w, ws))
         (LeavesFront (length ws))
     go true =
         bind_if (Leaves (length ws)) (LeavesFront (length ws)) (weight_at end ws) (soft_part end)
@@ -102,8 +75,7 @@ unfolding weighed_at
 weighed_shrinks end = record {
   leaves = λ w ws.
       bind_if (LeavesFront (length ws)) (Leaves (length ws)) (front_at end w ws) (sum_part end)
-      (front_leaves end w ws)
-      (λ front h. bind_if (Leaves (length front.2)) (Leaves (length ws))
+      (front_leaves end w ws) (λ front h. bind_if (Leaves (length front.2)) (Leaves (length ws))
       (constraint_at greatest_index end front.1 front.2) (as_weighed front.0)
       ((constraint_shrinks greatest_index end).leaves front.1 front.2)
       (λ k less. omega (arith, h, less)));
@@ -114,10 +86,6 @@ weighed_shrinks end = record {
 pub words_are_enough : WordsAreEnough
 unfolding constraints_at
 words_are_enough = record {
-  constraints = λ count end ws h.
-      many_enough never (weighed_at end) (weighed_shrinks end) count (length ws) ws h
-      (omega arith);
-  all = λ end ws.
-      many_all never (weighed_at end) (weighed_shrinks end) (λ bytes. refl) (length ws) ws
-      (omega arith);
+  constraints = λ count end ws h. grind (arith, nat_tests, many_enough, weighed_shrinks);
+  all = λ end ws. grind (arith, nat_tests, many_all, weighed_shrinks);
 }

@@ -1,56 +1,18 @@
 -- No index that is read is above the limit, so as many variables are enough; and there are no more
 -- constraints than words.
-use Rattle.std.proofs.Common.{◌≡◌, ℕ, zero, suc, ◌-◌, ◌<◌, ◌≤◌, ◌+◌, Bool, true, false, ◌&&◌, ℤ, List, [], ◌∷◌, ◌++◌, length, drop, slice_index, Option, Some, None, Result, Ok, Err, IfOk, ◌==◌, refl, arith, max}
-use Rattle.std.specs.Prelude.{nat_lt, nat_le, if◌then◌else◌}
-use Rattle.std.proofs.Math.Nat.{max-le}
-use Rattle.std.proofs.lemmas.Bool.Decides.{nat_tests}
-use Rattle.whole_text.specs.declared.faults.TextFault.{TextFault}
-use Rattle.whole_text.specs.declared.faults.TextKind.TheVariants as kinds
-use Rattle.whole_text.specs.Numbers.{are_digits, digits_number}
-use Rattle.whole_text.specs.Tokens.{Word}
-use Rattle.whole_text.specs.Steps.{◌>>=◌, fault, next_of}
-use Rattle.literal_lists.specs.declared.literal.Literal.{Literal}
-use Rattle.problem_form.specs.declared.terms.Product.{Product}
-use Rattle.opb_reader.specs.declared.operator.Operator.{Operator}
-use Rattle.opb_reader.specs.Opb.{Listed, widened, literals_in, begins_literal, is_operator, never, many, variable_at, index_at, name_at, literal_of, literal_at, literals_at, product_at, coefficient_at, term_at, sum_at, comparison_at, constraint_at}
-use Rattle.opb_reader.proofs.Many.{Reader}
-use Rattle.opb_reader.proofs.Variables.{widened-append}
-use Rattle.wbo_reader.specs.Reading.{Weighed, greatest_index, all_literals, front_at, weighed_at, constraints_at}
+use Rattle.wbo_reader.proofs.Common.{ℕ, zero, suc, ◌<◌, ◌≤◌, Bool, true, false, ℤ, List, [], ◌∷◌, ◌++◌, length, Result, Ok, IfOk, arith, if◌then◌else◌, nat_tests, TextFault, Word, ◌>>=◌, next_of, Literal, Product, Operator, Listed, widened, literals_in, is_operator, never, many, index_at, name_at, literal_at, literals_at, product_at, coefficient_at, term_at, sum_at, comparison_at, constraint_at, Reader, widened-append, Weighed, greatest_index, all_literals, front_at, weighed_at, constraints_at}
 use Rattle.wbo_reader.proofs.Fronts.{bind_if, Any, any, as_weighed, sum_part}
 
 -- ---- one literal
 
-variable_within : (limit line : ℕ) (n : Option ℕ)
-    → IfOk (variable_at limit line n) (λ v. v < limit)
-variable_within limit line None = tt
-variable_within limit line (Some n) = go (nat_lt 0 n && nat_le n limit) refl
-  where
-    go : (b : Bool) → (nat_lt 0 n && nat_le n limit) ≡ b
-        → IfOk (if b then Ok (n - 1) else Err (fault kinds.Range line)) (λ v. v < limit)
-    go true e = grind (arith, nat_tests)
-    go false e = tt
-
 index_within : (limit line : ℕ) (digits : List ℕ)
     → IfOk (index_at limit line digits) (λ v. v < limit)
 unfolding index_at
-index_within limit line digits = go (are_digits digits)
-  where
-    go : (b : Bool)
-        → IfOk (if b then variable_at limit line (digits_number digits)
-        else Err (fault kinds.Word line)) (λ v. v < limit)
-    go true = variable_within limit line (digits_number digits)
-    go false = tt
+index_within limit line digits = grind (arith, nat_tests)
 
-name_within : (limit line : ℕ) (bytes : List ℕ)
-    → IfOk (name_at limit line bytes) (λ v. v < limit)
+name_within : (limit line : ℕ) (bytes : List ℕ) → IfOk (name_at limit line bytes) (λ v. v < limit)
 unfolding name_at
-name_within limit line bytes = go (slice_index bytes 0 == 120)
-  where
-    go : (b : Bool)
-        → IfOk (if b then index_at limit line (drop 1 bytes) else Err (fault kinds.Word line))
-        (λ v. v < limit)
-    go true = index_within limit line (drop 1 bytes)
-    go false = tt
+name_within limit line bytes = grind (arith, nat_tests, index_within)
 
 -- the variable of a literal is below this
 abbrev IsBelow : ℕ → Literal → Type 0
@@ -58,30 +20,15 @@ IsBelow limit l = l.variable < limit
 
 literal_within : (limit : ℕ) (w : Word) → IfOk (literal_at limit w) (IsBelow limit)
 unfolding literal_at
-literal_within limit w = go (slice_index w.bytes 0 == 126)
-  where
-    named : (negated : Bool) (bytes : List ℕ)
-        → IfOk (name_at limit w.line bytes >>= literal_of negated) (IsBelow limit)
-    named negated bytes =
-        bind_if (λ v. v < limit) (IsBelow limit) (name_at limit w.line bytes) (literal_of negated)
-        (name_within limit w.line bytes) (λ v h. h)
-
-    go : (b : Bool)
-        → IfOk (if b then name_at limit w.line (drop 1 w.bytes) >>= literal_of true
-        else name_at limit w.line w.bytes >>= literal_of false) (IsBelow limit)
-    go true = named true (drop 1 w.bytes)
-    go false = named false w.bytes
+literal_within limit w =
+    let name = name_within limit w.line in
+    grind (arith, nat_tests)
 
 -- ---- literals
 
 -- no more variables than this are needed, where no more were needed before
 abbrev pub Fits : ℕ → List Literal → Type 0
 Fits limit ls = (v : ℕ) → v ≤ limit → widened v ls ≤ limit
-
-fits_first : (limit : ℕ) (l : Literal) (ls : List Literal) → l.variable < limit → Fits limit ls
-    → Fits limit (l ∷ ls)
-fits_first limit l ls below rest v le =
-    rest (max v (l.variable + 1)) (max-le le (omega (arith, below)))
 
 fits-append : (limit : ℕ) (ls ks : List Literal) → Fits limit ls → Fits limit ks
     → Fits limit (ls ++ ks)
@@ -98,22 +45,15 @@ with_first l x = Ok (l ∷ x.0, x.1)
 first_fits : (limit : ℕ) (w : Word) (rest : Result (List Literal × List Word) TextFault)
     → IfOk rest (FitsFirst limit)
     → IfOk (literal_at limit w >>= λ l. rest >>= with_first l) (FitsFirst limit)
-first_fits limit w rest h =
-    bind_if (IsBelow limit) (FitsFirst limit) (literal_at limit w) (λ l. rest >>= with_first l)
-    (literal_within limit w)
-    (λ l below. bind_if (FitsFirst limit) (FitsFirst limit) rest (with_first l) h
-    (λ x fits. fits_first limit l x.0 below fits))
+first_fits limit w rest h = grind (arith, nat_tests, literal_within limit w)
 
 literals_fit : (limit : ℕ) (ws : List Word) → IfOk (literals_at limit ws) (FitsFirst limit)
 unfolding literals_at
 literals_fit limit [] = λ v le. le
-literals_fit limit (w ∷ ws) = go (begins_literal w.bytes) (literals_fit limit ws)
-  where
-    go : (b : Bool) → IfOk (literals_at limit ws) (FitsFirst limit)
-        → IfOk (if b then (literal_at limit w >>= λ l. literals_at limit ws >>= with_first l)
-        else Ok ([], w ∷ ws)) (FitsFirst limit)
-    go true more = first_fits limit w (literals_at limit ws) more
-    go false more = λ v le. le
+literals_fit limit (w ∷ ws) =
+    let literals = literals_fit limit ws in
+    let first = first_fits limit w (literals_at limit ws) in
+    grind (arith, nat_tests)
 
 abbrev product_part : ℕ → Word × List Word → Result (List Literal × List Word) TextFault
 product_part limit w = literal_at limit w.0 >>= λ l. literals_at limit w.1 >>= with_first l
@@ -136,10 +76,7 @@ term_fits : (limit end : ℕ) (w : Word) (ws : List Word)
     → IfOk (term_at limit end w ws) (FitsTerm limit)
 unfolding term_at
 term_fits limit end w ws =
-    bind_if Any (FitsTerm limit) (coefficient_at w) (λ c. product_at limit end ws >>= as_term c)
-    (any (coefficient_at w))
-    (λ c _. bind_if (FitsFirst limit) (FitsTerm limit) (product_at limit end ws) (as_term c)
-    (product_fits limit end ws) (λ x h. h))
+    grind (arith, nat_tests, any (coefficient_at w), product_fits limit end ws)
 
 -- what holds of each thing that is read holds of all, where one more and the others keep it
 module _ {A : Type 0} (P : A → Type 0) (Q : List A → Type 0) (none : Q [])
@@ -154,11 +91,7 @@ module _ {A : Type 0} (P : A → Type 0) (Q : List A → Type 0) (none : Q [])
   one_more : (f : List Word → Result (List A × List Word) TextFault) (w : Word) (ws : List Word)
       → ((rest : List Word) → others_have (f rest))
       → others_have (read w ws >>= λ x. f x.1 >>= others x)
-  one_more f w ws all =
-      bind_if (λ (x : A × List Word). P x.0) (λ (x : List A × List Word). Q x.0) (read w ws)
-      (λ x. f x.1 >>= others x) (each w ws)
-      (λ x h. bind_if (λ (y : List A × List Word). Q y.0) (λ (y : List A × List Word). Q y.0)
-      (f x.1) (others x) (all x.1) (λ y k. more x.0 y.0 h k))
+  one_more f w ws all = grind (arith, nat_tests)
 
   one_or_none : (b : Bool) (f : List Word → Result (List A × List Word) TextFault) (w : Word)
       (ws : List Word) → others_have (read w ws >>= λ x. f x.1 >>= others x)
@@ -199,12 +132,7 @@ FitsListed limit x = Fits limit (literals_in x.0.terms)
 constraint_fits : (limit end : ℕ) (w : Word) (ws : List Word)
     → IfOk (constraint_at limit end w ws) (FitsListed limit)
 unfolding constraint_at
-constraint_fits limit end w ws =
-    bind_if (λ (x : List Product × List Word). Fits limit (literals_in x.0)) (FitsListed limit)
-    (sum_at limit is_operator end (w ∷ ws)) (compared_part end)
-    (sum_fits limit is_operator end (w ∷ ws))
-    (λ sum h. bind_if Any (FitsListed limit) (comparison_at end sum.1) (as_listed sum)
-    (any (comparison_at end sum.1)) (λ x _. h))
+constraint_fits limit end w ws = grind (arith, nat_tests, sum_fits limit is_operator end (w ∷ ws))
 
 abbrev FitsWeighed : Weighed → Type 0
 FitsWeighed k = Fits greatest_index (literals_in k.listed.terms)
@@ -227,8 +155,7 @@ constraints_fit end ws =
     many_have FitsWeighed (λ (ks : List Weighed). Fits greatest_index (all_literals ks))
     (λ v le. le)
     (λ k ks first rest. fits-append greatest_index (literals_in k.listed.terms) (all_literals ks)
-    first rest)
-    never (weighed_at end) (weighed_fits end) (length ws) ws
+    first rest) never (weighed_at end) (weighed_fits end) (length ws) ws
 
 -- ---- how many there are
 

@@ -1,3 +1,4 @@
+pub mod Common
 pub mod Relaxing
 pub mod Agreeing
 pub mod Easing

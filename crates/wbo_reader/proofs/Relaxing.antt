@@ -1,11 +1,5 @@
 -- A state that extends a list of a rewritten form extends the list's first bits in the form itself.
-use Rattle.std.proofs.Common.{ℤ, pos, ◌*ℤ◌, ◌≤ℤ◌, take, ap, ◌∙◌, arith}
-use Rattle.std.proofs.lemmas.Int.{ints, by_lt_z}
-use Rattle.base.proofs.Products.{times-lt}
-use Rattle.base.specs.Costs.{energy}
-use Rattle.form_steps.specs.Relations.{Relaxes, first_decoded}
-use Rattle.form_steps.proofs.Rewritten.{rewritten_relaxes}
-use Rattle.wbo_reader.specs.Extensions.{ExtendsAfterRewrites}
+use Rattle.wbo_reader.proofs.Common.{ℤ, pos, ◌*ℤ◌, ◌≤ℤ◌, take, ap, ◌∙◌, arith, ints, by_lt_z, times-lt, energy, Relaxes, first_decoded, rewritten_relaxes, ExtendsAfterRewrites}
 
 -- a factor of at least 1 can be taken off both sides
 unscaled : (u a b : ℤ) → pos 1 ≤ℤ u → (u *ℤ a) ≤ℤ (u *ℤ b) → a ≤ℤ b
@@ -19,12 +13,7 @@ extends_after_rewrites f f' g d u n x' y p r w decodes same scaled =
       width = w;
       decodes = ap (take f.bits) decodes;
       scaled = λ v whole. scaled v (same ∙ whole);
-      least = λ v whole y' w' decodes'.
-          unscaled u (energy g y) (energy g y') r.unit
-          (omega (
-            arith,
-            ints,
-            scaled v (same ∙ whole),
-            first.bound y' w' v (ap f.cost decodes' ∙ whole),
-          ));
+      least = λ v whole y' w' decodes'. unscaled u (energy g y) (energy g y') r.unit
+          (let more = first.bound y' w' v (ap f.cost decodes' ∙ whole) in
+          omega (arith, ints, scaled v (same ∙ whole)));
     }

@@ -1,21 +1,7 @@
 -- The rewritten problem stands for its source. Where a constraint that stands for a soft one holds,
 -- the bit is 1 or the soft constraint holds: so the bits that are 1 cost no less than what fails.
-use Rattle.std.proofs.Common.{◌≡◌, ℕ, suc, ◌+◌, ◌≤◌, Bool, true, false, cond, not, ◌&&◌, ◌||◌, List, [], ◌∷◌, ◌++◌, map, take, length, Option, Some, None, ℤ, pos, ◌+ℤ◌, ◌≤ℤ◌, refl, sym, ap, subst, ◌∙◌, arith}
-use Rattle.std.specs.Prelude.{if◌then◌else◌, ⊤}
-use Rattle.std.specs.List.{list_any, AllByRecursion}
-use Rattle.std.proofs.lemmas.Int.{ints}
-use Rattle.std.proofs.lemmas.Bool.Decides.{nat_tests}
-use Rattle.std.proofs.lemmas.List.{append_assoc, take-append-le, take_all, length-append, length-map}
-use Rattle.std.proofs.lemmas.List.Folds.{list_any-append}
-use Rattle.std.proofs.lemmas.List.Sums.{sum_by-cons}
-use Rattle.std.proofs.lemmas.List.Elements.{recursion_from_All}
-use Rattle.base.specs.declared.costs.Cost.{Cost}
+use Rattle.wbo_reader.proofs.Common.{◌≡◌, ℕ, suc, ◌+◌, ◌≤◌, Bool, true, false, cond, not, ◌&&◌, ◌||◌, List, [], ◌∷◌, ◌++◌, map, take, length, Option, ℤ, pos, ◌+ℤ◌, ◌≤ℤ◌, refl, sym, ap, subst, ◌∙◌, arith, if◌then◌else◌, ⊤, list_any, AllByRecursion, ints, nat_tests, append_assoc, take-append-le, take_all, length-append, length-map, list_any-append, sum_by-cons, recursion_from_All, Cost, sum_of, fails, problem_cost, Soft, WboContent, wbo_cost, paid, paid_for, reaches_top, IsNormalConstraint, IsNormalSource, all_of, rewritten, rewritten_constraints, extended, eased_row, eased_rows, hard_rows, weighed_bits, RewritesItsSource, CarriesAssignments}
 use Rattle.base.specs.declared.costs.Cost.TheVariants.{Whole, Infinite}
-use Rattle.base.specs.Costs.{whole_of}
-use Rattle.problem_form.specs.Problems.{sum_of, fails, problem_cost}
-use Rattle.wbo_reader.specs.declared.soft.Soft.{Soft}
-use Rattle.wbo_reader.specs.Wbo.{WboContent, wbo_cost, paid, paid_for, reaches_top, IsNormalConstraint, IsNormalSource}
-use Rattle.wbo_reader.specs.Rewriting.{all_of, rewritten, rewritten_constraints, extended, eased_row, eased_rows, hard_rows, merged, top_rows, weighed_bits, RewritesItsSource, CarriesAssignments}
 use Rattle.wbo_reader.proofs.Agreeing.{fails-first, all_fail-first}
 use Rattle.wbo_reader.proofs.Easing.{bit_of, eased_row-fails}
 use Rattle.wbo_reader.proofs.Spending.{spent, weighed_bits-sum, top_rows-fail}
@@ -39,12 +25,8 @@ eased_rows-fail n x' v (s ∷ soft) h =
     || eased_rows-fail n x' (suc v) soft h.1 i)
 
 -- one constraint: where it fails its bit is 1, so what is paid for it is spent
-paid_once : (fail bit : Bool) (w : ℕ) → (not bit && fail) ≡ false
-    → cond fail w 0 ≤ cond bit w 0
-paid_once true true w e = omega arith
-paid_once true false w e = absurd cc
-paid_once false true w e = omega arith
-paid_once false false w e = omega arith
+paid_once : (fail bit : Bool) (w : ℕ) → (not bit && fail) ≡ false → cond fail w 0 ≤ cond bit w 0
+paid_once fail bit w e = grind (arith, nat_tests)
 
 neither : (a b : Bool) → (a || b) ≡ false → (a ≡ false) × (b ≡ false)
 neither true b e = absurd cc
@@ -55,12 +37,8 @@ paid-le : (x x' : List Bool) (v : ℕ) (soft : List Soft) → unpaid x x' v soft
 paid-le x x' v [] e = omega arith
 paid-le x x' v (s ∷ soft) e =
     let parts = neither (not (bit_of x' v) && fails x s.constraint) (unpaid x x' (suc v) soft) e in
-    omega (
-      arith,
-      sum_by-cons (paid_for x) s soft,
-      paid_once (fails x s.constraint) (bit_of x' v) s.weight parts.0,
-      paid-le x x' (suc v) soft parts.1,
-    )
+    let once = paid_once (fails x s.constraint) (bit_of x' v) s.weight parts.0 in
+    omega (arith, sum_by-cons (paid_for x) s soft, paid-le x x' (suc v) soft parts.1)
 
 -- ---- the whole
 
@@ -74,28 +52,17 @@ module _ (s : WboContent) (is : IsNormalSource s) (x' : List Bool) where
   firsts = take s.variables x'
 
   hard_failing : list_any (fails x') (all_of (hard_rows s.hard)) ≡ list_any (fails firsts) s.hard
-  hard_failing =
-      ap (list_any (fails x')) (concat-hard_rows s.hard)
-      ∙ all_fail-first s.variables x' s.hard
-      (recursion_from_All (IsNormalConstraint s.variables) s.hard is.hard)
+  hard_failing = grind (arith, nat_tests, concat-hard_rows, all_fail-first, recursion_from_All)
 
   soft_failing : list_any (fails x') (all_of (eased_rows s.variables s.soft))
       ≡ unpaid firsts x' s.variables s.soft
-  soft_failing =
-      eased_rows-fail s.variables x' s.variables s.soft
-      (recursion_from_All (λ (k : Soft). IsNormalConstraint s.variables k.constraint) s.soft
-      is.soft)
+  soft_failing = grind (arith, nat_tests, eased_rows-fail, recursion_from_All)
 
   all_failing : list_any (fails x') (rewritten_constraints s)
       ≡ ((list_any (fails firsts) s.hard || unpaid firsts x' s.variables s.soft)
       || reaches_top s.top (spent x' s.variables s.soft))
   all_failing =
-      list_any-append (fails x')
-      (all_of (merged s.order (hard_rows s.hard) (eased_rows s.variables s.soft)))
-      (top_rows s.variables s.top s.soft)
-      ∙ (λ i. (any_in-merged (fails x') s.order (hard_rows s.hard) (eased_rows s.variables s.soft)
-      ∙ (λ j. hard_failing j || soft_failing j)) i
-      || top_rows-fail x' s.variables s.top s.soft i)
+      grind (arith, nat_tests, list_any-append, any_in-merged, hard_failing, soft_failing, top_rows-fail)
 
   objective : pos 0 +ℤ sum_of x' (weighed_bits s.variables s.soft) +ℤ pos 0
       ≡ pos (spent x' s.variables s.soft)
@@ -118,52 +85,23 @@ IsAtMost Infinite Infinite = ⊤
 
 at_most_whole : (c d : Cost) (v : ℤ) → IsAtMost c d → d ≡ Whole v
     → (w : ℤ) × (c ≡ Whole w) × (w ≤ℤ v)
-at_most_whole (Whole a) (Whole b) v le e =
-    (a, refl, omega (arith, ints, le, ap whole_of e))
-at_most_whole (Whole a) Infinite v le e = absurd cc
-at_most_whole Infinite (Whole b) v le e = absurd le
-at_most_whole Infinite Infinite v le e = absurd cc
-
-reaches_more : (top : Option ℕ) (a b : ℕ) → a ≤ b → reaches_top top b ≡ false
-    → reaches_top top a ≡ false
-reaches_more None a b le e = refl
-reaches_more (Some top) a b le e = grind (arith, nat_tests)
-
-infinite_above : (c : Cost) → IsAtMost c Infinite
-infinite_above (Whole v) = tt
-infinite_above Infinite = tt
+at_most_whole c d v le e = grind (arith, nat_tests, ints)
 
 told_at_most : (hard soft : Bool) (top : Option ℕ) (a b : ℕ) → (soft ≡ false → a ≤ b)
     → IsAtMost (if hard || reaches_top top a then Infinite else Whole (pos a))
     (told_cost hard soft top b)
-told_at_most true soft top a b le = tt
-told_at_most false true top a b le = infinite_above _
-told_at_most false false top a b le = go (reaches_top top b) refl
-  where
-    go : (reached : Bool) → reaches_top top b ≡ reached
-        → IsAtMost (if reaches_top top a then Infinite else Whole (pos a))
-        (if reached then Infinite else Whole (pos b))
-    go true e = infinite_above _
-    go false e =
-        subst (λ r. IsAtMost (if r then Infinite else Whole (pos a)) (Whole (pos b)))
-        (sym (reaches_more top a b (le refl) e)) (omega (arith, ints, le refl))
+told_at_most hard soft top a b le = grind (arith, nat_tests)
 
 bounded : (s : WboContent) → IsNormalSource s → (x' : List Bool)
     → IsAtMost (wbo_cost s (take s.variables x')) (problem_cost (rewritten s) x')
-bounded s is x' =
-    let x = take s.variables x' in
-    subst (IsAtMost (wbo_cost s x)) (sym (rewritten_cost s is x'))
-    (told_at_most (list_any (fails x) s.hard) (unpaid x x' s.variables s.soft) s.top
-    (paid x s.soft) (spent x' s.variables s.soft)
-    (paid-le x x' s.variables s.soft))
+bounded s is x' = grind (arith, nat_tests, rewritten_cost, told_at_most, spent, paid-le)
 
 -- ---- the extension
 
 -- each bit from v on says whether its soft constraint fails
 abbrev AreFailing : (x x' : List Bool) → ℕ → List Soft → Type 0
 AreFailing x x' v [] = ⊤
-AreFailing x x' v (s ∷ soft) =
-    (bit_of x' v ≡ fails x s.constraint) × AreFailing x x' (suc v) soft
+AreFailing x x' v (s ∷ soft) = (bit_of x' v ≡ fails x s.constraint) × AreFailing x x' (suc v) soft
 
 first_after : (front rest : List Bool) (b : Bool) → bit_of (front ++ b ∷ rest) (length front) ≡ b
 first_after [] rest b = refl
@@ -174,14 +112,8 @@ are_failing : (x front : List Bool) (soft : List Soft)
 are_failing x front [] = tt
 are_failing x front (s ∷ soft) =
     let b = fails x s.constraint in
-    let rest = map (λ (k : Soft). fails x k.constraint) soft in (
-      first_after front rest b,
-      subst (λ (l : List Bool). AreFailing x l (suc (length front)) soft)
-          (append_assoc front (b ∷ []) rest)
-          (subst (λ (n : ℕ). AreFailing x ((front ++ b ∷ []) ++ rest) n soft)
-          (omega (arith, length-append front (b ∷ [])))
-          (are_failing x (front ++ b ∷ []) soft)),
-    )
+    let rest = map (λ (k : Soft). fails x k.constraint) soft in
+    grind (arith, nat_tests, are_failing x (front ++ b ∷ []) soft, first_after, append_assoc, length-append)
 
 spent_is_paid : (x x' : List Bool) (v : ℕ) (soft : List Soft) → AreFailing x x' v soft
     → spent x' v soft ≡ paid x soft
@@ -202,8 +134,7 @@ all_paid x x' v (s ∷ soft) h =
     || all_paid x x' (suc v) soft h.1 i
 
 -- what is told of a problem whose soft constraints are all paid is the cost of the source
-all_paid_cost : (hard : Bool) (top : Option ℕ) (sum : ℕ)
-    → told_cost hard false top sum
+all_paid_cost : (hard : Bool) (top : Option ℕ) (sum : ℕ) → told_cost hard false top sum
     ≡ (if hard || reaches_top top sum then Infinite else Whole (pos sum))
 all_paid_cost true top sum = refl
 all_paid_cost false top sum = refl
@@ -213,32 +144,17 @@ module _ (s : WboContent) (is : IsNormalSource s) (x : List Bool) (w : length x 
   bits = map (λ (k : Soft). fails x k.constraint) s.soft
 
   front : take s.variables (extended s x) ≡ x
-  front =
-      take-append-le s.variables x bits (omega (arith, w))
-      ∙ take_all s.variables x (omega (arith, w))
+  front = grind (arith, nat_tests, take-append-le, take_all)
 
   failing : AreFailing x (extended s x) s.variables s.soft
   failing = subst (λ (n : ℕ). AreFailing x (extended s x) n s.soft) w (are_failing x x s.soft)
 
   long : length (extended s x) ≡ s.variables + length s.soft
-  long =
-      omega (
-        arith,
-        w,
-        length-append x bits,
-        length-map s.soft (λ (k : Soft). fails x k.constraint),
-      )
+  long = grind (arith, nat_tests, length-append, length-map)
 
   cost : problem_cost (rewritten s) (extended s x) ≡ wbo_cost s x
   cost =
-      rewritten_cost s is (extended s x)
-      ∙ (λ i. told_cost (list_any (fails (front i)) s.hard)
-      (unpaid (front i) (extended s x) s.variables s.soft) s.top
-      (spent (extended s x) s.variables s.soft))
-      ∙ (λ i. told_cost (list_any (fails x) s.hard)
-      (all_paid x (extended s x) s.variables s.soft failing i) s.top
-      (spent_is_paid x (extended s x) s.variables s.soft failing i))
-      ∙ all_paid_cost (list_any (fails x) s.hard) s.top (paid x s.soft)
+      grind (arith, nat_tests, rewritten_cost, front, spent, all_paid, failing, spent_is_paid, all_paid_cost)
 
 pub carries_assignments : CarriesAssignments
 carries_assignments s is x w = record {
@@ -253,6 +169,5 @@ rewrites_its_source s is = record {
   bound = λ x' w v whole.
       at_most_whole (wbo_cost s (take s.variables x')) (problem_cost (rewritten s) x') v
       (bounded s is x') whole;
-  reached = λ x w v whole.
-      (extended s x, long s is x w, front s is x w, cost s is x w ∙ whole);
+  reached = λ x w v whole. (extended s x, long s is x w, front s is x w, cost s is x w ∙ whole);
 }

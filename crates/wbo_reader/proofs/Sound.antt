@@ -1,22 +1,6 @@
 -- The rewritten problem is in normal form, and its sizes sum to at most four times those of its
 -- source.
-use Rattle.std.proofs.Common.{◌≡◌, ◌≢◌, ℕ, suc, ◌+◌, ◌*◌, ◌<◌, ◌≤◌, Bool, true, false, ◌&&◌, ◌||◌, eqb, List, [], ◌∷◌, ◌++◌, map, length, All, Option, Some, None, unwrap_or, ℤ, pos, negsuc, ◌-ℤ◌, neg_ℤ, int_le, unsigned_abs, refl, arith}
-use Rattle.std.specs.Prelude.{if◌then◌else◌, nat_le}
-use Rattle.std.specs.List.{sum_by, AllByRecursion}
-use Rattle.std.specs.List.Sorted.{IsStrictlySortedBy}
-use Rattle.std.proofs.lemmas.Int.{ints}
-use Rattle.std.proofs.lemmas.List.Sums.{sum_by-append, sum_by-cons}
-use Rattle.std.proofs.lemmas.List.Elements.{All-nil, All-cons, All-weaker, All-from_recursion, recursion_from_All}
-use Rattle.base.specs.Sums.{positive_part}
-use Rattle.literal_lists.specs.declared.literal.Literal.{Literal}
-use Rattle.problem_form.specs.declared.terms.Product.{Product}
-use Rattle.problem_form.specs.declared.terms.Constraint.{Constraint}
-use Rattle.literal_lists.specs.Literals.{IsLiteralSet}
-use Rattle.problem_form.specs.Problems.{negated, products_total, constraint_total, problem_total, IsNormalProduct}
-use Rattle.problem_form.specs.Limits.{positive_total}
-use Rattle.wbo_reader.specs.declared.soft.Soft.{Soft}
-use Rattle.wbo_reader.specs.Wbo.{WboContent, IsNormalConstraint, soft_total, wbo_total}
-use Rattle.wbo_reader.specs.Rewriting.{bit_product, weighed_bits, least_sum, eased, eased_row, eased_rows, hard_rows, merged, all_of, top_rows, rewritten, rewritten_constraints, RewrittenIsSound}
+use Rattle.wbo_reader.proofs.Common.{nat_tests, ◌≡◌, ◌≢◌, ℕ, suc, ◌+◌, ◌*◌, ◌<◌, ◌≤◌, Bool, true, false, ◌&&◌, ◌||◌, eqb, List, [], ◌∷◌, ◌++◌, map, length, All, Option, Some, None, unwrap_or, ℤ, pos, negsuc, ◌-ℤ◌, int_le, unsigned_abs, refl, arith, sum_by, AllByRecursion, IsStrictlySortedBy, ints, sum_by-append, sum_by-cons, All-nil, All-weaker, All-from_recursion, recursion_from_All, positive_part, Literal, Product, Constraint, IsLiteralSet, negated, products_total, constraint_total, problem_total, IsNormalProduct, positive_total, Soft, WboContent, IsNormalConstraint, soft_total, wbo_total, bit_product, weighed_bits, least_sum, eased, eased_row, eased_rows, hard_rows, merged, all_of, top_rows, rewritten, rewritten_constraints, RewrittenIsSound}
 
 -- ---- products
 
@@ -41,8 +25,7 @@ unfolding IsStrictlySortedBy
 bit_set v n lt = record {
   ordered = (tt, tt);
   apart = none_of_one (eqb v v);
-  within = All-cons (λ (k : Literal). k.variable < n)
-      (record { variable = v; negated = false }) [] lt (All-nil (λ (k : Literal). k.variable < n));
+  within = grind (arith, nat_tests);
 }
 
 bit_normal : (v n : ℕ) (c : ℤ) → v < n → c ≢ pos 0 → IsNormalProduct n (bit_product v c)
@@ -80,46 +63,26 @@ abbrev IsGood : ℕ → Constraint → Type 0
 IsGood n k = AllByRecursion (IsNormalProduct n) k.products
 
 above : (bound low : ℤ) → int_le bound low ≡ false → bound -ℤ low ≢ pos 0
-above bound low e same = absurd (no (grind (arith, ints)))
-  where
-    no : int_le bound low ≡ true → ⊥
-    no h = absurd cc
+above bound low e same = grind (arith, nat_tests, ints)
 
 eased_good : (v n : ℕ) (ts : List Product) (bound : ℤ) → v < n
     → AllByRecursion (IsNormalProduct n) ts → IsGood n (eased v ts bound)
-eased_good v n ts bound lt h = go (int_le bound (least_sum ts)) refl
-  where
-    go : (enough : Bool) → int_le bound (least_sum ts) ≡ enough
-        → AllByRecursion (IsNormalProduct n)
-        (if enough then ts else ts ++ bit_product v (bound -ℤ least_sum ts) ∷ [])
-    go true e = h
-    go false e =
-        with_last n ts (bit_product v (bound -ℤ least_sum ts)) h
-        (bit_normal v n (bound -ℤ least_sum ts) lt (above bound (least_sum ts) e))
+eased_good v n ts bound lt h =
+    let above_is = above bound (least_sum ts) in
+    let bit = bit_normal v n (bound -ℤ least_sum ts) lt in
+    let with = with_last n ts (bit_product v (bound -ℤ least_sum ts)) h in
+    grind (arith, nat_tests, ints)
 
 row_good : (v n : ℕ) (k : Constraint) → v < n → IsGood n k
     → AllByRecursion (IsGood n) (eased_row v k)
-row_good v n k lt h = go k.exact
-  where
-    go : (exact : Bool)
-        → AllByRecursion (IsGood n)
-        (if exact
-        then eased v k.products k.bound ∷ eased v (map negated k.products) (neg_ℤ k.bound) ∷ []
-        else eased v k.products k.bound ∷ [])
-    go true = (
-      eased_good v n k.products k.bound lt h,
-      (eased_good v n (map negated k.products) (neg_ℤ k.bound) lt (all_negated n k.products h), tt),
-    )
-    go false = (eased_good v n k.products k.bound lt h, tt)
+row_good v n k lt h = grind (arith, nat_tests, eased_good, all_negated)
 
 rows_good : (v n : ℕ) (soft : List Soft) → v + length soft ≤ n
     → AllByRecursion (λ (s : Soft). IsGood n s.constraint) soft
     → AllByRecursion (AllByRecursion (IsGood n)) (eased_rows v soft)
 rows_good v n [] le h = tt
-rows_good v n (s ∷ soft) le h = (
-  row_good v n s.constraint (omega (arith, le)) h.0,
-  rows_good (suc v) n soft (omega (arith, le)) h.1,
-)
+rows_good v n (s ∷ soft) le h =
+    grind (arith, nat_tests, rows_good (suc v) n soft (omega (arith, le)) h.1, row_good)
 
 hard_good : (n : ℕ) (hard : List Constraint) → AllByRecursion (IsGood n) hard
     → AllByRecursion (AllByRecursion (IsGood n)) (hard_rows hard)
@@ -157,33 +120,16 @@ weighed_good v n (s ∷ soft) le h = (
 top_good : (v n : ℕ) (top : Option ℕ) (soft : List Soft)
     → AllByRecursion (IsNormalProduct n) (weighed_bits v soft)
     → AllByRecursion (IsGood n) (top_rows v top soft)
-top_good v n None soft h = tt
-top_good v n (Some top) soft h = go (nat_le top (sum_by (λ s. s.weight) soft))
-  where
-    go : (needed : Bool)
-        → AllByRecursion (IsGood n)
-        (if needed
-        then record {
-          products = map negated (weighed_bits v soft);
-          bound = pos 1 -ℤ pos top;
-          exact = false;
-        } ∷ []
-        else [])
-    go true = (all_negated n (weighed_bits v soft) h, tt)
-    go false = tt
+top_good v n top soft h = grind (arith, nat_tests, all_negated)
 
 -- ---- sizes
 
 pub negated_total : (ts : List Product) → products_total (map negated ts) ≡ products_total ts
 negated_total [] = refl
 negated_total (t ∷ ts) =
-    omega (
-      arith,
-      ints,
-      sum_by-cons (λ (u : Product). unsigned_abs u.coefficient) t ts,
-      sum_by-cons (λ (u : Product). unsigned_abs u.coefficient) (negated t) (map negated ts),
-      negated_total ts,
-    )
+    let sum = sum_by-cons (λ (u : Product). unsigned_abs u.coefficient) t ts in
+    let sum_cons = sum_by-cons (λ (u : Product). unsigned_abs u.coefficient) (negated t) (map negated ts) in
+    omega (arith, ints, negated_total ts)
 
 part_size : (c : ℤ) → positive_part c ≤ unsigned_abs c
 part_size (pos n) = omega arith
@@ -192,73 +138,22 @@ part_size (negsuc n) = omega arith
 positive_size : (ts : List Product) → positive_total ts ≤ products_total ts
 positive_size [] = omega arith
 positive_size (t ∷ ts) =
-    omega (
-      arith,
-      sum_by-cons (λ (u : Product). positive_part u.coefficient) t ts,
-      sum_by-cons (λ (u : Product). unsigned_abs u.coefficient) t ts,
-      part_size t.coefficient,
-      positive_size ts,
-    )
+    let sum = sum_by-cons (λ (u : Product). positive_part u.coefficient) t ts in
+    let sum_cons = sum_by-cons (λ (u : Product). unsigned_abs u.coefficient) t ts in
+    omega (arith, part_size t.coefficient, positive_size ts)
 
 pub least_size : (ts : List Product) → unsigned_abs (least_sum ts) ≤ products_total ts
 least_size ts = omega (arith, ints, positive_size (map negated ts), negated_total ts)
 
 eased_total : (v : ℕ) (ts : List Product) (bound : ℤ)
     → constraint_total (eased v ts bound) ≤ 2 * (products_total ts + unsigned_abs bound)
-eased_total v ts bound = go (int_le bound (least_sum ts))
-  where
-    c : ℤ
-    c = bound -ℤ least_sum ts
-
-    go : (enough : Bool)
-        → products_total (if enough then ts else ts ++ bit_product v (bound -ℤ least_sum ts) ∷ [])
-        + unsigned_abs bound
-        ≤ 2 * (products_total ts + unsigned_abs bound)
-    go true = omega arith
-    go false =
-        omega (
-          arith,
-          ints,
-          sum_by-append (λ (u : Product). unsigned_abs u.coefficient) ts
-              (bit_product v (bound -ℤ least_sum ts) ∷ []),
-          sum_by-cons (λ (u : Product). unsigned_abs u.coefficient)
-              (bit_product v (bound -ℤ least_sum ts)) [],
-          least_size ts,
-        )
+eased_total v ts bound =
+    let least = least_size ts in
+    grind (arith, nat_tests, ints, sum_by-append, sum_by-cons)
 
 row_total : (v : ℕ) (k : Constraint)
     → sum_by constraint_total (eased_row v k) ≤ 4 * constraint_total k
-row_total v k = go k.exact
-  where
-    first : Constraint
-    first = eased v k.products k.bound
-
-    second : Constraint
-    second = eased v (map negated k.products) (neg_ℤ k.bound)
-
-    go : (exact : Bool)
-        → sum_by constraint_total
-        (if exact
-        then eased v k.products k.bound ∷ eased v (map negated k.products) (neg_ℤ k.bound) ∷ []
-        else eased v k.products k.bound ∷ [])
-        ≤ 4 * constraint_total k
-    go true =
-        omega (
-          arith,
-          ints,
-          sum_by-cons constraint_total (eased v k.products k.bound) (eased v
-              (map negated k.products) (neg_ℤ k.bound) ∷ []),
-          sum_by-cons constraint_total (eased v (map negated k.products) (neg_ℤ k.bound)) [],
-          eased_total v k.products k.bound,
-          eased_total v (map negated k.products) (neg_ℤ k.bound),
-          negated_total k.products,
-        )
-    go false =
-        omega (
-          arith,
-          sum_by-cons constraint_total (eased v k.products k.bound) [],
-          eased_total v k.products k.bound,
-        )
+row_total v k = grind (arith, nat_tests, sum_by-cons, eased_total, negated_total)
 
 abbrev row_size : List Constraint → ℕ
 row_size row = sum_by constraint_total row
@@ -266,125 +161,50 @@ row_size row = sum_by constraint_total row
 joined_total : (rows : List (List Constraint))
     → sum_by constraint_total (all_of rows) ≡ sum_by row_size rows
 joined_total [] = refl
-joined_total (row ∷ rows) =
-    omega (
-      arith,
-      sum_by-append constraint_total row (all_of rows),
-      joined_total rows,
-      sum_by-cons row_size row rows,
-    )
+joined_total (row ∷ rows) = omega (arith, sum_by-append, joined_total rows, sum_by-cons)
 
 merged_total : (order : List Bool) (xs ys : List (List Constraint))
     → sum_by row_size (merged order xs ys) ≡ sum_by row_size xs + sum_by row_size ys
 merged_total [] xs ys = sum_by-append row_size xs ys
 merged_total (true ∷ order) xs [] = omega arith
-merged_total (true ∷ order) xs (y ∷ ys) =
-    omega (
-      arith,
-      merged_total order xs ys,
-      sum_by-cons row_size y (merged order xs ys),
-      sum_by-cons row_size y ys,
-    )
+merged_total (true ∷ order) xs (y ∷ ys) = omega (arith, merged_total order xs ys, sum_by-cons)
 merged_total (false ∷ order) [] ys = omega arith
-merged_total (false ∷ order) (x ∷ xs) ys =
-    omega (
-      arith,
-      merged_total order xs ys,
-      sum_by-cons row_size x (merged order xs ys),
-      sum_by-cons row_size x xs,
-    )
+merged_total (false ∷ order) (x ∷ xs) ys = omega (arith, merged_total order xs ys, sum_by-cons)
 
 hard_total : (hard : List Constraint)
     → sum_by row_size (hard_rows hard) ≡ sum_by constraint_total hard
 hard_total [] = refl
-hard_total (k ∷ hard) =
-    omega (
-      arith,
-      sum_by-cons row_size (k ∷ []) (hard_rows hard),
-      sum_by-cons constraint_total k [],
-      sum_by-cons constraint_total k hard,
-      hard_total hard,
-    )
+hard_total (k ∷ hard) = omega (arith, sum_by-cons, hard_total hard)
 
-soft_rows_total : (v : ℕ) (soft : List Soft)
-    → sum_by row_size (eased_rows v soft)
+soft_rows_total : (v : ℕ) (soft : List Soft) → sum_by row_size (eased_rows v soft)
     + 4 * sum_by (λ (s : Soft). s.weight) soft ≤ 4 * sum_by soft_total soft
 soft_rows_total v [] = omega arith
-soft_rows_total v (s ∷ soft) =
-    omega (
-      arith,
-      sum_by-cons row_size (eased_row v s.constraint) (eased_rows (suc v) soft),
-      sum_by-cons (λ (k : Soft). k.weight) s soft,
-      sum_by-cons soft_total s soft,
-      row_total v s.constraint,
-      soft_rows_total (suc v) soft,
-    )
+soft_rows_total v (s ∷ soft) = omega (arith, sum_by-cons, row_total, soft_rows_total (suc v) soft)
 
 weighed_total : (v : ℕ) (soft : List Soft)
     → products_total (weighed_bits v soft) ≡ sum_by (λ (s : Soft). s.weight) soft
 weighed_total v [] = refl
 weighed_total v (s ∷ soft) =
-    omega (
-      arith,
-      sum_by-cons (λ (u : Product). unsigned_abs u.coefficient) (bit_product v (pos s.weight))
-          (weighed_bits (suc v) soft),
-      sum_by-cons (λ (k : Soft). k.weight) s soft,
-      weighed_total (suc v) soft,
-    )
+    let rest0 = weighed_total (suc v) soft in simp sum_by-cons (grind (arith, nat_tests))
 
 top_total : (v : ℕ) (top : Option ℕ) (soft : List Soft)
     → sum_by constraint_total (top_rows v top soft)
     ≤ sum_by (λ (s : Soft). s.weight) soft + unwrap_or top 0 + 1
 top_total v None soft = omega arith
-top_total v (Some top) soft = go (nat_le top (sum_by (λ s. s.weight) soft))
-  where
-    row : Constraint
-    row = record {
-      products = map negated (weighed_bits v soft);
-      bound = pos 1 -ℤ pos top;
-      exact = false;
-    }
-
-    go : (needed : Bool)
-        → sum_by constraint_total
-        (if needed
-        then record {
-          products = map negated (weighed_bits v soft);
-          bound = pos 1 -ℤ pos top;
-          exact = false;
-        } ∷ []
-        else [])
-        ≤ sum_by (λ (s : Soft). s.weight) soft + top + 1
-    go true =
-        omega (
-          arith,
-          ints,
-          sum_by-cons constraint_total (record {
-            products = map negated (weighed_bits v soft);
-            bound = pos 1 -ℤ pos top;
-            exact = false;
-          }) [],
-          negated_total (weighed_bits v soft),
-          weighed_total v soft,
-        )
-    go false = omega arith
+top_total v (Some top) soft = grind (arith, nat_tests, sum_by-cons, negated_total, weighed_total)
 
 -- ---- the whole
 
 rewritten_total : (s : WboContent) → problem_total (rewritten s) ≤ 4 * wbo_total s + 1
 rewritten_total s =
-    omega (
-      arith,
-      weighed_total s.variables s.soft,
-      sum_by-append constraint_total
-          (all_of (merged s.order (hard_rows s.hard) (eased_rows s.variables s.soft)))
-          (top_rows s.variables s.top s.soft),
-      joined_total (merged s.order (hard_rows s.hard) (eased_rows s.variables s.soft)),
-      merged_total s.order (hard_rows s.hard) (eased_rows s.variables s.soft),
-      hard_total s.hard,
-      soft_rows_total s.variables s.soft,
-      top_total s.variables s.top s.soft,
-    )
+    let sum = sum_by-append constraint_total
+    (all_of (merged s.order (hard_rows s.hard) (eased_rows s.variables s.soft)))
+    (top_rows s.variables s.top s.soft) in
+    let joined = joined_total (merged s.order (hard_rows s.hard) (eased_rows s.variables s.soft)) in
+    let total = merged_total s.order (hard_rows s.hard) (eased_rows s.variables s.soft) in
+    let rows = soft_rows_total s.variables s.soft in
+    let same = top_total s.variables s.top s.soft in
+    omega (arith, weighed_total s.variables s.soft, hard_total s.hard)
 
 good_wider : (v n : ℕ) → v ≤ n → (k : Constraint) → IsNormalConstraint v k → IsGood n k
 good_wider v n le k h = all_wider v n le k.products (recursion_from_All
@@ -404,8 +224,7 @@ soft_wider v n le (s ∷ ss) h = (good_wider v n le s.constraint h.0, soft_wider
 to_all : (n : ℕ) (ks : List Constraint) → AllByRecursion (IsGood n) ks
     → AllByRecursion (λ (k : Constraint). All (IsNormalProduct n) k.products) ks
 to_all n [] h = tt
-to_all n (k ∷ ks) h =
-    (All-from_recursion (IsNormalProduct n) k.products h.0, to_all n ks h.1)
+to_all n (k ∷ ks) h = (All-from_recursion (IsNormalProduct n) k.products h.0, to_all n ks h.1)
 
 pub rewritten_is_sound : RewrittenIsSound
 rewritten_is_sound s is =
@@ -415,12 +234,10 @@ rewritten_is_sound s is =
     weighed_good s.variables n s.soft (omega arith)
     (recursion_from_All (λ (k : Soft). 0 < k.weight) s.soft is.weighty) in
     let hard =
-    hard_good n s.hard
-    (hard_wider s.variables n le s.hard (recursion_from_All
+    hard_good n s.hard (hard_wider s.variables n le s.hard (recursion_from_All
     (IsNormalConstraint s.variables) s.hard is.normal.hard)) in
     let soft =
-    rows_good s.variables n s.soft (omega arith)
-    (soft_wider s.variables n le s.soft
+    rows_good s.variables n s.soft (omega arith) (soft_wider s.variables n le s.soft
     (recursion_from_All (λ (k : Soft). IsNormalConstraint s.variables k.constraint) s.soft
     is.normal.soft)) in
     let rows = all_merged (AllByRecursion (IsGood n)) s.order (hard_rows s.hard)

@@ -1,15 +1,5 @@
 -- What is left to add to a problem, one after another.
-use Rattle.std.proofs.Common.{◌≡◌, ℕ, suc, ◌+◌, Bool, true, false, List, [], ◌∷◌, ◌++◌, map, drop, Some, ℤ, pos, neg_ℤ, ◌-ℤ◌, int_lt, sym, ap, subst, ◌∙◌, arith}
-use Rattle.std.specs.Prelude.{if◌then◌else◌}
-use Rattle.std.specs.List.{slice_get}
-use Rattle.problem_form.specs.declared.terms.Product.{Product}
-use Rattle.problem_form.specs.declared.terms.Constraint.{Constraint}
-use Rattle.problem_form.specs.Problems.{ProblemContent, negated}
-use Rattle.problem_form.specs.Limits.{own_upper}
-use Rattle.problem_form.specs.Fields.{IsSound}
-use Rattle.literal_lists.proofs.LentParts.{drop-at}
-use Rattle.wbo_reader.specs.declared.soft.Soft.{Soft}
-use Rattle.wbo_reader.specs.Rewriting.{bit_product, weighed_bits, with_products, with_rows, eased, eased_row, eased_rows, hard_rows, merged, all_of, top_row}
+use Rattle.wbo_reader.proofs.Common.{nat_tests, ints, ◌≡◌, ℕ, suc, ◌+◌, Bool, true, false, List, [], ◌∷◌, ◌++◌, map, drop, Some, ℤ, pos, neg_ℤ, ◌-ℤ◌, int_lt, sym, ap, subst, ◌∙◌, arith, if◌then◌else◌, slice_get, Product, Constraint, ProblemContent, negated, own_upper, IsSound, drop-at, Soft, bit_product, weighed_bits, with_products, with_rows, eased, eased_row, eased_rows, hard_rows, merged, all_of, top_row}
 use Rattle.wbo_reader.proofs.Added.{more_rows, first_rows, more_products, first_products}
 
 -- ---- weights on bits
@@ -19,10 +9,7 @@ bits_from v i soft = weighed_bits (v + i) (drop i soft)
 
 next_bits : (v i : ℕ) (soft : List Soft) (s : Soft) → slice_get soft i ≡ Some s
     → bits_from v i soft ≡ (bit_product (v + i) (pos s.weight) ∷ []) ++ bits_from v (i + 1) soft
-next_bits v i soft s at =
-    let next : suc (v + i) ≡ v + (i + 1) = omega arith in
-    ap (weighed_bits (v + i)) (drop-at soft i s at)
-    ∙ (λ j. bit_product (v + i) (pos s.weight) ∷ weighed_bits (next j) (drop (i + 1) soft))
+next_bits v i soft s at = grind (arith, nat_tests, drop-at)
 
 pub bit_sound : (p q : ProblemContent) (v i : ℕ) (soft : List Soft) (s : Soft)
     → with_products p (weighed_bits (v + i) (drop i soft)) ≡ q → IsSound q
@@ -33,15 +20,10 @@ bit_sound p q v i soft s left sound at =
     (subst IsSound (sym left ∙ ap (with_products p) (next_bits v i soft s at)) sound)
 
 pub bits_left : (p q new : ProblemContent) (v i : ℕ) (soft : List Soft) (s : Soft)
-    → with_products p (weighed_bits (v + i) (drop i soft)) ≡ q
-    → slice_get soft i ≡ Some s
+    → with_products p (weighed_bits (v + i) (drop i soft)) ≡ q → slice_get soft i ≡ Some s
     → new ≡ with_products p (bit_product (v + i) (pos s.weight) ∷ [])
     → with_products new (weighed_bits (v + (i + 1)) (drop (i + 1) soft)) ≡ q
-bits_left p q new v i soft s left at is =
-    ap (λ n. with_products n (bits_from v (i + 1) soft)) is
-    ∙ more_products p (bit_product (v + i) (pos s.weight) ∷ []) (bits_from v (i + 1) soft)
-    ∙ ap (with_products p) (sym (next_bits v i soft s at))
-    ∙ left
+bits_left p q new v i soft s left at is = grind (arith, nat_tests, more_products, next_bits)
 
 -- ---- rows in their order
 
@@ -57,14 +39,12 @@ next_hard order rest i hard v j soft k first at =
     (drop j soft)))
 
 next_soft : (order rest : List Bool) (i : ℕ) (hard : List Constraint) (v j : ℕ) (soft : List Soft)
-    (s : Soft) → order ≡ true ∷ rest → slice_get soft j ≡ Some s
-    → rows_left order i hard v j soft
+    (s : Soft) → order ≡ true ∷ rest → slice_get soft j ≡ Some s → rows_left order i hard v j soft
     ≡ eased_row (v + j) s.constraint ++ rows_left rest i hard v (j + 1) soft
 next_soft order rest i hard v j soft s first at =
     let next : suc (v + j) ≡ v + (j + 1) = omega arith in
     (λ n. all_of (merged (first n) (hard_rows (drop i hard)) (eased_rows (v + j)
-    (drop-at soft j s at n))))
-    ∙ (λ n. eased_row (v + j) s.constraint
+    (drop-at soft j s at n)))) ∙ (λ n. eased_row (v + j) s.constraint
     ++ all_of (merged rest (hard_rows (drop i hard)) (eased_rows (next n) (drop (j + 1) soft))))
 
 -- a problem with rows that begin with these
@@ -97,8 +77,7 @@ soft_sound p q order rest i hard v j soft s left sound first at =
     (next_soft order rest i hard v j soft s first at)
 
 pub hard_added : (p q new : ProblemContent) (order rest : List Bool) (i : ℕ)
-    (hard : List Constraint)
-    (v j : ℕ) (soft : List Soft) (k : Constraint)
+    (hard : List Constraint) (v j : ℕ) (soft : List Soft) (k : Constraint)
     → with_rows p (rows_left order i hard v j soft) ≡ q
     → order ≡ false ∷ rest → slice_get hard i ≡ Some k → new ≡ with_rows p (k ∷ [])
     → with_rows new (rows_left rest (i + 1) hard v j soft) ≡ q
@@ -108,15 +87,13 @@ hard_added p q new order rest i hard v j soft k left first at is =
 
 pub soft_added : (p q new : ProblemContent) (order rest : List Bool) (i : ℕ)
     (hard : List Constraint)
-    (v j : ℕ) (soft : List Soft) (s : Soft)
-    → with_rows p (rows_left order i hard v j soft) ≡ q
+    (v j : ℕ) (soft : List Soft) (s : Soft) → with_rows p (rows_left order i hard v j soft) ≡ q
     → order ≡ true ∷ rest → slice_get soft j ≡ Some s
     → new ≡ with_rows p (eased_row (v + j) s.constraint)
     → with_rows new (rows_left rest i hard v (j + 1) soft) ≡ q
 soft_added p q new order rest i hard v j soft s left first at is =
     row_added p q new (rows_left order i hard v j soft) (eased_row (v + j) s.constraint)
-    (rows_left rest i hard v (j + 1) soft) left
-    (next_soft order rest i hard v j soft s first at) is
+    (rows_left rest i hard v (j + 1) soft) left (next_soft order rest i hard v j soft s first at) is
 
 -- ---- the top
 
@@ -152,13 +129,9 @@ first_eased p v k ts b sound products bound =
     go true h = first_rows p (one ∷ []) (two ∷ []) h
     go false h = h
 
-row_of_exact : (v : ℕ) (k : Constraint) → k.exact ≡ true
-    → eased_row v k
+row_of_exact : (v : ℕ) (k : Constraint) → k.exact ≡ true → eased_row v k
     ≡ eased v k.products k.bound ∷ eased v (map negated k.products) (neg_ℤ k.bound) ∷ []
-row_of_exact v k exact =
-    ap (λ b. if b
-    then eased v k.products k.bound ∷ eased v (map negated k.products) (neg_ℤ k.bound) ∷ []
-    else eased v k.products k.bound ∷ []) exact
+row_of_exact v k exact = grind (arith, nat_tests, ints)
 
 -- both, one after another
 pub both_eased : (p q : ProblemContent) (v : ℕ) (k : Constraint) (ts us : List Product) (b d : ℤ)
@@ -166,7 +139,4 @@ pub both_eased : (p q : ProblemContent) (v : ℕ) (k : Constraint) (ts us : List
     → ts ≡ k.products → b ≡ k.bound → us ≡ map negated k.products → d ≡ neg_ℤ k.bound
     → with_rows q (eased v us d ∷ []) ≡ with_rows p (eased_row v k)
 both_eased p q v k ts us b d exact is products bound others other =
-    ap (λ n. with_rows n (eased v us d ∷ [])) is
-    ∙ more_rows p (eased v ts b ∷ []) (eased v us d ∷ [])
-    ∙ (λ i. with_rows p (eased v (products i) (bound i) ∷ eased v (others i) (other i) ∷ []))
-    ∙ ap (with_rows p) (sym (row_of_exact v k exact))
+    grind (arith, nat_tests, ints, more_rows, row_of_exact)

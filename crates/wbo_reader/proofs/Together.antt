@@ -1,31 +1,14 @@
 -- What is added to a source one after another is the source of the whole.
-use Rattle.std.proofs.Common.{◌≡◌, ℕ, zero, suc, ◌+◌, ◌≤◌, List, [], ◌∷◌, ◌++◌, fold, flat_map, Option, Some, None, Result, Ok, Err, refl, sym, ap, ◌∙◌, append-nil, append_assoc, arith}
-use Rattle.std.specs.Prelude.{unwrap_or}
-use Rattle.std.specs.List.{sum_by}
-use Rattle.std.proofs.lemmas.List.Sums.{sum_by-append, sum_by-cons}
-use Rattle.whole_text.specs.declared.faults.TextFault.{TextFault}
-use Rattle.whole_text.specs.Tokens.{Word}
-use Rattle.whole_text.specs.Steps.{◌>>=◌, end_line}
-use Rattle.problem_form.specs.declared.terms.Constraint.{Constraint}
-use Rattle.problem_form.specs.NormalForm.{normal_constraint}
-use Rattle.problem_form.specs.Problems.{constraint_total}
-use Rattle.problem_form.proofs.KeptProducts.{normal_constraint-total}
-use Rattle.opb_reader.specs.Opb.{literals_in, widened}
-use Rattle.opb_reader.proofs.Variables.{widened-append}
-use Rattle.wbo_reader.specs.Wbo.{WboContent, soft_total, wbo_total}
-use Rattle.wbo_reader.specs.Reading.{Weighed, WboText, all_literals, hard_by, hard_of, soft_by, soft_of, order_by, content_of, content_of_words, reading_of_words, head_at, constraints_at}
-use Rattle.wbo_reader.specs.Gathering.{nothing, with_constraint, with_weighed, constraints_read}
+use Rattle.wbo_reader.proofs.Common.{nat_tests, ◌≡◌, ℕ, ◌+◌, ◌≤◌, List, [], ◌∷◌, ◌++◌, fold, flat_map, Option, Result, Ok, Err, refl, sym, ap, append-nil, append_assoc, arith, unwrap_or, sum_by, sum_by-append, TextFault, Word, ◌>>=◌, end_line, Constraint, constraint_total, normal_constraint-total, widened, widened-append, WboContent, soft_total, wbo_total, Weighed, WboText, all_literals, hard_by, hard_of, soft_by, soft_of, order_by, content_of, content_of_words, reading_of_words, head_at, constraints_at, nothing, with_constraint, with_weighed, constraints_read}
 
 -- ---- one after another
 
-all_added : (s : WboContent) (ks : List Weighed)
-    → fold with_weighed s ks
-    ≡ record s {
-      variables = widened s.variables (all_literals ks);
-      hard = s.hard ++ flat_map hard_of ks;
-      soft = s.soft ++ flat_map soft_of ks;
-      order = s.order ++ flat_map (λ k. order_by k.weight) ks;
-    }
+all_added : (s : WboContent) (ks : List Weighed) → fold with_weighed s ks ≡ record s {
+  variables = widened s.variables (all_literals ks);
+  hard = s.hard ++ flat_map hard_of ks;
+  soft = s.soft ++ flat_map soft_of ks;
+  order = s.order ++ flat_map (λ k. order_by k.weight) ks;
+}
 all_added s [] = λ i. record s {
   hard = sym (append-nil s.hard) i;
   soft = sym (append-nil s.soft) i;
@@ -33,13 +16,7 @@ all_added s [] = λ i. record s {
 }
 all_added s (k ∷ ks) =
     let rest = flat_map (λ (k : Weighed). order_by k.weight) ks in
-    all_added (with_weighed s k) ks
-    ∙ (λ i. record s {
-      variables = sym (widened-append s.variables (literals_in k.listed.terms) (all_literals ks)) i;
-      hard = append_assoc s.hard (hard_of k) (flat_map hard_of ks) i;
-      soft = append_assoc s.soft (soft_of k) (flat_map soft_of ks) i;
-      order = append_assoc s.order (order_by k.weight) rest i;
-    })
+    grind (arith, nat_tests, all_added (with_weighed s k) ks, widened-append, append_assoc)
 
 abbrev pub whole : Option ℕ → List Weighed → WboText
 whole top ks = record { top = top; constraints = ks }
@@ -88,20 +65,9 @@ content_of_words-put ws = head_is (end_line ws) (head_at (end_line ws) ws)
 hard_by-total : (weight : Option ℕ) (k : Constraint)
     → sum_by constraint_total (hard_by weight k) + sum_by soft_total (soft_by weight k)
     ≤ unwrap_or weight 0 + constraint_total k
-hard_by-total None k = omega (arith, sum_by-cons constraint_total k [])
-hard_by-total (Some zero) k = omega arith
-hard_by-total (Some (suc n)) k =
-    omega (arith, sum_by-cons soft_total (record { weight = suc n; constraint = k }) [])
+hard_by-total weight k = grind (arith, nat_tests)
 
 pub with_constraint-total : (s : WboContent) (weight : Option ℕ) (k : Constraint)
-    → wbo_total (with_constraint s weight k)
-    ≤ wbo_total s + unwrap_or weight 0 + constraint_total k
+    → wbo_total (with_constraint s weight k) ≤ wbo_total s + unwrap_or weight 0 + constraint_total k
 with_constraint-total s weight k =
-    let normal = normal_constraint k in
-    omega (
-      arith,
-      sum_by-append constraint_total s.hard (hard_by weight normal),
-      sum_by-append soft_total s.soft (soft_by weight normal),
-      hard_by-total weight normal,
-      normal_constraint-total k,
-    )
+    grind (arith, nat_tests, sum_by-append, hard_by-total, normal_constraint-total)

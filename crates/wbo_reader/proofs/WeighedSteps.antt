@@ -1,21 +1,6 @@
 -- One constraint with its weight, step by step; and one more constraint, or the end.
-use Rattle.std.proofs.Common.{◌≡◌, ℕ, ◌≤◌, ℤ, Bool, List, [], ◌∷◌, length, fold, Option, Result, Ok, Err, refl, sym, ap, ◌∙◌}
-use Rattle.whole_text.specs.declared.faults.TextFault.{TextFault}
-use Rattle.whole_text.specs.declared.faults.TextAnswer.{TextAnswer}
+use Rattle.wbo_reader.proofs.Common.{nat_tests, ints, arith, ◌≡◌, ℕ, ◌≤◌, ℤ, Bool, List, [], ◌∷◌, length, Option, Result, Ok, Err, refl, ap, TextFault, TextAnswer, Word, ◌>>=◌, Fails, Product, Constraint, Operator, literals_in, widened, is_operator, sum_at, comparison_at, constraint_at, compared, put_all, many_go_on, many_fail, many_end, Soft, WboContent, Weighed, greatest_index, front_at, weighed_at, constraints_at, with_constraint, with_weighed, constraint_read, constraints_read}
 use Rattle.whole_text.specs.declared.faults.TextAnswer.TheVariants as answers
-use Rattle.whole_text.specs.Tokens.{Word}
-use Rattle.whole_text.specs.Steps.{◌>>=◌, Fails}
-use Rattle.problem_form.specs.declared.terms.Product.{Product}
-use Rattle.problem_form.specs.declared.terms.Constraint.{Constraint}
-use Rattle.opb_reader.specs.declared.operator.Operator.{Operator}
-use Rattle.opb_reader.specs.Opb.{literals_in, widened, is_operator, never, sum_at, comparison_at, constraint_at}
-use Rattle.opb_reader.specs.Cost.{compared}
-use Rattle.opb_reader.specs.Views.{put_all}
-use Rattle.opb_reader.proofs.Many.{many_go_on, many_fail, many_end}
-use Rattle.wbo_reader.specs.declared.soft.Soft.{Soft}
-use Rattle.wbo_reader.specs.Wbo.{WboContent}
-use Rattle.wbo_reader.specs.Reading.{Weighed, greatest_index, front_at, weighed_at, constraints_at}
-use Rattle.wbo_reader.specs.Gathering.{with_constraint, with_weighed, constraint_read, constraints_read}
 use Rattle.wbo_reader.proofs.Fronts.{weighed_shrinks}
 use Rattle.wbo_reader.proofs.Together.{constraints_after}
 
@@ -52,8 +37,7 @@ weighed weight terms operator bound = record {
 
 pub weighed_is : (s : WboContent) (end : ℕ) (w : Word) (ws : List Word) (weight : Option ℕ)
     (first : Word) (rest left after : List Word) (terms : List Product) (operator : Operator)
-    (bound : ℤ)
-    → front_at end w ws ≡ Ok (weight, first, rest)
+    (bound : ℤ) → front_at end w ws ≡ Ok (weight, first, rest)
     → sum_at greatest_index is_operator end (first ∷ rest) ≡ Ok (terms, left)
     → comparison_at end left ≡ Ok (operator, bound, after)
     → constraint_read s end w ws ≡ Ok (with_weighed s (weighed weight terms operator bound), after)
@@ -66,19 +50,12 @@ pub added_is : (s : WboContent) (v more : ℕ) (hard : List Constraint) (soft : 
     (top : Option ℕ) (order : List Bool) (new : WboContent) (weight : Option ℕ)
     (terms : List Product) (operator : Operator) (bound : ℤ) (k : Constraint)
     → record { variables = v; hard = hard; soft = soft; top = top; order = order } ≡ s
-    → more ≡ widened v (literals_in terms) → k ≡ compared operator terms bound
-    → new
+    → more ≡ widened v (literals_in terms) → k ≡ compared operator terms bound → new
     ≡ with_constraint
     (record { variables = more; hard = hard; soft = soft; top = top; order = order }) weight k
     → new ≡ with_weighed s (weighed weight terms operator bound)
 added_is s v more hard soft top order new weight terms operator bound k was counted written is =
-    let wider : WboContent → WboContent =
-    λ t. record t { variables = widened t.variables (literals_in terms) } in
-    is
-    ∙ (λ i. with_constraint
-    (record { variables = counted i; hard = hard; soft = soft; top = top; order = order })
-    weight (written i))
-    ∙ (λ i. with_constraint (wider (was i)) weight (compared operator terms bound))
+    grind (arith, nat_tests, ints)
 
 -- ---- all constraints
 
@@ -88,23 +65,14 @@ first_part x = Ok x.0
 
 constraints_read-put : (s : WboContent) (end : ℕ) (ws : List Word)
     → constraints_read s end ws ≡ put_all with_weighed s (constraints_at end ws) >>= first_part
-constraints_read-put s end ws = go (constraints_at end ws)
-  where
-    go : (read : Result (List Weighed × List Word) TextFault)
-        → read >>= (λ (x : List Weighed × List Word). first_part (fold with_weighed s x.0, x.1))
-        ≡ put_all with_weighed s read >>= first_part
-    go (Ok x) = refl
-    go (Err f) = refl
+constraints_read-put s end ws = grind (arith, nat_tests)
 
 pub constraint_goes_on : (s t : WboContent) (end : ℕ) (w : Word) (ws rest : List Word)
     → length rest ≤ length ws → constraint_read s end w ws ≡ Ok (t, rest)
     → constraints_read s end (w ∷ ws) ≡ constraints_read t end rest
 unfolding constraints_at
 constraint_goes_on s t end w ws rest le one =
-    constraints_read-put s end (w ∷ ws)
-    ∙ ap (λ (r : Result (WboContent × List Word) TextFault). r >>= first_part)
-    (many_go_on with_weighed s t never (weighed_at end) w ws rest (weighed_shrinks end) refl le one)
-    ∙ sym (constraints_read-put t end rest)
+    grind (arith, nat_tests, constraints_read-put, many_go_on, weighed_shrinks)
 
 first_fails : (e : TextAnswer) (read : Result (WboContent × List Word) TextFault)
     → Fails e read → Fails e (read >>= first_part)
@@ -115,16 +83,11 @@ pub constraint_fails : (e : TextAnswer) (s : WboContent) (end : ℕ) (w : Word) 
     → Fails e (constraint_read s end w ws) → Fails e (constraints_read s end (w ∷ ws))
 unfolding constraints_at
 constraint_fails e s end w ws h =
-    rw (constraints_read-put s end (w ∷ ws))
-    (first_fails e (put_all with_weighed s (constraints_at end (w ∷ ws)))
-    (many_fail e with_weighed s never (weighed_at end) w ws refl h))
+    grind (arith, nat_tests, constraints_read-put, first_fails, many_fail)
 
 pub constraints_end : (s : WboContent) (end : ℕ) → constraints_read s end [] ≡ Ok s
 unfolding constraints_at
-constraints_end s end =
-    constraints_read-put s end []
-    ∙ ap (λ (r : Result (WboContent × List Word) TextFault). r >>= first_part)
-    (many_end with_weighed s never (weighed_at end))
+constraints_end s end = grind (arith, nat_tests, constraints_read-put, many_end)
 
 -- ---- what stands before them
 

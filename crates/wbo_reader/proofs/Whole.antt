@@ -1,18 +1,5 @@
 -- The rewritten problem, part by part.
-use Rattle.std.proofs.Common.{◌≡◌, ℕ, ◌+◌, ◌<◌, Bool, true, false, not, cond, List, [], ◌∷◌, map, length, drop, get_or, Option, Some, None, pos, ◌-ℤ◌, int_lt, refl, sym, ap, subst, ◌∙◌, arith}
-use Rattle.std.specs.Prelude.{if◌then◌else◌, nat_le, count_by}
-use Rattle.std.specs.List.{sum_by}
-use Rattle.std.proofs.lemmas.Int.{ints}
-use Rattle.std.proofs.lemmas.List.{drop_more}
-use Rattle.std.proofs.lemmas.List.Sums.{sum_by-cons}
-use Rattle.std.proofs.lemmas.Bool.Decides.{nat_tests}
-use Rattle.problem_form.specs.declared.terms.Constraint.{Constraint}
-use Rattle.problem_form.specs.NormalForm.{blank, with_variables}
-use Rattle.problem_form.specs.Problems.{ProblemContent, negated}
-use Rattle.problem_form.specs.Fields.{IsSound}
-use Rattle.wbo_reader.specs.declared.soft.Soft.{Soft}
-use Rattle.wbo_reader.specs.Wbo.{WboContent, IsWbo}
-use Rattle.wbo_reader.specs.Rewriting.{weighed_bits, with_products, with_rows, rows_of, rewritten, rewritten_constraints, top_row, top_rows}
+use Rattle.wbo_reader.proofs.Common.{◌≡◌, ℕ, ◌+◌, ◌<◌, Bool, true, false, not, cond, List, [], ◌∷◌, length, drop, get_or, Option, Some, None, sym, ap, subst, ◌∙◌, arith, count_by, drop_more, sum_by-cons, nat_tests, blank, with_variables, ProblemContent, IsSound, WboContent, IsWbo, weighed_bits, with_products, with_rows, rows_of, rewritten, rewritten_constraints, top_row, top_rows}
 use Rattle.wbo_reader.proofs.Added.{first_rows, no_rows}
 use Rattle.wbo_reader.proofs.Sound.{rewritten_is_sound}
 use Rattle.wbo_reader.proofs.Spending.{upper_is_soft_weights}
@@ -20,8 +7,7 @@ use Rattle.wbo_reader.proofs.Spending.{upper_is_soft_weights}
 -- ---- the order
 
 pub first_left : (items : List Bool) (i : ℕ) (b : Bool) → i < length items
-    → get_or items i false ≡ b
-    → drop i items ≡ b ∷ drop (i + 1) items
+    → get_or items i false ≡ b → drop i items ≡ b ∷ drop (i + 1) items
 first_left items i b within is =
     drop_more items i false within ∙ ap (λ (h : Bool). h ∷ drop (i + 1) items) is
 
@@ -84,37 +70,9 @@ rows_are_sound {s = s} kept same filled =
 
 -- ---- the top
 
-reached : (n top : ℕ) → nat_le top n ≡ true → int_lt (pos n) (pos top) ≡ false
-reached n top e = grind (arith, ints, nat_tests)
-
-not_reached : (n top : ℕ) → nat_le top n ≡ false → int_lt (pos n) (pos top) ≡ true
-not_reached n top e = grind (arith, ints, nat_tests)
-
 same_top : (s : WboContent) (top : ℕ)
     → top_row (rowed s) top ≡ top_rows s.variables (Some top) s.soft
-same_top s top =
-    ap (λ n. if int_lt n (pos top) then [] else row ∷ []) (upper_is_soft_weights s)
-    ∙ go (nat_le top sum) refl
-  where
-    sum : ℕ
-    sum = sum_by (λ (k : Soft). k.weight) s.soft
-
-    row : Constraint
-    row = record {
-      products = map negated (weighed_bits s.variables s.soft);
-      bound = pos 1 -ℤ pos top;
-      exact = false;
-    }
-
-    go : (b : Bool) → nat_le top sum ≡ b
-        → (if int_lt (pos sum) (pos top) then [] else row ∷ [])
-        ≡ (if nat_le top sum then row ∷ [] else [])
-    go true e =
-        ap (λ (b : Bool). if b then [] else row ∷ []) (reached sum top e)
-        ∙ sym (ap (λ (b : Bool). if b then row ∷ [] else []) e)
-    go false e =
-        ap (λ (b : Bool). if b then [] else row ∷ []) (not_reached sum top e)
-        ∙ sym (ap (λ (b : Bool). if b then row ∷ [] else []) e)
+same_top s top = grind (arith, nat_tests, upper_is_soft_weights s)
 
 top_is : (s : WboContent) (top : ℕ) → s.top ≡ Some top
     → top_row (rowed s) top ≡ top_rows s.variables s.top s.soft
@@ -125,9 +83,7 @@ pub with_top : (s : WboContent) (top : ℕ) → s.top ≡ Some top
 with_top s top is = ap (with_rows (rowed s)) (top_is s top is)
 
 pub without_top : (s : WboContent) → s.top ≡ None → rowed s ≡ rewritten s
-without_top s is =
-    sym (no_rows (rowed s))
-    ∙ ap (λ (t : Option ℕ). with_rows (rowed s) (top_rows s.variables t s.soft)) (sym is)
+without_top s is = grind (arith, nat_tests, no_rows (rowed s))
 
 pub top_sound : (s : WboContent) (top : ℕ) → s.top ≡ Some top → IsWbo s
     → IsSound (with_rows (rowed s) (top_row (rowed s) top))

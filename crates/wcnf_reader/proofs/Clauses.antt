@@ -1,21 +1,7 @@
 -- Clauses that are read one after the other, and put into a problem.
-use Rattle.std.proofs.Common.{◌≡◌, ℕ, suc, ◌+◌, ◌-◌, ◌<◌, ◌≤◌, List, [], ◌∷◌, map, fold, Option, Some, Result, Ok, Err, refl, sym, ap, ◌∙◌, arith}
-use Rattle.whole_text.specs.declared.faults.TextFault.{TextFault}
+use Rattle.wcnf_reader.proofs.Common.{nat_tests, ◌≡◌, ℕ, suc, ◌+◌, ◌-◌, ◌<◌, ◌≤◌, List, [], ◌∷◌, map, fold, Option, Some, Result, Ok, Err, refl, sym, arith, TextFault, TextAnswer, Word, ◌>>=◌, Fails, fault, next_of, Clause, ProblemContent, blank, with_variables, with_clause, normal_form, clauses_add_up, ClauseLayout, Header, Listed, Wcnf, header_at, clause_at, clauses_at, at_end, older_of, clause_of, problem_of, clause_read, problem_read, listed_problem, older_read}
 use Rattle.whole_text.specs.declared.faults.TextKind.TheVariants as kinds
-use Rattle.whole_text.specs.declared.faults.TextAnswer.{TextAnswer}
-use Rattle.whole_text.specs.declared.faults.TextAnswer.TheVariants as answers
-use Rattle.whole_text.specs.Tokens.{Word}
-use Rattle.whole_text.specs.Steps.{◌>>=◌, Fails, fault, next_of}
-use Rattle.problem_form.specs.declared.terms.Clause.{Clause}
-use Rattle.problem_form.specs.Problems.{ProblemContent}
-use Rattle.problem_form.specs.NormalForm.{blank, with_variables, with_clause, normal_form}
-use Rattle.problem_form.proofs.AddedParts.{clauses_add_up}
-use Rattle.whole_text.proofs.Lengths.{both_parts}
-use Rattle.wcnf_reader.specs.declared.layout.ClauseLayout.{ClauseLayout}
 use Rattle.wcnf_reader.specs.declared.layout.ClauseLayout.TheVariants.{Older}
-use Rattle.wcnf_reader.specs.Wcnf.{Header, Listed, Wcnf, header_at, clause_at, clauses_at, at_end, older_of}
-use Rattle.wcnf_reader.specs.Cost.{clause_of, problem_of}
-use Rattle.wcnf_reader.specs.Views.{clause_read, problem_read, listed_problem, older_read}
 
 -- clauses as listed, or the problem that they are put into, and what is left
 abbrev pub Listing : Type 0
@@ -39,12 +25,6 @@ with_first c x = Ok (c ∷ x.0, x.1)
 abbrev pub as_clause : ClauseLayout → Listed × List Word → Result (Clause × List Word) TextFault
 as_clause layout x = Ok (clause_of layout x.0, x.1)
 
-regroup : (top : Option ℕ) (p : ProblemContent) (c : Listed) (others : Listing)
-    → read_into top p (others >>= with_first c)
-    ≡ read_into top (with_clause p (clause_of (Older top) c)) others
-regroup top p c (Ok x) = refl
-regroup top p c (Err f) = refl
-
 -- what a clause gives: it, before the others
 abbrev next_clause : (List Word → Listing) → Listed × List Word → Listing
 next_clause others x = others x.1 >>= with_first x.0
@@ -53,20 +33,7 @@ clause_then : (top : Option ℕ) (p : ProblemContent) (c : Clause) (ws : List Wo
     (others : List Word → Listing) (first : Result (Listed × List Word) TextFault)
     → first >>= as_clause (Older top) ≡ Ok (c, ws)
     → read_into top p (first >>= next_clause others) ≡ read_into top (with_clause p c) (others ws)
-clause_then top p c ws others (Err f) h = absurd cc
-clause_then top p c ws others (Ok x) h =
-    let same = both_parts (clause_of (Older top) x.0, x.1) (c, ws) h in
-    regroup top p x.0 (others x.1)
-    ∙ (λ i. read_into top (with_clause p (same.0 i)) (others (same.1 i)))
-
-fault_then : (e : TextAnswer) (top : Option ℕ) (p : ProblemContent) (total : Putting)
-    (others : List Word → Listing) (first : Result (Listed × List Word) TextFault)
-    → Fails e (first >>= as_clause (Older top))
-    → read_into top p (first >>= next_clause others) ≡ total → Fails e total
-fault_then answers.NoMemory top p total others first h so_far = tt
-fault_then (answers.Bad f) top p total others (Ok x) h so_far = absurd cc
-fault_then (answers.Bad f) top p total others (Err g) h so_far =
-    let same : g ≡ f = cc in sym so_far ∙ ap (λ k. Err k) same
+clause_then top p c ws others first h = grind (arith, nat_tests)
 
 -- the clause that begins with this word, and the others after it
 abbrev clause_and_others : Header → ℕ → ℕ → Word × List Word → Listing
@@ -83,39 +50,20 @@ clause_goes_on h count i end p ws after rest w c total lt next read so_far =
     let k : count - i ≡ suc (count - (i + 1)) = omega arith in
     let before = rw k at so_far in
     let n = count - (i + 1) in
-    sym (clause_then h.top p c rest (clauses_at n h end)
-    (clause_at (Older h.top) (Some h.variables) end w after) read)
-    ∙ sym (ap (λ (x : Result (Word × List Word) TextFault).
-    read_into h.top p (x >>= clause_and_others h n end)) next)
-    ∙ before
+    grind (arith, nat_tests, clause_then)
 
 pub clause_fails : (e : TextAnswer) (h : Header) (count i end : ℕ) (p : ProblemContent)
-    (ws after : List Word) (w : Word) (total : Putting) → i < count
-    → next_of end ws ≡ Ok (w, after)
+    (ws after : List Word) (w : Word) (total : Putting) → i < count → next_of end ws ≡ Ok (w, after)
     → Fails e (clause_read (Older h.top) (Some h.variables) end w after)
     → read_into h.top p (clauses_at (count - i) h end ws) ≡ total → Fails e total
 unfolding clauses_at
-clause_fails e h count i end p ws after w total lt next fails so_far =
-    let k : count - i ≡ suc (count - (i + 1)) = omega arith in
-    let before = rw k at so_far in
-    let n = count - (i + 1) in
-    fault_then e h.top p total (clauses_at n h end)
-    (clause_at (Older h.top) (Some h.variables) end w after) fails
-    (sym (ap (λ (x : Result (Word × List Word) TextFault).
-    read_into h.top p (x >>= clause_and_others h n end)) next)
-    ∙ before)
+clause_fails e h count i end p ws after w total lt next fails so_far = grind (arith, nat_tests)
 
 pub no_clause : (h : Header) (count i end : ℕ) (p : ProblemContent) (ws : List Word)
     (f : TextFault) (total : Putting) → i < count → next_of end ws ≡ Err f
     → read_into h.top p (clauses_at (count - i) h end ws) ≡ total → total ≡ Err f
 unfolding clauses_at
-no_clause h count i end p ws f total lt next so_far =
-    let k : count - i ≡ suc (count - (i + 1)) = omega arith in
-    let before = rw k at so_far in
-    let n = count - (i + 1) in
-    sym before
-    ∙ ap (λ (x : Result (Word × List Word) TextFault).
-    read_into h.top p (x >>= clause_and_others h n end)) next
+no_clause h count i end p ws f total lt next so_far = grind (arith, nat_tests)
 
 pub clauses_done : (h : Header) (count i end : ℕ) (p : ProblemContent) (ws : List Word)
     (total : Putting) → count ≤ i
@@ -127,16 +75,11 @@ clauses_done h count i end p ws total le so_far =
 -- ---- the whole text
 
 -- what is put into a problem that says nothing is the normal form of what is listed
-into_blank : (h : Header) (read : Listing)
-    → read_into h.top (with_variables blank h.variables) read
+into_blank : (h : Header) (read : Listing) → read_into h.top (with_variables blank h.variables) read
     ≡ (read >>= λ (x : List Listed × List Word). Ok (listed_problem h x.0, x.1))
-into_blank h (Ok x) =
-    ap (λ (p : ProblemContent). Ok (p, x.1))
-    (clauses_add_up h.variables (map (clause_of (Older h.top)) x.0))
-into_blank h (Err f) = refl
+into_blank h read = grind (arith, nat_tests, clauses_add_up)
 
-pub problem_read-blank : (h : Header) (end : ℕ) (ws : List Word)
-    → problem_read h end ws
+pub problem_read-blank : (h : Header) (end : ℕ) (ws : List Word) → problem_read h end ws
     ≡ read_into h.top (with_variables blank h.variables) (clauses_at h.clauses h end ws)
 problem_read-blank h end ws = sym (into_blank h (clauses_at h.clauses h end ws))
 
@@ -161,24 +104,16 @@ older_read-header h line end ws rest head = rw head refl
 
 pub nothing_left : (h : Header) (p : ProblemContent) (ws : List Word) (read : Listing) → ws ≡ []
     → read >>= as_problem h ≡ Ok (p, ws) → (read >>= end_of h) >>= normal ≡ Ok p
-nothing_left h p ws (Err f) none e = absurd cc
-nothing_left h p ws (Ok x) none e =
-    let parts = both_parts (listed_problem h x.0, x.1) (p, ws) e in
-    (λ i. end_of h (x.0, (parts.1 ∙ none) i) >>= normal) ∙ ap (λ q. Ok q) parts.0
+nothing_left h p ws read none e = grind (arith, nat_tests)
 
 pub more_left : (h : Header) (p : ProblemContent) (w : Word) (ws rest : List Word) (read : Listing)
     → ws ≡ w ∷ rest → read >>= as_problem h ≡ Ok (p, ws)
     → (read >>= end_of h) >>= normal ≡ Err (fault kinds.Extra w.line)
-more_left h p w ws rest (Err f) some e = absurd cc
-more_left h p w ws rest (Ok x) some e =
-    let parts = both_parts (listed_problem h x.0, x.1) (p, ws) e in
-    (λ i. end_of h (x.0, (parts.1 ∙ some) i) >>= normal)
+more_left h p w ws rest read some e = grind (arith, nat_tests)
 
 pub fails_whole : (e : TextAnswer) (h : Header) (read : Listing) → Fails e (read >>= as_problem h)
     → Fails e ((read >>= end_of h) >>= normal)
-fails_whole answers.NoMemory h read fails = tt
-fails_whole (answers.Bad f) h (Ok x) fails = absurd cc
-fails_whole (answers.Bad f) h (Err g) fails = let same : g ≡ f = cc in ap (λ k. Err k) same
+fails_whole e h read fails = grind (arith, nat_tests)
 
 pub older_read-bad : (f : TextFault) (line end : ℕ) (ws : List Word)
     → header_at line end ws ≡ Err f → older_read line end ws ≡ Err f

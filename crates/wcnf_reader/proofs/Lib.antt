@@ -1,3 +1,4 @@
+pub mod Common
 pub mod Loops
 pub mod Clauses
 pub mod Widening

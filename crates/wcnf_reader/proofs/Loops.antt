@@ -1,14 +1,6 @@
 -- Reading one thing after the other, as a loop does.
-use Rattle.std.proofs.Common.{◌≡◌, ℕ, Bool, true, false, cond, eqb, ℤ, List, [], ◌∷◌, ◌++◌, map, Option, Some, None, Result, Ok, Err, refl, sym, ap, ◌∙◌, append_assoc, append-nil}
-use Rattle.std.specs.Prelude.{nat_abs}
-use Rattle.whole_text.specs.declared.faults.TextFault.{TextFault}
+use Rattle.wcnf_reader.proofs.Common.{nat_tests, ints, arith, ◌≡◌, ℕ, Bool, true, false, cond, eqb, ℤ, List, [], ◌∷◌, ◌++◌, map, Option, Some, None, Result, Ok, Err, refl, sym, ap, ◌∙◌, append_assoc, append-nil, nat_abs, TextFault, Word, ◌>>=◌, fault, Literal, literal_at, literals_at, literal_of, some_literal, literal_read, literals_read}
 use Rattle.whole_text.specs.declared.faults.TextKind.TheVariants as kinds
-use Rattle.whole_text.specs.Tokens.{Word}
-use Rattle.whole_text.specs.Steps.{◌>>=◌, fault}
-use Rattle.literal_lists.specs.declared.literal.Literal.{Literal}
-use Rattle.wcnf_reader.specs.Wcnf.{literal_at, literals_at}
-use Rattle.wcnf_reader.specs.Cost.{literal_of}
-use Rattle.wcnf_reader.specs.Views.{some_literal, literal_read, literals_read}
 
 -- ---- the literals of a clause
 
@@ -67,15 +59,7 @@ literal_then front l ws others (Ok z) h =
 zero_then : (front : List Literal) (ws : List Word) (others : Numbers)
     (first : Result ℤ TextFault) → first >>= maybe_literal ≡ Ok None
     → with_front front ((first >>= next_number ws others) >>= as_literals) ≡ Ok (front, ws)
-zero_then front ws others (Err f) h = absurd cc
-zero_then front ws others (Ok z) h =
-    let read : some_literal z ≡ None = cc in go (eqb (nat_abs z) 0) read
-  where
-    go : (b : Bool) → cond b None (Some (literal_of z)) ≡ None
-        → with_front front (cond b (Ok ([], ws)) (others >>= with_first z) >>= as_literals)
-        ≡ Ok (front, ws)
-    go true e = ap (λ (ls : List Literal). Ok (ls, ws)) (append-nil front)
-    go false e = absurd cc
+zero_then front ws others first h = grind (arith, nat_tests, ints, append-nil)
 
 fault_then : (front : List Literal) (f : TextFault) (ws : List Word) (others : Numbers)
     (first : Result ℤ TextFault) → first >>= maybe_literal ≡ Err f
@@ -109,7 +93,4 @@ pub literals_end : (variables : Option ℕ) (end : ℕ) (front : List Literal) (
     (total : Literals) → ws ≡ [] → with_front front (literals_read variables end ws) ≡ total
     → total ≡ Err (fault kinds.End end)
 unfolding literals_at
-literals_end variables end front ws total none so_far =
-    let one : with_front front (literals_read variables end ws) ≡ Err (fault kinds.End end) =
-    rw none refl in
-    sym so_far ∙ one
+literals_end variables end front ws total none so_far = grind (arith, nat_tests)

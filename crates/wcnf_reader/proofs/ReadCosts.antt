@@ -1,55 +1,23 @@
 -- What the problem of a text costs: what the text costs, clause by clause.
-use Rattle.std.proofs.Common.{◌≡◌, ℕ, suc, ◌-◌, Bool, true, false, cond, not, ◌&&◌, ◌||◌, arith, refl, ap, ◌∙◌, List, [], ◌∷◌, map, Some, None, is_none, unwrap_or, ℤ, pos, negsuc, ◌+ℤ◌}
-use Rattle.std.specs.Prelude.{if◌then◌else◌}
-use Rattle.std.specs.List.{list_any, slice_index_or}
-use Rattle.std.proofs.lemmas.Int.{ints}
+use Rattle.wcnf_reader.proofs.Common.{nat_tests, ◌≡◌, Bool, true, false, not, ◌&&◌, ◌||◌, arith, refl, ◌∙◌, List, [], ◌∷◌, map, unwrap_or, ℤ, pos, ◌+ℤ◌, if◌then◌else◌, list_any, ints, total_by, if_so, holds, some_holds, fails_hard, soft_cost, problem_cost, normal_form-cost, ClauseLayout, Listed, Wcnf, is_true, is_satisfied, is_hard, is_broken, unsatisfied_weight, wcnf_cost, literal_of, clause_of, problem_of, ReadingKeepsCosts}
 use Rattle.base.specs.declared.costs.Cost.TheVariants.{Whole, Infinite}
-use Rattle.base.specs.Sums.{total_by, if_so}
-use Rattle.literal_lists.specs.Literals.{holds, some_holds}
-use Rattle.problem_form.specs.Problems.{fails_hard, soft_cost, problem_cost}
-use Rattle.problem_form.proofs.NormalForms.{normal_form-cost}
-use Rattle.wcnf_reader.specs.declared.layout.ClauseLayout.{ClauseLayout}
-use Rattle.wcnf_reader.specs.Wcnf.{Listed, Wcnf}
-use Rattle.wcnf_reader.specs.Cost.{is_true, is_satisfied, is_hard, is_broken, unsatisfied_weight, wcnf_cost, literal_of, clause_of, problem_of, ReadingKeepsCosts}
 
 holds-literal_of : (x : List Bool) (z : ℤ) → holds x (literal_of z) ≡ is_true x z
-holds-literal_of x (pos k) = refl
-holds-literal_of x (negsuc k) =
-    let place : suc k - 1 ≡ k = omega arith in ap (λ n. not (slice_index_or x n false)) place
+holds-literal_of x z = grind (arith, nat_tests, ints)
 
 some_holds-listed : (x : List Bool) (zs : List ℤ)
     → some_holds x (map literal_of zs) ≡ list_any (is_true x) zs
 some_holds-listed x [] = refl
 some_holds-listed x (z ∷ zs) = λ i. holds-literal_of x z i || some_holds-listed x zs i
 
--- a clause that is hard, or not, with a true literal, or not
-fails_hard-weight : (hard satisfied : Bool) (w : ℕ)
-    → is_none (cond hard None (Some w)) && not satisfied ≡ hard && not satisfied
-fails_hard-weight true satisfied w = refl
-fails_hard-weight false satisfied w = refl
-
-soft_cost-weight : (hard satisfied : Bool) (w : ℕ)
-    → if_so (not satisfied) (pos (unwrap_or (cond hard None (Some w)) 0))
-    ≡ if_so (not hard && not satisfied) (pos w)
-soft_cost-weight true true w = refl
-soft_cost-weight true false w = refl
-soft_cost-weight false satisfied w = refl
-
 fails_hard-clause_of : (layout : ClauseLayout) (x : List Bool) (c : Listed)
     → fails_hard x (clause_of layout c) ≡ is_hard layout c.weight && not (is_satisfied x c)
-fails_hard-clause_of layout x c =
-    let hard = is_hard layout c.weight in
-    ap (λ b. is_none (cond hard None (Some (unwrap_or c.weight 0))) && not b) (some_holds-listed x c.literals)
-    ∙ fails_hard-weight hard (is_satisfied x c) (unwrap_or c.weight 0)
+fails_hard-clause_of layout x c = grind (arith, nat_tests, some_holds-listed x c.literals)
 
 soft_cost-clause_of : (layout : ClauseLayout) (x : List Bool) (c : Listed)
     → soft_cost x (clause_of layout c)
     ≡ if_so (not (is_hard layout c.weight) && not (is_satisfied x c)) (pos (unwrap_or c.weight 0))
-soft_cost-clause_of layout x c =
-    let hard = is_hard layout c.weight in
-    ap (λ b. if_so (not b) (pos (unwrap_or (cond hard None (Some (unwrap_or c.weight 0))) 0)))
-    (some_holds-listed x c.literals)
-    ∙ soft_cost-weight hard (is_satisfied x c) (unwrap_or c.weight 0)
+soft_cost-clause_of layout x c = grind (arith, nat_tests, some_holds-listed x c.literals)
 
 fails_hard-clauses : (layout : ClauseLayout) (x : List Bool) (cs : List Listed)
     → list_any (fails_hard x) (map (clause_of layout) cs)

@@ -1,12 +1,5 @@
 -- The number of variables, as literals come.
-use Rattle.std.proofs.Common.{◌≡◌, ℕ, ◌+◌, ◌-◌, ◌<◌, ◌≤◌, max, List, [], ◌∷◌, length, map, fold, take, get_or, All, refl, ap, ◌∙◌, arith}
-use Rattle.std.specs.Prelude.{ℤ, nat_abs}
-use Rattle.std.proofs.lemmas.List.{take_more, map_push}
-use Rattle.std.proofs.lemmas.List.Elements.{All-append, All-cons, All-nil}
-use Rattle.std.proofs.lemmas.List.Sums.{fold_push}
-use Rattle.literal_lists.specs.declared.literal.Literal.{Literal}
-use Rattle.wcnf_reader.specs.Cost.{literal_of}
-use Rattle.wcnf_reader.specs.Views.{widened}
+use Rattle.wcnf_reader.proofs.Common.{◌≡◌, ℕ, ◌+◌, ◌-◌, ◌<◌, ◌≤◌, max, List, [], ◌∷◌, length, map, fold, take, get_or, All, refl, ap, ◌∙◌, arith, ℤ, nat_abs, take_more, map_push, All-append, All-cons, All-nil, fold_push, Literal, literal_of, widened}
 
 -- how many variables a literal needs
 abbrev needed : Literal → ℕ
@@ -23,8 +16,7 @@ pub all_within : (v w : ℕ) (ls : List Literal) (i : ℕ) (d : Literal) → i <
     → (get_or ls i d).variable < w → All (λ l. l.variable < v) (take i ls)
     → All (λ l. l.variable < w) (take (i + 1) ls)
 all_within v w ls i d lt le last before =
-    rw (take_more ls i d lt)
-    (All-append (λ l. l.variable < w) (take i ls) (get_or ls i d ∷ [])
+    rw (take_more ls i d lt) (All-append (λ l. l.variable < w) (take i ls) (get_or ls i d ∷ [])
     (λ k e h. omega (arith, le, before k e h))
     (All-cons (λ l. l.variable < w) (get_or ls i d) [] last (All-nil _)))
 

@@ -1,5 +1,4 @@
-use Rattle.std.proofs.Common.{◌≡◌, ◌++◌, take}
-use Rattle.answer_text.specs.Answers.{bits_word}
+use Rattle.answer_text.proofs.Common.{◌≡◌, ◌++◌, take, bits_word}
 use Rattle.answer_text.proofs.rows.push_bits.Given as goal
 
 -- the digits of the bits so far stand at the end of the text

@@ -1,5 +1,4 @@
-use Rattle.std.proofs.Common.{◌<◌, ◌≤◌, false, length, arith}
-use Rattle.std.specs.Prelude.{min}
+use Rattle.answer_text.proofs.Common.{◌<◌, ◌≤◌, false, length, arith, min}
 use Rattle.answer_text.proofs.AnswerRows.{name_added, names_done}
 use Rattle.answer_text.proofs.rows.push_each_name.Goals as goal
 

@@ -1,6 +1,4 @@
-use Rattle.std.proofs.Common.{◌≡◌, ◌++◌, drop}
-use Rattle.model_text.specs.Rows.{rows_text}
-use Rattle.answer_text.specs.Answers.{named_rows}
+use Rattle.answer_text.proofs.Common.{◌≡◌, ◌++◌, drop, rows_text, named_rows}
 use Rattle.answer_text.proofs.rows.push_each_name.Given as goal
 
 -- with the rows of the names that are left, the text is whole

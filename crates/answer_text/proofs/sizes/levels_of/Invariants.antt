@@ -1,6 +1,4 @@
-use Rattle.std.proofs.Common.{◌≡◌}
-use Rattle.std.specs.Prelude.{fold, max}
-use Rattle.answer_text.specs.Sizes.{least_of, sizes}
+use Rattle.answer_text.proofs.Common.{◌≡◌, fold, max, least_of, sizes}
 use Rattle.answer_text.proofs.Levels.{least_from}
 use Rattle.answer_text.proofs.sizes.levels_of.Given as goal
 

@@ -4,5 +4,4 @@ use Rattle.basic_solve.proofs.bits.bit.Goals as goal
 
 pub returns : goal.returns
 returns c =
-    let bytes = c.args.bytes.now in
-    sym (bits-at bytes (8 * length bytes) c.args.index c.requires)
+    sym (bits-at c.args.bytes.now (8 * length c.args.bytes.now) c.args.index c.requires)

@@ -1,4 +1,5 @@
-use Rattle.std.proofs.Common.{rules, ◌≡◌, [], ap, length, length-append, ◌∷◌, arith}
+use Rattle.basic_solve.proofs.Common.{◌∷◌}
+use Rattle.std.proofs.Common.{rules, ◌≡◌, [], ap, length, length-append, arith}
 use Rattle.basic_solve.proofs.Heads.{taken_by_pop, taken_by_set}
 use Rattle.basic_solve.proofs.buckets.take_list.Goals as goal
 
@@ -10,16 +11,10 @@ returns-then-place-eq0-clause-taken g c =
 
 pub returns-in-Some-clause-taken : goal.returns-in-Some-clause-taken
 returns-in-Some-clause-taken g c =
-    let vecs = c.args.lists.now.items in
     let rest = c.pop.new.self.items in
     let is = c.in-Some.ensures.items in
-    let at : c.args.place ≡ length rest = omega (
-      arith,
-      c.requires,
-      c.if-place-len.false,
-      c.len.ensures,
-      ap length is,
-      length-append rest (c.in-Some.list ∷ []),
-    ) in
-    taken_by_pop (λ list. list.items) vecs rest c.in-Some.list c.args.place is at
+    let count = length-append rest (c.in-Some.list ∷ []) in
+    let at : c.args.place ≡ length rest
+    = omega (arith, c.requires, c.if-place-len.false, c.len.ensures, ap length is, count) in
+    taken_by_pop (λ list. list.items) c.args.lists.now.items rest c.in-Some.list c.args.place is at
     (omega (arith, c.if-place-eq0.false))

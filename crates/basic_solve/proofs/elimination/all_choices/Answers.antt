@@ -1,5 +1,4 @@
-use Rattle.std.proofs.Common.{◌∙◌, [], ap, replicate, subst}
-use Rattle.basic_solve.specs.Tables.{AreEntriesOf}
+use Rattle.basic_solve.proofs.Common.{◌∙◌, [], ap, replicate, subst, AreEntriesOf}
 use Rattle.basic_solve.proofs.elimination.all_choices.Goals as goal
 
 pub choose_all-requires-clause-held : goal.choose_all-requires-clause-held

@@ -1,8 +1,4 @@
-use Rattle.std.proofs.Common.{◌≡◌, ◌-◌, ◌∙◌, ◌∷◌, ◌++◌, [], map, All, ap, sym, arith, subst}
-use Rattle.std.proofs.lemmas.List.{map-append}
-use Rattle.bits_model.specs.Output.{IsPlaced, weight_total}
-use Rattle.basic_solve.specs.Bits.{all_bits}
-use Rattle.basic_solve.specs.Tables.{IsHandedOn}
+use Rattle.basic_solve.proofs.Common.{◌≡◌, ◌-◌, ◌∙◌, ◌∷◌, ◌++◌, [], map, All, ap, sym, arith, subst, map-append, IsPlaced, weight_total, all_bits, IsHandedOn}
 use Rattle.basic_solve.proofs.Eliminated.{Eliminated, NextNode, eliminated_at_first, next_node}
 use Rattle.basic_solve.proofs.elimination.choose_all.Given.{Over}
 use Rattle.basic_solve.proofs.elimination.choose_all.Goals.{After-deref-in-loop-step}
@@ -10,12 +6,8 @@ use Rattle.basic_solve.proofs.elimination.choose_all.Goals as goal
 
 pub loop-step-init : goal.loop-step-init
 loop-step-init g c =
-    let m = c.args.model.now in
-    let sets = c.args.sets.now in
-    let held = c.args.held.now in
-    subst (λ cs. Eliminated m sets 0 held c.args.waiting.now (map all_bits cs)) (sym c.requires.none)
-    (subst (λ ws. Eliminated m sets 0 held ws []) (sym c.requires.waiting)
-    (eliminated_at_first m sets held c.requires.sets c.requires.held))
+    rw (c.requires.none, c.requires.waiting)
+    (eliminated_at_first c.args.model.now c.args.sets.now c.args.held.now c.requires.sets c.requires.held)
 
 -- the node that this step eliminates
 node : (g : Over) (c : After-deref-in-loop-step g)
@@ -52,20 +44,12 @@ settle-requires-clause-few g c =
 
 pub settle-requires-clause-light : goal.settle-requires-clause-light
 settle-requires-clause-light g c =
-    omega (
-      arith,
-      (node g (goal.at.settle-requires-clause-light g c).After-deref-in-loop-step).small,
-      c.model.invariant.1,
-      ap (λ w. weight_total w.entries) c.model.view_is,
-    )
+    let small = (node g (goal.at.settle-requires-clause-light g c).After-deref-in-loop-step).small in
+    omega (arith, small, c.model.invariant.1, ap (λ w. weight_total w.entries) c.model.view_is)
 
 pub settle-requires-clause-small : goal.settle-requires-clause-small
 settle-requires-clause-small g c =
-    omega (
-      arith,
-      (node g (goal.at.settle-requires-clause-small g c).After-deref-in-loop-step).small,
-      c.requires.small,
-    )
+    omega (arith, (node g (goal.at.settle-requires-clause-small g c).After-deref-in-loop-step).small, c.requires.small)
 
 pub pass_table-requires : goal.pass_table-requires
 pass_table-requires g c =

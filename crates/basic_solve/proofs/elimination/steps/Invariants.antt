@@ -1,8 +1,4 @@
-use Rattle.std.proofs.Common.{◌≡◌, ◌+◌, ◌*◌, ◌≤◌, ◌+ℤ◌, unsigned_abs, List, Bool, length, drop}
-use Rattle.std.specs.List.{sum_by}
-use Rattle.base.specs.Sums.{total_by}
-use Rattle.bits_model.specs.Output.{weight_total}
-use Rattle.basic_solve.specs.Tables.{sum_where, step_at}
+use Rattle.basic_solve.proofs.Common.{◌≡◌, ◌+◌, ◌*◌, ◌≤◌, ◌+ℤ◌, unsigned_abs, List, Bool, length, drop, sum_by, total_by, weight_total, sum_where, step_at}
 use Rattle.basic_solve.proofs.elimination.steps.Given as goal
 
 -- the steps so far, and the entries that are left

@@ -1,10 +1,4 @@
-use Rattle.std.proofs.Common.{◌≡◌, ◌+ℤ◌, ◌∙◌, ◌++◌, ◌∷◌, ◌^◌, [], refl, ap, sym, subst, arith, length, map, to_z, of_z, unsigned_abs}
-use Rattle.std.specs.Int.{w128}
-use Rattle.std.specs.List.{sum_by}
-use Rattle.std.proofs.lemmas.Int.{ints}
-use Rattle.std.proofs.lemmas.List.{drop_all, length-map}
-use Rattle.base.specs.Sums.{total_by}
-use Rattle.basic_solve.specs.Tables.{IsPassedTo, base_of, most, sum_where, table_energy, value_at}
+use Rattle.basic_solve.proofs.Common.{◌≡◌, ◌+ℤ◌, ◌∙◌, ◌++◌, ◌∷◌, ◌^◌, [], refl, ap, sym, arith, length, map, to_z, of_z, unsigned_abs, w128, sum_by, ints, drop_all, length-map, total_by, IsPassedTo, base_of, most, sum_where, table_energy, value_at}
 use Rattle.basic_solve.proofs.ListSums.{sum_left, total_left}
 use Rattle.basic_solve.proofs.BitTables.{written_items, base-small, begun-length, begun_holds, begun-small}
 use Rattle.basic_solve.proofs.PassedTables.{pow-few}
@@ -12,14 +6,10 @@ use Rattle.basic_solve.proofs.elimination.write_table.Goals as goal
 
 pub write_doubled-requires-clause-count : goal.write_doubled-requires-clause-count
 write_doubled-requires-clause-count g c =
-    omega (
-      arith,
-      ap length c.deref_mut.ensures.value,
-      c.in_ok-resize.ensures,
-      pow-few (length c.args.nodes.now) c.requires.few,
-      ap (λ l. 2 ^ length l) c.deref.ensures.value,
-      ap (λ n. 2 ^ n) c.in_ok-steps.ensures.count,
-    )
+    let few = pow-few (length c.args.nodes.now) c.requires.few in
+    let same = ap (λ l. 2 ^ length l) c.deref.ensures.value in
+    let steps = ap (λ n. 2 ^ n) c.in_ok-steps.ensures.count in
+    omega (arith, ap length c.deref_mut.ensures.value, c.in_ok-resize.ensures, few, same, steps)
 
 pub write_doubled-requires-clause-small : goal.write_doubled-requires-clause-small
 write_doubled-requires-clause-small g c =
@@ -27,50 +17,39 @@ write_doubled-requires-clause-small g c =
     let small = base-small c.args.kind c.args.bit c.args.entries.now in
     let base : b ≡ total_by (base_of c.args.kind c.args.bit) c.args.entries.now
     = omega (arith, ints, c.base.ensures, small, c.requires.light) in
-    omega (
-      arith,
-      ap unsigned_abs base,
-      small,
-      ap (sum_by unsigned_abs) c.deref.ensures.value,
-      c.in_ok-steps.ensures.size,
-      c.requires.small,
-    )
+    let steps = ap (sum_by unsigned_abs) c.deref.ensures.value in
+    omega (arith, ap unsigned_abs base, small, steps, c.in_ok-steps.ensures.size, c.requires.small)
 
 pub loop-table-init : goal.loop-table-init
 loop-table-init g c =
-    let value = g.T.Number.value in
     let kind = c.args.kind in
     let v = c.args.node in
     let bit = c.args.bit in
     let nodes = c.args.nodes.now in
-    let tables = c.args.tables.now in
     let entries = c.args.entries.now in
     let b = to_z w128 (of_z w128 c.base.result) in
-    let small = base-small c.args.kind c.args.bit c.args.entries.now in
-    let base : b ≡ total_by (base_of c.args.kind c.args.bit) c.args.entries.now
+    let small = base-small kind bit entries in
+    let base : b ≡ total_by (base_of kind bit) entries
     = omega (arith, ints, c.base.ensures, small, c.requires.light) in
     let steps = c.deref.result.now in
     let same = c.deref.ensures.value in
     let news = c.write_doubled.new.values in
-    let made = map value news in
+    let made = map g.T.Number.value news in
     let olds = c.resize.new.values in
     let sized : length news ≡ length olds.items
     = omega (arith, c.write_doubled.auto.values, ap length c.deref_mut.ensures.value) in
-    let all = ap (map value)
+    let all = ap (map g.T.Number.value)
     (written_items olds.len news olds.items (omega (arith, olds.ok.0)) sized) in
     let long : length steps ≡ length nodes = ap length same ∙ c.in_ok-steps.ensures.count in
-    let le = begun-small kind v bit nodes entries (b ∷ []) steps made b long refl base
-    c.write_doubled.ensures
+    let is = c.write_doubled.ensures in
+    let le = begun-small kind v bit nodes entries (b ∷ []) steps made b long refl base is
     (omega (arith, ap (sum_by unsigned_abs) same, c.in_ok-steps.ensures.size)) in (
-      ap length all
-          ∙ begun-length kind v bit nodes entries (b ∷ []) steps made b long refl base
-          c.write_doubled.ensures,
+      ap length all ∙ begun-length kind v bit nodes entries (b ∷ []) steps made b long refl base is,
       λ y w.
-          let more = total_by (table_energy (y ++ bit ∷ [])) tables in
+          let more = total_by (table_energy (y ++ bit ∷ [])) c.args.tables.now in
           ap (λ vs. value_at nodes vs y +ℤ more) all
           ∙ ap (λ s. s +ℤ more)
-          (begun_holds kind v bit nodes entries (b ∷ []) steps made b long refl base
-          c.write_doubled.ensures c.requires.own
+          (begun_holds kind v bit nodes entries (b ∷ []) steps made b long refl base is c.requires.own
           (λ z. ap (sum_where z nodes) same ∙ c.in_ok-steps.ensures.sums z) y w),
       omega (arith, ap most all, le),
     )
@@ -83,15 +62,9 @@ add_table-requires-clause-count g c =
 pub add_table-requires-clause-small : goal.add_table-requires-clause-small
 add_table-requires-clause-small g c =
     let t = c.table-item.result in
-    omega (
-      arith,
-      ap (λ l. most (map g.T.Number.value l)) c.deref_mut-in-loop-table.ensures.value,
-      sum_left (λ t. most t.values) c.args.tables.now c.loop-table.table-index t
-          c.loop-table-test.true,
-      ap (λ t. most t.values) c.table-item.is,
-      c.loop-table.invariant.2,
-      c.requires.small,
-    )
+    let same = ap (λ l. most (map g.T.Number.value l)) c.deref_mut-in-loop-table.ensures.value in
+    let left = sum_left (λ t. most t.values) c.args.tables.now c.loop-table.table-index t c.loop-table-test.true in
+    omega (arith, same, left, ap (λ t. most t.values) c.table-item.is, c.loop-table.invariant.2, c.requires.small)
 
 pub loop-table-preserved : goal.loop-table-preserved
 loop-table-preserved g c =
@@ -106,33 +79,22 @@ loop-table-preserved g c =
     let is = c.deref_mut-in-loop-table.ensures.value in
     let olds = ap (map value) is in
     let news = c.add_table.new.values in
-    let passed = subst (IsPassedTo c.args.node nodes) (sym c.table-item.is)
-    (c.requires.passed at t within) in
+    let passed : IsPassedTo c.args.node nodes t = rw c.table-item.is (c.requires.passed at t within) in
     let long : length news ≡ length before = omega (arith, c.add_table.auto.values, ap length is) in
     let items = ap (map value) (written_items c.loop-table.values.len news before
     (omega (arith, c.loop-table.values.ok.0)) long) in (
       ap length items ∙ length-map news value ∙ long ∙ sym (length-map before value) ∙ so_far.0,
       λ y w.
           let f = table_energy (y ++ c.args.bit ∷ []) in
-          omega (
-            arith,
-            ints,
-            ap (λ l. value_at nodes l y) items,
-            c.in_ok-add_table.ensures.holds c.args.node y passed w,
-            ap (λ l. value_at nodes l y) olds,
-            total_left f tables at t within,
-            ap f c.table-item.is,
-            so_far.1 y w,
-          ),
-      omega (
-        arith,
-        ap most items,
-        c.in_ok-add_table.ensures.small,
-        ap most olds,
-        sum_left (λ t. most t.values) tables at t within,
-        ap (λ t. most t.values) c.table-item.is,
-        so_far.2,
-      ),
+          let new = ap (λ l. value_at nodes l y) items in
+          let old = ap (λ l. value_at nodes l y) olds in
+          let added = c.in_ok-add_table.ensures.holds c.args.node y passed w in
+          let left = total_left f tables at t within in
+          omega (arith, ints, new, old, added, left, ap f c.table-item.is, so_far.1 y w),
+      let left = sum_left (λ t. most t.values) tables at t within in
+          let same = ap (λ t. most t.values) c.table-item.is in
+          let small = c.in_ok-add_table.ensures.small in
+          omega (arith, ap most items, ap most olds, small, left, same, so_far.2),
     )
 
 pub returns : goal.returns

@@ -1,7 +1,4 @@
-use Rattle.std.proofs.Common.{◌≡◌, ◌+◌, ◌^◌, ◌≤◌, ◌+ℤ◌, List, [], ◌∷◌, ◌++◌, Bool, length, map, drop}
-use Rattle.std.specs.List.{sum_by}
-use Rattle.base.specs.Sums.{total_by}
-use Rattle.basic_solve.specs.Tables.{value_at, table_energy, own_energy, own_size, most}
+use Rattle.basic_solve.proofs.Common.{◌≡◌, ◌+◌, ◌^◌, ◌≤◌, ◌+ℤ◌, List, [], ◌∷◌, ◌++◌, Bool, length, map, drop, sum_by, total_by, value_at, table_energy, own_energy, own_size, most}
 use Rattle.basic_solve.proofs.elimination.write_table.Given as goal
 
 -- the numbers so far, and the tables that are left

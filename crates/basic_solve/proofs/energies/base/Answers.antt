@@ -1,6 +1,4 @@
-use Rattle.std.proofs.Common.{arith, get_or, unsigned_abs}
-use Rattle.std.proofs.lemmas.Int.{ints}
-use Rattle.basic_solve.specs.Tables.{base_of}
+use Rattle.basic_solve.proofs.Common.{base_of, arith, get_or, unsigned_abs, ints}
 use Rattle.basic_solve.proofs.BitTables.{base-size, no_entry}
 use Rattle.basic_solve.proofs.ListSums.{sum-at, sum_left, total_left}
 use Rattle.basic_solve.proofs.energies.base.Goals as goal
@@ -16,14 +14,13 @@ base_of-sum-requires c =
 
 pub overflow_add-sum : goal.overflow_add-sum
 overflow_add-sum c =
-    let entries = c.args.entries.now in
     let at = c.loop-entry.entry-index in
     omega (
       arith,
       ints,
       c.base_of-sum.ensures,
-      base-size c.args.kind c.args.bit (get_or entries at no_entry),
-      sum_left (λ e. unsigned_abs e.weight) entries at no_entry c.loop-entry-test.true,
+      base-size c.args.kind c.args.bit (get_or c.args.entries.now at no_entry),
+      sum_left (λ e. unsigned_abs e.weight) c.args.entries.now at no_entry c.loop-entry-test.true,
       c.loop-entry.invariant.1,
     )
 
@@ -35,16 +32,6 @@ loop-entry-preserved c =
     let so_far = c.loop-entry.invariant in
     let is = c.base_of-sum.ensures in
     let size = base-size c.args.kind c.args.bit (get_or entries at no_entry) in
-    let left = sum_left (λ e. unsigned_abs e.weight) entries at no_entry within in (
-      omega (
-        arith,
-        ints,
-        is,
-        size,
-        left,
-        total_left (base_of c.args.kind c.args.bit) entries at no_entry within,
-        so_far.0,
-        so_far.1,
-      ),
-      omega (arith, ints, is, size, left, so_far.1),
-    )
+    let all = total_left (base_of c.args.kind c.args.bit) entries at no_entry within in
+    let left = sum_left (λ e. unsigned_abs e.weight) entries at no_entry within in
+    (omega (arith, ints, is, size, left, all, so_far.0, so_far.1), omega (arith, ints, is, size, left, so_far.1))

@@ -1,7 +1,4 @@
-use Rattle.std.proofs.Common.{◌≡◌, ◌+◌, ◌≤◌, ◌^◌, ◌+ℤ◌, unsigned_abs, drop}
-use Rattle.base.specs.Sums.{total_by}
-use Rattle.bits_model.specs.Output.{weight_total}
-use Rattle.basic_solve.specs.Tables.{base_of}
+use Rattle.basic_solve.proofs.Common.{◌≡◌, ◌+◌, ◌≤◌, ◌^◌, ◌+ℤ◌, unsigned_abs, drop, total_by, weight_total, base_of}
 use Rattle.basic_solve.proofs.energies.base.Given as goal
 
 -- the sum so far, and what is left

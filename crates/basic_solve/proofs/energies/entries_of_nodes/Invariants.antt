@@ -1,10 +1,4 @@
-use Rattle.std.proofs.Common.{◌≡◌, ℕ, ◌+◌, ◌+ℤ◌, List, Bool, length}
-use Rattle.std.specs.List.{All, sum_by}
-use Rattle.bits_model.specs.declared.output.Entry.{Entry}
-use Rattle.base.specs.Sums.{total_by}
-use Rattle.bits_model.specs.declared.output.Kind.{Kind}
-use Rattle.bits_model.specs.Output.{IsPlaced, entry_energy}
-use Rattle.basic_solve.specs.Tables.{AreHeld, held_energy}
+use Rattle.basic_solve.proofs.Common.{◌≡◌, ℕ, ◌+◌, ◌+ℤ◌, List, Bool, length, All, sum_by, Entry, total_by, Kind, IsPlaced, entry_energy, AreHeld, held_energy}
 use Rattle.basic_solve.proofs.energies.entries_of_nodes.Given as goal
 
 -- each entry is held by its node, or is left

@@ -1,5 +1,4 @@
-use Rattle.std.proofs.Common.{◌≡◌, ◌+◌}
-use Rattle.bits_model.specs.Output.{weight_total}
+use Rattle.basic_solve.proofs.Common.{◌≡◌, ◌+◌, weight_total}
 use Rattle.basic_solve.proofs.energies.is_small.Given as goal
 
 -- the sum so far, and what is left

@@ -1,6 +1,4 @@
-use Rattle.std.proofs.Common.{◌≡◌, ◌-◌, ◌+ℤ◌, ◌∷◌, [], ◌∙◌, ap, arith, pos, ℤ, map, take, length, unsigned_abs}
-use Rattle.std.proofs.lemmas.List.{map-append}
-use Rattle.basic_solve.specs.Tables.{most}
+use Rattle.basic_solve.proofs.Common.{◌≡◌, ◌-◌, ◌+ℤ◌, ◌∷◌, [], ◌∙◌, ap, arith, pos, ℤ, map, take, length, unsigned_abs, map-append, most}
 use Rattle.basic_solve.proofs.TableSizes.{most-doubled}
 use Rattle.basic_solve.proofs.NumberLists.{begun, doubled_joined, sum-last}
 use Rattle.basic_solve.proofs.tables.+write_doubled.Goals as goal
@@ -10,15 +8,10 @@ write_moved-requires-clause-small g t c =
     let steps = c.args.steps.now in
     let first = c.args.first.now in
     let one : most (first ∷ []) ≡ unsigned_abs first = omega arith in
-    omega (
-      arith,
-      one,
-      ap most c.write_doubled.ensures,
-      most-doubled (first ∷ []) (take (length steps - 1) steps),
-      ap unsigned_abs c.of-in-len1-up.ensures,
-      sum-last unsigned_abs steps (pos 0) c.in-len1-up.len_at_least,
-      c.requires.small,
-    )
+    let low = most-doubled (first ∷ []) (take (length steps - 1) steps) in
+    let step = ap unsigned_abs c.of-in-len1-up.ensures in
+    let last = sum-last unsigned_abs steps (pos 0) c.in-len1-up.len_at_least in
+    omega (arith, one, ap most c.write_doubled.ensures, low, step, last, c.requires.small)
 
 pub returns-in-empty : goal.returns-in-empty
 returns-in-empty g t c = begun g.T.Number.value c.args.values.now c.of.result c.args.first.now

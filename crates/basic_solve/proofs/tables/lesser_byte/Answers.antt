@@ -1,7 +1,4 @@
-use Rattle.std.proofs.Common.{◌≡◌, ℕ, ◌+◌, ◌<◌, ◌==◌, Bool, ◌∙◌, sym, ap, arith, pos, int_lt, map, get_or, length}
-use Rattle.std.specs.Int.{w8}
-use Rattle.std.proofs.lemmas.Nat.Bits.{bit_at_set_same, bit_at_set_other}
-use Rattle.basic_solve.specs.Bits.{is_one}
+use Rattle.basic_solve.proofs.Common.{◌≡◌, ℕ, ◌+◌, ◌<◌, ◌==◌, Bool, ◌∙◌, sym, ap, arith, pos, int_lt, map, get_or, length, w8, bit_at_set_same, bit_at_set_other, is_one}
 use Rattle.basic_solve.proofs.BitPlaces.{marks_more}
 use Rattle.basic_solve.proofs.NumberLists.{value-at}
 use Rattle.basic_solve.proofs.tables.lesser_byte.Goals as goal
@@ -19,23 +16,20 @@ loop-k-preserved g c =
     let there : start + k < length vs = omega (arith, c.loop-k-test.true, c.min-count.ensures) in
     let one = value-at value others (start + k) c.index-others-start.result
     (omega (arith, there, c.requires.count)) c.index-others-start.is in
-    let two = value-at value vs (start + k) c.index-values-start.result there
-    c.index-values-start.is in
+    let two = value-at value vs (start + k) c.index-values-start.result there c.index-values-start.is in
     let f : ℕ → Bool = λ j. int_lt (get_or (map value others) (start + j) (pos 0))
     (get_or (map value vs) (start + j) (pos 0)) in
-    let less : c.is_less.result ≡ f k = c.is_less.ensures ∙ (λ i. int_lt (one i) (two i)) in
+    let less : c.is_less.result ≡ f k = cc (c.is_less.ensures, one, two) in
     let so_far = c.loop-k.invariant in
     elim c.if-is_less.branch [
       | then-is_less w ↦
           marks_more (is_one byte) (is_one c.if-is_less.byte) f k
           (ap (λ b. is_one b k) w.byte-is
           ∙ ap (λ n. n == 1) (bit_at_set_same w8 byte k lt) ∙ sym w.if-is_less.true ∙ less)
-          (λ j n.
-          ap (λ b. is_one b j) w.byte-is ∙ ap (λ m. m == 1) (bit_at_set_other w8 byte k lt j n))
+          (λ j n. ap (λ b. is_one b j) w.byte-is ∙ ap (λ m. m == 1) (bit_at_set_other w8 byte k lt j n))
           so_far.0 so_far.1
       | else-is_less w ↦
           marks_more (is_one byte) (is_one c.if-is_less.byte) f k
-          (ap (λ b. is_one b k) w.byte-is
-          ∙ so_far.1 k (omega arith) ∙ sym w.if-is_less.false ∙ less)
+          (ap (λ b. is_one b k) w.byte-is ∙ so_far.1 k (omega arith) ∙ sym w.if-is_less.false ∙ less)
           (λ j n. ap (λ b. is_one b j) w.byte-is) so_far.0 so_far.1
     ]

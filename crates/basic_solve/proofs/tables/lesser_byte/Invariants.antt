@@ -1,5 +1,4 @@
-use Rattle.std.proofs.Common.{◌≡◌, ℕ, ◌+◌, ◌<◌, ◌≤◌, pos, false, int_lt, map, get_or}
-use Rattle.basic_solve.specs.Bits.{is_one}
+use Rattle.basic_solve.proofs.Common.{◌≡◌, ℕ, ◌+◌, ◌<◌, ◌≤◌, pos, false, int_lt, map, get_or, is_one}
 use Rattle.basic_solve.proofs.tables.lesser_byte.Given as goal
 
 -- the bits up to an index say which number is the lesser, and the others are 0

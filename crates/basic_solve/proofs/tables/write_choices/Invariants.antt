@@ -1,5 +1,4 @@
-use Rattle.std.proofs.Common.{◌≡◌, ℕ, ◌*◌, ◌<◌, pos, int_lt, length, map, get_or}
-use Rattle.basic_solve.specs.Bits.{bit_of}
+use Rattle.basic_solve.proofs.Common.{◌≡◌, ℕ, ◌*◌, ◌<◌, pos, int_lt, length, map, get_or, bit_of}
 use Rattle.basic_solve.proofs.tables.write_choices.Given as goal
 
 -- the bytes so far say which number is the lesser

@@ -1,17 +1,15 @@
-use Rattle.std.proofs.Common.{◌≡◌, ℤ, ◌<◌, ◌+ℤ◌, ◌∙◌, ap, sym, arith, pos, map, get_or, length, unsigned_abs}
-use Rattle.std.proofs.lemmas.List.{ext_get_or, get_or-map, length-map}
+use Rattle.basic_solve.proofs.Common.{◌≡◌, ℤ, ◌<◌, ◌+ℤ◌, ◌∙◌, ap, sym, arith, pos, map, get_or, length, unsigned_abs, ext_get_or, get_or-map, length-map}
 use Rattle.basic_solve.proofs.TableSizes.{most-at}
 use Rattle.basic_solve.proofs.NumberLists.{value-at, value_more}
 use Rattle.basic_solve.proofs.tables.write_moved.Goals as goal
 
 pub plus-requires : goal.plus-requires
 plus-requires g c =
-    let value = g.T.Number.value in
     let from = c.args.from.now in
     let at = c.loop-at.at in
     let there : at < length from = omega (arith, c.loop-at-test.true, c.requires.count) in
-    let one = value-at value from at c.index-from-at.result there c.index-from-at.is in
-    omega (arith, ap unsigned_abs one, most-at (map value from) at, c.requires.small)
+    let one = value-at g.T.Number.value from at c.index-from-at.result there c.index-from-at.is in
+    omega (arith, ap unsigned_abs one, most-at (map g.T.Number.value from) at, c.requires.small)
 
 pub loop-at-preserved : goal.loop-at-preserved
 loop-at-preserved g c =
@@ -28,15 +26,13 @@ loop-at-preserved g c =
 pub returns : goal.returns
 returns g c =
     let value = g.T.Number.value in
-    let us = c.loop-at.into in
     let from = c.args.from.now in
     let moved : ℤ → ℤ = λ v. v +ℤ value c.args.step in
-    let long : length us ≡ length from = c.loop-at.auto.into ∙ c.requires.count in
-    ext_get_or (pos 0) (map value us) (map moved (map value from))
-    (length-map us value ∙ long ∙ sym (length-map from value)
-    ∙ sym (length-map (map value from) moved))
-    (λ x l.
-    let lt : x < length us = omega (arith, l, length-map us value) in
-    let there : x < length (map value from) = omega (arith, lt, long, length-map from value) in
+    let one = length-map c.loop-at.into value in
+    let two = length-map from value in
+    let three = length-map (map value from) moved in
+    let long : length c.loop-at.into ≡ length from = c.loop-at.auto.into ∙ c.requires.count in
+    ext_get_or (pos 0) (map value c.loop-at.into) (map moved (map value from)) (omega arith) (λ x l.
+    let lt : x < length from = omega (arith, l) in
     c.loop-at.invariant.0 x (omega (arith, lt, c.loop-at.auto.into, c.loop-at-test.false))
-    ∙ sym (get_or-map moved (map value from) x (pos 0) (pos 0) there))
+    ∙ sym (get_or-map moved (map value from) x (pos 0) (pos 0) (omega (arith, lt))))

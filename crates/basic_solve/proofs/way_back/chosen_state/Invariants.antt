@@ -1,6 +1,4 @@
-use Rattle.std.proofs.Common.{◌≡◌, length}
-use Rattle.base.specs.Costs.{energy}
-use Rattle.bits_model.specs.Output.{form_of}
+use Rattle.basic_solve.proofs.Common.{◌≡◌, length, energy, form_of}
 use Rattle.basic_solve.proofs.WayBack.{IsBegun}
 use Rattle.basic_solve.proofs.way_back.chosen_state.Given as goal
 

@@ -20,6 +20,5 @@ loop-literal-preserved c =
 
 pub returns : goal.returns
 returns c =
-    c.loop-literal.invariant
-    ∙ ap (λ ls. with_hard c.args.problem.now (map alone ls))
+    c.loop-literal.invariant ∙ ap (λ ls. with_hard c.args.problem.now (map alone ls))
     (take_all c.loop-literal.literal-index c.args.literals.now c.loop-literal-test.false)

@@ -14,12 +14,9 @@ passes : (test : Product → Bool) (ls new : List Literal) (w : Literal) (t : Pr
     → map alone new ++ map wanted (filter test rest) ≡ whole
 passes test ls new w t left rest whole e says own pushed so_far =
     let more = map wanted (filter test rest) in
-    ap (λ ks. map alone ks ++ more) pushed
-    ∙ ap (λ ks. ks ++ more) (map-append alone ls (w ∷ []))
-    ∙ append_assoc (map alone ls) ((w ∷ []) ∷ []) more
-    ∙ ap (λ ks. map alone ls ++ ks ∷ more) own
-    ∙ sym (ap (λ us. map alone ls ++ map wanted us) (kept test true t left rest e says))
-    ∙ so_far
+    ap (λ ks. map alone ks ++ more) pushed ∙ ap (λ ks. ks ++ more) (map-append alone ls (w ∷ []))
+    ∙ append_assoc (map alone ls) ((w ∷ []) ∷ []) more ∙ ap (λ ks. map alone ls ++ ks ∷ more) own
+    ∙ sym (ap (λ us. map alone ls ++ map wanted us) (kept test true t left rest e says)) ∙ so_far
 
 -- one that does not pass adds none
 fails : (test : Product → Bool) (ls : List Literal) (t : Product) (left rest : List Product)
@@ -58,8 +55,7 @@ loop-product-preserved c =
     let is : is_needed c.args.room t ≡ false =
     grind (arith, ints, nat_tests, c.unsigned_abs.ensures.value, c.if-is_needed.false) in
     record {
-      needed =
-          fails (is_needed c.args.room) _ t _ _ _ c.in-Some.ensures.steps is before.needed;
+      needed = fails (is_needed c.args.room) _ t _ _ _ c.in-Some.ensures.steps is before.needed;
       others =
           passes (λ u. not (is_needed c.args.room u)) _ _ _ t _ _ _ c.in-Some.ensures.steps (ap not is)
           c.wanted_for-literal.ensures c.in_ok-push-2.ensures.items before.others;

@@ -5,8 +5,7 @@ use Rattle.conflict_clauses.proofs.conflicts.all_apart.Goals as goal
 pub loop-product-init : goal.loop-product-init
 loop-product-init c =
     let same : c.into_iter-product-iterator.result ≡ c.args.products = search rules in
-    rw same
-    (record {
+    rw same (record {
       rest = beside-none c.args.room c.args.products;
       few = omega arith;
       small = c.requires.small;
@@ -26,8 +25,7 @@ loop-product-preserved c =
     let total : products_total c.loop-product.product-iterator ≡ size t + products_total rest =
     ap products_total left ∙ sum_by-cons (λ (u : Product). unsigned_abs u.coefficient) t rest in
     record {
-      rest = h.rest
-          ∙ ap (apart_beside room least) left
+      rest = h.rest ∙ ap (apart_beside room least) left
           ∙ beside-step room least t rest (omega (arith, value, c.if-least-size.false))
           ∙ ap (λ n. apart_beside room n rest) (sym minimum);
       few = omega (arith, minimum, h.few);

@@ -24,7 +24,6 @@ returns c =
     let s = seen k r c.count_others.result n c.in_ok-room.ensures.room counted c.pair_count-pairs.ensures.result in
     let apart : (list_all is_single k.products && each_two (are_apart r) k.products) ≡ true =
     ap (λ (ts : List Product). list_all is_single ts && each_two (are_apart r) ts)
-    (sym (c.again-2.ensures ∙ inside))
-    ∙ sym c.are_conflicting.ensures
+    (sym (c.again-2.ensures ∙ inside)) ∙ sym c.are_conflicting.ensures
     ∙ c.if-not-are_conflicting.false in
     is_found c.args.spent k r n s c.if-spent-pairs-gt-MOST_PAIRS.false apart

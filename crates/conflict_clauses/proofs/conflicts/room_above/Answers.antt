@@ -13,8 +13,7 @@ pub returns-then-most-bound-clause-room : goal.returns-then-most-bound-clause-ro
 returns-then-most-bound-clause-room c =
     let total = positive_total c.args.products in
     let below : int_lt (pos total) c.args.bound ≡ true =
-    is_less (pos total) c.args.bound
-    (omega (arith, ints, positive_total-le)) in
+    is_less (pos total) c.args.bound (omega (arith, ints, positive_total-le)) in
     no_room total c.args.bound below
 
 pub overflow_sub-most : goal.overflow_sub-most
@@ -24,8 +23,7 @@ pub returns-clause-room : goal.returns-clause-room
 returns-clause-room c =
     let total = positive_total c.args.products in
     let above : int_lt (pos total) c.args.bound ≡ false =
-    is_not_less (pos total) c.args.bound
-    (omega (arith, ints, positive_total-le)) in
+    is_not_less (pos total) c.args.bound (omega (arith, ints, positive_total-le)) in
     let rest : to_z w128 (of_z w128 (to_z w128 c.positive_coefficients-most.result
     -ℤ to_z w128 (of_z w128 c.args.bound))) ≡ pos total -ℤ c.args.bound =
     omega (arith, ints, positive_total-le) in

@@ -18,14 +18,12 @@ loop-i-preserved c =
     let after : c.replace_at.new.spent ≡ spent_after spent k = c.in_ok-stays.ensures.spent k at in
     record {
       clauses = (λ j. with_clauses_from (problem j) (after j) rest)
-          ∙ clauses_from-step p spent k rest
-          ∙ (λ j. with_clauses_from p spent (sym here.left j))
+          ∙ clauses_from-step p spent k rest ∙ (λ j. with_clauses_from p spent (sym here.left j))
           ∙ h.clauses;
       constraints = ap (λ (q : ProblemContent). q.constraints) problem ∙ h.constraints;
       kept = (λ j. c.push.new.self.items ++ staying (after j) rest)
           ∙ kept-step c.loop-i.kept.items c.push.new.self.items c.in_ok-stays.stays spent k rest
           c.in_ok-push.ensures.items (c.in_ok-stays.ensures.stays k at)
-          ∙ (λ j. c.loop-i.kept.items ++ staying spent (sym here.left j))
-          ∙ h.kept;
+          ∙ (λ j. c.loop-i.kept.items ++ staying spent (sym here.left j)) ∙ h.kept;
       spent = c.replace_at.ensures.bounded;
     }

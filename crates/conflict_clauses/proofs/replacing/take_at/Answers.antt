@@ -4,12 +4,9 @@ use Rattle.conflict_clauses.proofs.replacing.take_at.Goals as goal
 
 pub find_conflict-requires-clause-small : goal.find_conflict-requires-clause-small
 find_conflict-requires-clause-small c =
-    omega (
-      arith,
-      size_at_place constraint_total c.problem.inside.constraints c.args.i c.at-constraint.result
-          c.at-constraint.ensures,
-      c.problem.invariant.1,
-    )
+    let size = size_at_place constraint_total c.problem.inside.constraints c.args.i c.at-constraint.result
+    c.at-constraint.ensures in
+    omega (arith, c.problem.invariant.1)
 
 pub take_wanted-requires : goal.take_wanted-requires
 take_wanted-requires c =

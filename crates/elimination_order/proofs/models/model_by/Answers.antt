@@ -28,16 +28,15 @@ invariant_of-result c =
         scale = formed.scale;
         ordered = made.ordered (omega (arith, few, counted, are.counted)) formed.ordered;
         placed = subst (λ n. All (IsPlaced n) c.in_ok-entries.entries) (are.counted ∙ sym counted) made.placed;
-        kind = kind_kept names numbers m
-            (record {
-              kind = m.kind;
-              variables = 0;
-              figures = m.figures;
-              unit = pos 1;
-              nodes = nodes;
-              entries = c.in_ok-entries.entries;
-              chains = c.in_ok-chains.chains;
-            })
+        kind = kind_kept names numbers m (record {
+          kind = m.kind;
+          variables = 0;
+          figures = m.figures;
+          unit = pos 1;
+          nodes = nodes;
+          entries = c.in_ok-entries.entries;
+          chains = c.in_ok-chains.chains;
+        })
             ns es formed are refl counted refl (sym c.entries.view_is) made.same c.entries.invariant
             c.in_ok-chains.ensures;
       },

@@ -7,8 +7,7 @@ returns-in_err-node c =
     let front = c.loop-word.order.items in
     let nodes = length c.loop-word.marks in
     let p = err_from_is_err_and c.from_residual.result c.from_residual.ensures.1 in
-    rw (p.1, p.2)
-    (sym c.loop-word.invariant.read
+    rw (p.1, p.2) (sym c.loop-word.invariant.read
     ∙ ap (λ ws. after_front front (nodes_at nodes front ws)) c.in-Some.ensures
     ∙ named_fault nodes front (word_of c.in-Some.word) c.next.new.self _
     (c.in_err-node.ensures.read front c.loop-word.invariant.marks))
@@ -26,8 +25,7 @@ loop-word-preserved c =
     let more = named_more (length marks) front (word_of c.in-Some.word) c.next.new.self n
     (c.in_ok-node.ensures.read front c.loop-word.invariant.marks) in
     record {
-      read = (λ i. after_front (pushed i) (nodes_at (long i) (pushed i) c.next.new.self))
-          ∙ sym more
+      read = (λ i. after_front (pushed i) (nodes_at (long i) (pushed i) c.next.new.self)) ∙ sym more
           ∙ ap (λ ws. after_front front (nodes_at (length marks) front ws)) (sym c.in-Some.ensures)
           ∙ c.loop-word.invariant.read;
       marks = subst (AreMarks (length (set marks n true)) (set marks n true)) (sym pushed)

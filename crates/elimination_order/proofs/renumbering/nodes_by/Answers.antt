@@ -8,6 +8,4 @@ returns-clause-nodes c =
     let nodes = c.args.nodes.now in
     let moved : IfOk c.in_order.result (IsPermutation (map (renumbered numbers) nodes)) = search rules in
     ok_weaker (IsPermutation (map (renumbered numbers) nodes)) (All (λ e. e.first ≡ e.second))
-    c.in_order.result
-    (λ list same. nodes_kept numbers nodes list c.len.ensures.nodes same)
-    moved
+    c.in_order.result (λ list same. nodes_kept numbers nodes list c.len.ensures.nodes same) moved

@@ -6,10 +6,6 @@ use Rattle.elimination_order.proofs.solving.state_by.Goals as goal
 
 pub returns-clause-state : goal.returns-clause-state
 returns-clause-state c =
-    let names = c.args.numbering.now.names.items in
-    let numbers = c.args.numbering.now.numbers.items in
-    let m = c.args.model.now in
-    let r = c.in_ok-renumbered.renumbered in
     let formed = subst IsWellFormed c.model.view_is c.model.invariant.0 in
     grind (arith, nat_tests, ok_weaker, first-taken_back)
 

@@ -1,7 +1,4 @@
-use Rattle.std.proofs.Common.{◌<◌, List, subst, sym, All}
-use Rattle.std.proofs.lemmas.List.Elements.{All-map}
-use Rattle.literal_lists.specs.declared.literal.Literal.{Literal}
-use Rattle.entry_reader.specs.Problems.{plain}
+use Rattle.entry_reader.proofs.Common.{◌<◌, List, subst, sym, All, All-map, Literal, plain}
 use Rattle.entry_reader.proofs.added.add_product.Goals as goal
 
 pub add_term-requires-clause-within : goal.add_term-requires-clause-within

@@ -1,5 +1,4 @@
-use Rattle.std.proofs.Common.{◌≡◌, map, take}
-use Rattle.entry_reader.specs.Problems.{plain}
+use Rattle.entry_reader.proofs.Common.{◌≡◌, map, take, plain}
 use Rattle.entry_reader.proofs.added.put_plain.Given as goal
 
 -- the literals so far are the variables so far

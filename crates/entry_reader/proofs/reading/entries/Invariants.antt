@@ -1,7 +1,4 @@
-use Rattle.std.proofs.Common.{◌≡◌, ◌+◌, ◌*◌, ◌^◌, ◌≤◌, length, []}
-use Rattle.problem_form.specs.Problems.{problem_total}
-use Rattle.problem_form.specs.NormalForm.{blank, with_variables}
-use Rattle.entry_reader.specs.Entries.{entries_at}
+use Rattle.entry_reader.proofs.Common.{◌≡◌, ◌+◌, ◌*◌, ◌^◌, ◌≤◌, length, [], problem_total, blank, with_variables, entries_at}
 use Rattle.entry_reader.proofs.Puttings.{read_into}
 use Rattle.entry_reader.proofs.reading.entries.Given as goal
 

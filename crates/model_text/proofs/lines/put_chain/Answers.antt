@@ -1,5 +1,4 @@
-use Rattle.std.proofs.Common.{◌≡◌, [], ◌∷◌, refl, rules}
-use Rattle.std.specs.Fmt.{decimal}
+use Rattle.model_text.proofs.Common.{◌≡◌, [], ◌∷◌, refl, rules, decimal}
 use Rattle.model_text.proofs.Puts.{put_none, put_more, put_fault, put_all, at_error, then_ok, then_error}
 use Rattle.model_text.proofs.RowPieces.{chain_pieces}
 use Rattle.model_text.proofs.lines.put_chain.Goals as goal
@@ -27,8 +26,7 @@ returns-clause-passed g c =
     let named =
     put_more _ _ _ c.args.buffer.now c.args.buffer.now c.put_pieces.new.buffer _ _ _ _ cut (put_none _ c.args.buffer.now _) c.in_ok-put_pieces.ensures.passed in
     let listed = put_more _ _ _ c.args.buffer.now c.put_pieces.new.buffer c.put_qubits.new.buffer _ _ _ (10 ∷ []) refl named c.in_ok-put_qubits.ensures.passed in
-    then_ok c.put.result
-    (λ ended. put_all _ _ c.args.buffer.now c.put.new.self _ [] refl
+    then_ok c.put.result (λ ended. put_all _ _ c.args.buffer.now c.put.new.self _ [] refl
     (put_more _ _ _ c.args.buffer.now c.put_qubits.new.buffer c.put.new.self _ (10 ∷ []) (10 ∷ []) [] refl listed ended))
     c.put.ensures.passed
 

@@ -1,5 +1,4 @@
-use Rattle.std.proofs.Common.{◌≤◌, drop}
-use Rattle.model_text.specs.Rows.{rows_text, chain_rows}
+use Rattle.model_text.proofs.Common.{◌≤◌, drop, rows_text, chain_rows}
 use Rattle.model_text.proofs.Puts.{IsPut}
 use Rattle.model_text.proofs.lines.put_chains.Given as goal
 

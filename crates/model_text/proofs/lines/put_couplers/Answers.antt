@@ -1,5 +1,4 @@
-use Rattle.std.proofs.Common.{◌<◌, length, sym, subst, arith, rules}
-use Rattle.bits_model.specs.Entries.{rows_of}
+use Rattle.model_text.proofs.Common.{◌<◌, length, sym, subst, arith, rules, rows_of}
 use Rattle.model_text.proofs.EntryLists.{entries_text, row_text_left, row_text_first}
 use Rattle.model_text.proofs.Puts.{IsPut, put_none, put_more, put_fault, at_error}
 use Rattle.model_text.proofs.lines.put_couplers.Goals as goal

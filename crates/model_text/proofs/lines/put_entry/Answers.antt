@@ -1,7 +1,4 @@
-use Rattle.std.proofs.Common.{◌≡◌, ℤ, ◌-◌, ℕ, [], ◌∷◌, length, take, drop, ap, sym, ◌∙◌, to_z, of_z, w64, rules}
-use Rattle.std.proofs.lemmas.List.{take_rest}
-use Rattle.std.specs.Fmt.{decimal, signed_decimal}
-use Rattle.model_text.specs.Rows.{row_text}
+use Rattle.model_text.proofs.Common.{◌≡◌, ℤ, ◌-◌, ℕ, [], ◌∷◌, length, take, drop, ap, sym, ◌∙◌, to_z, of_z, w64, rules, take_rest, decimal, signed_decimal, row_text}
 use Rattle.model_text.proofs.Puts.{same_front}
 use Rattle.model_text.proofs.lines.put_entry.Goals as goal
 

@@ -1,5 +1,4 @@
-use Rattle.std.proofs.Common.{◌≡◌, pos, rules}
-use Rattle.std.specs.Fmt.{signed_decimal}
+use Rattle.model_text.proofs.Common.{◌≡◌, pos, rules, signed_decimal}
 use Rattle.model_text.proofs.Numerals.{size_fits}
 use Rattle.model_text.proofs.Puts.{same_front, same_passed}
 use Rattle.model_text.proofs.RowPieces.{figures_pieces}

@@ -1,6 +1,4 @@
-use Rattle.std.proofs.Common.{[], sym, ap, append-nil, refl}
-use Rattle.bits_model.specs.declared.output.Kind.{Kind}
-use Rattle.model_text.specs.Rows.{rows_text, graph_rows}
+use Rattle.model_text.proofs.Common.{[], sym, ap, append-nil, refl, Kind, rows_text, graph_rows}
 use Rattle.model_text.proofs.Puts.{put_none, put_more, put_fault, put_all, at_error}
 use Rattle.model_text.proofs.lines.put_graph.Goals as goal
 

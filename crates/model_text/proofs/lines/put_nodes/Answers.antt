@@ -1,6 +1,4 @@
-use Rattle.std.proofs.Common.{List, ap, map, rules}
-use Rattle.bits_model.specs.declared.output.Entry.{Entry}
-use Rattle.model_text.specs.Rows.{rows_text, entry_row}
+use Rattle.model_text.proofs.Common.{List, ap, map, rules, Entry, rows_text, entry_row}
 use Rattle.model_text.proofs.Puts.{put_more, put_fault, at_error}
 use Rattle.model_text.proofs.lines.put_nodes.Goals as goal
 

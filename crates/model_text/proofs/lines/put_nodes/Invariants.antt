@@ -1,5 +1,4 @@
-use Rattle.std.proofs.Common.{◌≤◌, map}
-use Rattle.model_text.specs.Rows.{rows_text, entry_row}
+use Rattle.model_text.proofs.Common.{◌≤◌, map, rows_text, entry_row}
 use Rattle.model_text.proofs.Puts.{IsPut}
 use Rattle.model_text.proofs.lines.put_nodes.Given as goal
 

@@ -1,6 +1,4 @@
-use Rattle.std.proofs.Common.{◌+◌, rules, arith, [], Bor, List, ℕ, ap, drop, get_or}
-use Rattle.std.proofs.lemmas.List.{drop_more}
-use Rattle.edge_io.specs.Sinks.{joined_bytes}
+use Rattle.model_text.proofs.Common.{◌+◌, rules, arith, [], Bor, List, ℕ, ap, drop, get_or, drop_more, joined_bytes}
 use Rattle.model_text.proofs.Puts.{put_more, put_fault, at_error}
 use Rattle.model_text.proofs.lines.put_pieces.Goals as goal
 

@@ -1,5 +1,4 @@
-use Rattle.std.proofs.Common.{◌≤◌, drop}
-use Rattle.edge_io.specs.Sinks.{joined_bytes}
+use Rattle.model_text.proofs.Common.{◌≤◌, drop, joined_bytes}
 use Rattle.model_text.proofs.Puts.{IsPut}
 use Rattle.model_text.proofs.lines.put_pieces.Given as goal
 

@@ -1,5 +1,4 @@
-use Rattle.std.proofs.Common.{◌≡◌, get_or, rules}
-use Rattle.std.specs.Fmt.{decimal}
+use Rattle.model_text.proofs.Common.{◌≡◌, get_or, rules, decimal}
 use Rattle.model_text.proofs.Puts.{put_more, put_fault, at_error}
 use Rattle.model_text.proofs.RowPieces.{qubits_left}
 use Rattle.model_text.proofs.lines.put_qubits.Goals as goal

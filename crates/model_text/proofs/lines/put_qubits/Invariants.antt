@@ -1,5 +1,4 @@
-use Rattle.std.proofs.Common.{◌≤◌, drop}
-use Rattle.model_text.specs.Lines.{spaced_numbers}
+use Rattle.model_text.proofs.Common.{◌≤◌, drop, spaced_numbers}
 use Rattle.model_text.proofs.Puts.{IsPut}
 use Rattle.model_text.proofs.lines.put_qubits.Given as goal
 

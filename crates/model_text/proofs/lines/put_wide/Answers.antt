@@ -1,5 +1,4 @@
-use Rattle.std.proofs.Common.{◌≡◌, rules}
-use Rattle.std.specs.Fmt.{decimal, signed_decimal}
+use Rattle.model_text.proofs.Common.{◌≡◌, rules, decimal, signed_decimal}
 use Rattle.model_text.proofs.Puts.{same_front}
 use Rattle.model_text.proofs.RowPieces.{three_pieces}
 use Rattle.model_text.proofs.lines.put_wide.Goals as goal

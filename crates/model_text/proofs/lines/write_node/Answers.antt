@@ -1,5 +1,4 @@
-use Rattle.std.proofs.Common.{◌<◌, ◌^◌, arith}
-use Rattle.std.proofs.lemmas.Fmt.{length-decimal-le}
+use Rattle.model_text.proofs.Common.{◌<◌, ◌^◌, arith, length-decimal-le}
 use Rattle.model_text.proofs.lines.write_node.Goals as goal
 
 pub write_digits-requires : goal.write_digits-requires

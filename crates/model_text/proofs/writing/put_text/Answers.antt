@@ -1,16 +1,11 @@
-use Rattle.std.proofs.Common.{[], ◌++◌, ◌<◌, ◌^◌, refl, sym, ap, ◌∙◌, append-nil, rules, subst, ℤ}
-use Rattle.std.specs.Int.{w128}
-use Rattle.std.proofs.lemmas.Int.{to_z-of_z}
-use Rattle.bits_model.specs.declared.output.OutputModel.TheInside.{Inside}
-use Rattle.bits_model.specs.Output.{Written}
-use Rattle.edge_io.specs.Sinks.{TakesFront, Passes}
-use Rattle.model_text.specs.Rows.{rows_text, figure_rows, model_text, FitsFields}
-use Rattle.model_text.specs.Told.{TellsModel}
+use Rattle.model_text.proofs.Common.{arith, nat_tests, ℕ, List, entry_row, map, header_row, row_text, graph_rows, [], ◌++◌, ◌<◌, ◌^◌, refl, sym, ap, ◌∙◌, append-nil, rules, subst, ℤ, w128, to_z-of_z, Inside, Written, TakesFront, Passes, rows_text, figure_rows, model_text, FitsFields}
 use Rattle.model_text.proofs.Numerals.{size_fits}
 use Rattle.model_text.proofs.ModelRows.{texts_tell_models}
 use Rattle.model_text.proofs.QubitNumbers.{qubits_fit}
-use Rattle.model_text.proofs.Puts.{put_none, put_more, put_fault, put_all, at_error, then_ok, then_error}
+use Rattle.model_text.proofs.Puts.{IsPut, put_none, put_more, put_fault, put_all, at_error, then_ok, then_error}
 use Rattle.model_text.proofs.RowPieces.{text_parts}
+use Rattle.model_text.proofs.writing.put_text.Given.{Over}
+use Rattle.model_text.proofs.writing.put_text.Goals.{In_ok-put_figures}
 use Rattle.model_text.proofs.writing.put_text.Goals as goal
 
 -- the model of these fields
@@ -25,6 +20,12 @@ written m = record {
   chains = m.chains;
 }
 
+-- its text below the figures
+abbrev rest_of : Written → List ℕ
+rest_of m =
+    rows_text (graph_rows m.kind m.chains)
+    ++ (row_text (header_row m.kind m.nodes m.entries) ++ rows_text (map entry_row m.entries))
+
 pub returns-in_err-put_figures-clause-front : goal.returns-in_err-put_figures-clause-front
 returns-in_err-put_figures-clause-front g c =
     let m = written c.model.inside in
@@ -34,37 +35,33 @@ returns-in_err-put_figures-clause-front g c =
     at_error c.from_residual.result
     (put_fault _ _ _ c.args.buffer.now c.args.buffer.now _ _ _ _ cut (put_none _ c.args.buffer.now _) figures)
 
-pub returns-in_err-put_graph-clause-front : goal.returns-in_err-put_graph-clause-front
-returns-in_err-put_graph-clause-front g c =
+-- the figures are put, and the rest is left
+figured_first : (g : Over) (c : In_ok-put_figures g)
+    → IsPut (g.S.Sink.taken c.args.sink.now) (g.S.Sink.taken c.put_figures.new.sink) c.args.buffer.now
+    c.put_figures.new.buffer (model_text c.args.model.now) (rest_of (written c.model.inside))
+figured_first g c =
     let m = written c.model.inside in
     let figures : Passes (g.S.Sink.taken c.args.sink.now) (g.S.Sink.taken c.put_figures.new.sink) c.args.buffer.now c.put_figures.new.buffer (rows_text (figure_rows m.figures m.unit m.variables)) =
     search rules in
     let cut = sym (ap model_text c.model.view_is) ∙ text_parts m m.chains refl in
-    let figured =
-    put_more _ _ _ c.args.buffer.now c.args.buffer.now c.put_figures.new.buffer _ _ _ _ cut (put_none _ c.args.buffer.now _) figures in
+    put_more _ _ _ c.args.buffer.now c.args.buffer.now c.put_figures.new.buffer _ _ _ _ cut (put_none _ c.args.buffer.now _) figures
+
+pub returns-in_err-put_graph-clause-front : goal.returns-in_err-put_graph-clause-front
+returns-in_err-put_graph-clause-front g c =
+    let figured = figured_first g (goal.at.returns-in_err-put_graph-clause-front g c).In_ok-put_figures in
     at_error c.from_residual-in_err-put_graph.result
     (put_fault _ _ _ c.args.buffer.now c.put_figures.new.buffer _ _ _ _ refl figured c.in_err-put_graph.ensures.front)
 
 pub returns-in_err-put_header-clause-front : goal.returns-in_err-put_header-clause-front
 returns-in_err-put_header-clause-front g c =
-    let m = written c.model.inside in
-    let figures : Passes (g.S.Sink.taken c.args.sink.now) (g.S.Sink.taken c.put_figures.new.sink) c.args.buffer.now c.put_figures.new.buffer (rows_text (figure_rows m.figures m.unit m.variables)) =
-    search rules in
-    let cut = sym (ap model_text c.model.view_is) ∙ text_parts m m.chains refl in
-    let figured =
-    put_more _ _ _ c.args.buffer.now c.args.buffer.now c.put_figures.new.buffer _ _ _ _ cut (put_none _ c.args.buffer.now _) figures in
+    let figured = figured_first g (goal.at.returns-in_err-put_header-clause-front g c).In_ok-put_figures in
     let graphed = put_more _ _ _ c.args.buffer.now c.put_figures.new.buffer c.put_graph.new.buffer _ _ _ _ refl figured c.in_ok-put_graph.ensures.passed in
     at_error c.from_residual-in_err-put_header.result
     (put_fault _ _ _ c.args.buffer.now c.put_graph.new.buffer _ _ _ _ refl graphed c.in_err-put_header.ensures.front)
 
 pub returns-clause-passed : goal.returns-clause-passed
 returns-clause-passed g c =
-    let m = written c.model.inside in
-    let figures : Passes (g.S.Sink.taken c.args.sink.now) (g.S.Sink.taken c.put_figures.new.sink) c.args.buffer.now c.put_figures.new.buffer (rows_text (figure_rows m.figures m.unit m.variables)) =
-    search rules in
-    let cut = sym (ap model_text c.model.view_is) ∙ text_parts m m.chains refl in
-    let figured =
-    put_more _ _ _ c.args.buffer.now c.args.buffer.now c.put_figures.new.buffer _ _ _ _ cut (put_none _ c.args.buffer.now _) figures in
+    let figured = figured_first g (goal.at.returns-clause-passed g c).In_ok-put_figures in
     let graphed = put_more _ _ _ c.args.buffer.now c.put_figures.new.buffer c.put_graph.new.buffer _ _ _ _ refl figured c.in_ok-put_graph.ensures.passed in
     let headed = put_more _ _ _ c.args.buffer.now c.put_graph.new.buffer c.put_header.new.buffer _ _ _ _ refl graphed c.in_ok-put_header.ensures.passed in
     then_ok c.put_entries.result
@@ -74,12 +71,7 @@ returns-clause-passed g c =
 
 pub returns-clause-front : goal.returns-clause-front
 returns-clause-front g c =
-    let m = written c.model.inside in
-    let figures : Passes (g.S.Sink.taken c.args.sink.now) (g.S.Sink.taken c.put_figures.new.sink) c.args.buffer.now c.put_figures.new.buffer (rows_text (figure_rows m.figures m.unit m.variables)) =
-    search rules in
-    let cut = sym (ap model_text c.model.view_is) ∙ text_parts m m.chains refl in
-    let figured =
-    put_more _ _ _ c.args.buffer.now c.args.buffer.now c.put_figures.new.buffer _ _ _ _ cut (put_none _ c.args.buffer.now _) figures in
+    let figured = figured_first g (goal.at.returns-clause-front g c).In_ok-put_figures in
     let graphed = put_more _ _ _ c.args.buffer.now c.put_figures.new.buffer c.put_graph.new.buffer _ _ _ _ refl figured c.in_ok-put_graph.ensures.passed in
     let headed = put_more _ _ _ c.args.buffer.now c.put_graph.new.buffer c.put_header.new.buffer _ _ _ _ refl graphed c.in_ok-put_header.ensures.passed in
     then_error c.put_entries.result
@@ -100,7 +92,4 @@ returns-clause-one g c =
       weights = c.model.invariant.1;
       qubits = qubits_fit m formed narrow;
     } in
-    let told : TellsModel (model_text m) m =
-    λ n others_formed others_fit e. sym (texts_tell_models m n formed others_formed fits others_fit (sym e)) in
-    then_ok c.put_entries.result (λ weighed. subst (λ m. TellsModel (model_text m) m) c.model.view_is told)
-    c.put_entries.ensures.passed
+    grind (arith, nat_tests, texts_tell_models, then_ok)

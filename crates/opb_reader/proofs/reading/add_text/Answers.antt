@@ -1,14 +1,4 @@
-use Rattle.std.proofs.Common.{◌≡◌, ℕ, List, length, Result, refl, sym, ap, subst, ◌∙◌, arith}
-use Rattle.std.proofs.lemmas.Result.{err_from_is_err_and}
-use Rattle.whole_text.specs.declared.faults.TextFault.{TextFault}
-use Rattle.whole_text.specs.Tokens.{Word}
-use Rattle.whole_text.specs.TokenTexts.{words_of}
-use Rattle.whole_text.specs.Steps.{◌>>=◌, Gives, Fails, end_line}
-use Rattle.whole_text.proofs.Lengths.{few_words}
-use Rattle.problem_form.specs.Problems.{ProblemContent, problem_total}
-use Rattle.problem_form.specs.NormalForm.{blank}
-use Rattle.opb_reader.specs.Cost.{problem_of_words}
-use Rattle.opb_reader.specs.Views.{head_read}
+use Rattle.opb_reader.proofs.Common.{◌≡◌, ℕ, List, length, Result, refl, sym, ap, subst, ◌∙◌, arith, err_from_is_err_and, TextFault, Word, words_of, ◌>>=◌, Gives, Fails, end_line, few_words, ProblemContent, problem_total, blank, problem_of_words, head_read}
 use Rattle.opb_reader.proofs.Additions.{constraints_after, problem_of_words-put, head_fails}
 use Rattle.opb_reader.proofs.reading.add_text.Goals as goal
 
@@ -28,26 +18,18 @@ pub returns-in_err-head : goal.returns-in_err-head
 returns-in_err-head c =
     let text = words_of c.args.text.now in
     let end = c.end_line-end.result in
-    let e = c.in_err-head.field-0.0 in
     let p = err_from_is_err_and c.from_residual.result c.from_residual.ensures.1 in
     let read = head_read c.args.problem.now end c.words-words.result in
-    rw (p.1, p.2)
-    (subst (Fails e)
+    rw (p.1, p.2) (subst (Fails c.in_err-head.field-0.0)
     (sym (whole text c.words-words.result c.args.problem.now end c.requires.empty
     c.end_line-end.ensures c.words-words.ensures))
-    (head_fails e end read c.in_err-head.ensures.read))
+    (head_fails c.in_err-head.field-0.0 end read c.in_err-head.ensures.read))
 
 pub constraints-requires-clause-small : goal.constraints-requires-clause-small
 constraints-requires-clause-small c =
     let none : problem_total c.args.problem.now ≡ 0 = rw c.requires.empty refl in
-    omega (
-      arith,
-      none,
-      c.requires.short,
-      few_words c.args.text.now,
-      ap length c.words-words.ensures,
-      c.in_ok-head.ensures.small,
-    )
+    let long = ap length c.words-words.ensures in
+    omega (arith, none, c.requires.short, few_words c.args.text.now, c.in_ok-head.ensures.small)
 
 pub returns : goal.returns
 returns c =

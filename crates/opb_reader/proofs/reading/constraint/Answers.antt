@@ -1,15 +1,4 @@
-use Rattle.std.proofs.Common.{◌≡◌, sym, ap, subst, ◌∙◌, to_z, of_z, arith, rules}
-use Rattle.std.specs.Int.{w128}
-use Rattle.std.proofs.lemmas.Int.{to_z-of_z}
-use Rattle.std.proofs.lemmas.Result.{err_from_is_err_and}
-use Rattle.whole_text.specs.TokenTexts.{word_of}
-use Rattle.whole_text.specs.Rows.{left}
-use Rattle.problem_form.specs.Problems.{ProblemContent}
-use Rattle.problem_form.specs.NormalForm.{with_variables, with_constraint}
-use Rattle.problem_form.proofs.KeptProducts.{with_constraint-total}
-use Rattle.opb_reader.specs.Opb.{Listed, literals_in, widened}
-use Rattle.opb_reader.specs.Cost.{compared}
-use Rattle.opb_reader.specs.Views.{with_listed}
+use Rattle.opb_reader.proofs.Common.{◌≡◌, sym, ap, subst, ◌∙◌, to_z, of_z, arith, rules, w128, to_z-of_z, err_from_is_err_and, word_of, left, ProblemContent, with_variables, with_constraint, with_constraint-total, Listed, literals_in, widened, compared, with_listed}
 use Rattle.opb_reader.proofs.Constraints.{sum_fails, comparison_fails, constraint_is, compared_within, compared-total}
 use Rattle.opb_reader.proofs.Variables.{AreWithin, widened-le, terms_within}
 use Rattle.opb_reader.proofs.reading.constraint.Goals as goal
@@ -34,23 +23,18 @@ pub widen-requires : goal.widen-requires
 widen-requires c =
     let same : c.problem.inside.variables ≡ c.args.problem.now.variables =
     ap (λ (q : ProblemContent). q.variables) c.problem.view_is in
-    omega (
-      arith,
-      same,
-      c.in_ok-next.ensures.counted,
-      widened-le c.problem.inside.variables (literals_in c.sum.new.terms),
-    )
+    let more = widened-le c.problem.inside.variables (literals_in c.sum.new.terms) in
+    omega (arith, same, c.in_ok-next.ensures.counted)
 
 pub add_constraint-requires-clause-within : goal.add_constraint-requires-clause-within
 add_constraint-requires-clause-within c =
     let ts = c.sum.new.terms in
     let v = c.problem.inside.variables in
-    let operator = c.in_ok-operator.operator in
     let z = c.in_ok-operator.bound in
     let whole : to_z w128 (of_z w128 z) ≡ z = to_z-of_z w128 z (search rules) in
     let within = subst (λ n. AreWithin n ts) (sym c.in_ok-next.ensures.counted) (terms_within v ts) in
     rw (c.compare.ensures, whole, c.widen.ensures)
-    (compared_within operator c.sum.new.variables ts z within)
+    (compared_within c.in_ok-operator.operator c.sum.new.variables ts z within)
 
 pub returns-clause-read : goal.returns-clause-read
 returns-clause-read c =
@@ -67,11 +51,9 @@ returns-clause-read c =
     c.compare.ensures ∙ ap (compared operator ts) whole in
     let listed : Listed = record { terms = ts; operator = operator; bound = z } in
     let state : c.add_constraint.new.self ≡ with_listed p listed =
-    c.in_ok-add_constraint.ensures.added
-    ∙ (λ i. with_constraint (c.widen.ensures i) (written i))
+    c.in_ok-add_constraint.ensures.added ∙ (λ i. with_constraint (c.widen.ensures i) (written i))
     ∙ ap (λ v. with_constraint (with_variables p v) (compared operator ts z)) least in
-    rw state
-    (constraint_is p c.args.end (word_of c.args.first) c.args.words.now
+    rw state (constraint_is p c.args.end (word_of c.args.first) c.args.words.now
     (left c.in_ok-next.next c.sum.new.words) c.comparison.new.words ts operator z
     c.in_ok-next.ensures.read c.in_ok-operator.ensures.read)
 
@@ -86,12 +68,6 @@ returns-clause-small c =
     let written : c.compare.new.constraint ≡ k = c.compare.ensures ∙ ap (compared operator ts) whole in
     let state : c.add_constraint.new.self ≡ with_constraint (with_variables p c.sum.new.variables) k =
     c.in_ok-add_constraint.ensures.added ∙ (λ i. with_constraint (c.widen.ensures i) (written i)) in
-    rw state
-    (omega (
-      arith,
-      with_constraint-total (with_variables p c.sum.new.variables) k,
-      compared-total operator ts z,
-      c.in_ok-next.ensures.small,
-      c.in_ok-operator.ensures.small,
-      c.in_ok-operator.ensures.shorter,
-    ))
+    let o = c.in_ok-operator.ensures in
+    let small = c.in_ok-next.ensures.small in
+    rw state (omega (arith, with_constraint-total, compared-total, o.small, o.shorter))

@@ -1,8 +1,5 @@
-use Rattle.std.proofs.Common.{sym, ap, ◌∙◌, length, arith}
-use Rattle.std.proofs.lemmas.Result.{err_from_is_err_and}
-use Rattle.whole_text.specs.TokenTexts.{word_of}
+use Rattle.opb_reader.proofs.Common.{sym, ap, ◌∙◌, length, arith, err_from_is_err_and, word_of, constraints_read}
 use Rattle.opb_reader.proofs.Constraints.{constraint_goes_on, constraint_fails, constraints_end}
-use Rattle.opb_reader.specs.Views.{constraints_read}
 use Rattle.opb_reader.proofs.reading.constraints.Goals as goal
 
 pub loop-first-preserved : goal.loop-first-preserved
@@ -12,14 +9,10 @@ loop-first-preserved c =
     record {
       read = sym (constraint_goes_on c.loop-first.problem c.constraint.new.problem c.args.end w
           c.next.new.self c.constraint.new.words c.in_ok-constraint.ensures.shorter
-          c.in_ok-constraint.ensures.read)
-          ∙ before;
-      small = omega (
-        arith,
-        ap length c.in-Some.ensures,
-        c.in_ok-constraint.ensures.small,
-        c.loop-first.invariant.small,
-      );
+          c.in_ok-constraint.ensures.read) ∙ before;
+      small =
+          let long = ap length c.in-Some.ensures in
+          omega (arith, c.in_ok-constraint.ensures.small, c.loop-first.invariant.small);
       emptied = c.in_ok-constraint.ensures.emptied;
     }
 
@@ -36,6 +29,5 @@ returns-in_err-constraint c =
 pub returns : goal.returns
 returns c =
     let p = c.loop-first.problem in
-    sym c.loop-first.invariant.read
-    ∙ ap (constraints_read p c.args.end) c.in_default.ensures.0
+    sym c.loop-first.invariant.read ∙ ap (constraints_read p c.args.end) c.in_default.ensures.0
     ∙ constraints_end p c.args.end

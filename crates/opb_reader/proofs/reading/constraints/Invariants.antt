@@ -1,6 +1,4 @@
-use Rattle.std.proofs.Common.{◌≡◌, ◌+◌, ◌*◌, ◌^◌, ◌≤◌, [], length}
-use Rattle.problem_form.specs.Problems.{problem_total}
-use Rattle.opb_reader.specs.Views.{constraints_read}
+use Rattle.opb_reader.proofs.Common.{◌≡◌, ◌+◌, ◌*◌, ◌^◌, ◌≤◌, [], length, problem_total, constraints_read}
 use Rattle.opb_reader.proofs.reading.constraints.Given as goal
 
 -- the problem so far, with the constraints that are left, is the problem of all; and each took a

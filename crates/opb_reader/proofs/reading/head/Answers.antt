@@ -1,6 +1,4 @@
-use Rattle.std.proofs.Common.{◌≡◌, ◌∷◌, drop, Ok, codes, bytes_eq, true, false, sym, ap, ◌∙◌, rules}
-use Rattle.whole_text.specs.TokenTexts.{word_of}
-use Rattle.opb_reader.specs.Views.{head_read, objective_read}
+use Rattle.opb_reader.proofs.Common.{◌≡◌, ◌∷◌, drop, Ok, codes, bytes_eq, true, false, sym, ap, ◌∙◌, rules, word_of, head_read, objective_read}
 use Rattle.opb_reader.proofs.Constraints.{head_objective, head_other, head_none, next_is}
 use Rattle.opb_reader.proofs.reading.head.Goals as goal
 
@@ -20,11 +18,10 @@ returns-in-Some-clause-read c =
 pub returns-in_default-clause-read : goal.returns-in_default-clause-read
 returns-in_default-clause-read c =
     let p = c.args.problem.now in
-    let end = c.args.end in
     let w = word_of c.in-Some.word in
     let other : bytes_eq w.bytes (codes "min:") ≡ false = search rules in
-    ap (head_read p end) c.in-Some.ensures
-    ∙ head_other p end w (drop 1 c.args.words.now) other
+    ap (head_read p c.args.end) c.in-Some.ensures
+    ∙ head_other p c.args.end w (drop 1 c.args.words.now) other
     ∙ ap (λ ws. Ok (p, ws)) (sym c.in-Some.ensures)
 
 pub returns-in_default-2-clause-read : goal.returns-in_default-2-clause-read

@@ -1,4 +1,4 @@
-use Rattle.std.proofs.Common.{[]}
+use Rattle.opb_reader.proofs.Common.{[]}
 use Rattle.opb_reader.proofs.reading.read_opb.Goals as goal
 
 pub finish-requires : goal.finish-requires

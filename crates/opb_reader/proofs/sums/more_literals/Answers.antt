@@ -1,8 +1,4 @@
-use Rattle.std.proofs.Common.{◌≡◌, ◌∷◌, [], length, true, false, sym, ap, ◌∙◌, arith}
-use Rattle.std.proofs.lemmas.Result.{err_from_is_err_and}
-use Rattle.whole_text.specs.TokenTexts.{word_of}
-use Rattle.literal_lists.specs.declared.literal.Literal.{Literal}
-use Rattle.opb_reader.specs.Opb.{widened, begins_literal}
+use Rattle.opb_reader.proofs.Common.{◌≡◌, ◌∷◌, [], length, true, false, sym, ap, ◌∙◌, arith, err_from_is_err_and, word_of, Literal, widened, begins_literal}
 use Rattle.opb_reader.proofs.Literals.{literal_goes_on, literal_fails, literals_stop, literals_end}
 use Rattle.opb_reader.proofs.Variables.{widened-append}
 use Rattle.opb_reader.proofs.sums.more_literals.Goals as goal
@@ -22,11 +18,8 @@ returns-in_err-literal-clause-read c =
     let begins : begins_literal w.bytes ≡ true =
     sym c.begins_literal.ensures ∙ c.if-not-begins_literal.false in
     let p = err_from_is_err_and c.from_residual.result c.from_residual.ensures.1 in
-    rw (p.1, p.2)
-    (sym before
-    ∙ literal_fails c.args.limit c.loop-word.list.items w c.next.new.self
-    c.in_err-literal.field-0.0 begins
-    (sym c.in_err-literal.ensures.value))
+    rw (p.1, p.2) (sym before ∙ literal_fails c.args.limit c.loop-word.list.items w c.next.new.self
+    c.in_err-literal.field-0.0 begins (sym c.in_err-literal.ensures.value))
 
 pub push-requires : goal.push-requires
 push-requires c = omega (arith, c.in_ok-literal.ensures.small, c.ranges.limit)
@@ -41,10 +34,8 @@ loop-word-preserved c =
     record {
       read = rw c.in_ok-push.ensures.pushed
           (sym (literal_goes_on c.args.limit c.loop-word.list.items w c.next.new.self l begins
-          (sym c.in_ok-literal.ensures.value))
-          ∙ before);
-      counted = λ v h. rw c.in_ok-push.ensures.pushed
-          (c.in_ok-push.ensures.counted
+          (sym c.in_ok-literal.ensures.value)) ∙ before);
+      counted = λ v h. rw c.in_ok-push.ensures.pushed (c.in_ok-push.ensures.counted
           ∙ ap (λ n. widened n (l ∷ [])) (c.loop-word.invariant.counted v h)
           ∙ sym (widened-append v c.loop-word.list.items (l ∷ [])));
       shorter = omega (arith, ap length c.in-Some.ensures, c.loop-word.invariant.shorter);

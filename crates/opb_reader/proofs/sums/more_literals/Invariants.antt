@@ -1,6 +1,4 @@
-use Rattle.std.proofs.Common.{◌≡◌, ◌≤◌, ℕ, length}
-use Rattle.opb_reader.specs.Opb.{widened}
-use Rattle.opb_reader.specs.Views.{literals_read}
+use Rattle.opb_reader.proofs.Common.{◌≡◌, ◌≤◌, ℕ, length, widened, literals_read}
 use Rattle.opb_reader.proofs.sums.more_literals.Given as goal
 
 -- the literals so far, and then those of the other words, are the literals that the words give

@@ -1,15 +1,4 @@
-use Rattle.std.proofs.Common.{◌≡◌, true, sym, ap, ◌∙◌, to_z, of_z, arith, rules}
-use Rattle.std.specs.Int.{w128}
-use Rattle.std.proofs.lemmas.Int.{to_z-of_z}
-use Rattle.std.proofs.lemmas.Result.{err_from_is_err_and}
-use Rattle.whole_text.specs.TokenTexts.{word_of}
-use Rattle.whole_text.specs.Rows.{left}
-use Rattle.problem_form.specs.declared.terms.Product.{Product}
-use Rattle.problem_form.specs.Problems.{ProblemContent}
-use Rattle.problem_form.specs.NormalForm.{with_variables, with_product}
-use Rattle.problem_form.proofs.KeptProducts.{with_product-total}
-use Rattle.opb_reader.specs.Opb.{greatest_index, widened, is_semicolon}
-use Rattle.opb_reader.specs.Views.{with_term}
+use Rattle.opb_reader.proofs.Common.{◌≡◌, true, sym, ap, ◌∙◌, to_z, of_z, arith, rules, w128, to_z-of_z, err_from_is_err_and, word_of, left, Product, ProblemContent, with_variables, with_product, with_product-total, greatest_index, widened, is_semicolon, with_term}
 use Rattle.opb_reader.proofs.TermSums.{term_goes_on, term_fails, sum_stops, sum_ends, objective_closed, objective_open, objective_fails}
 use Rattle.opb_reader.proofs.Variables.{widened-le, widened_within}
 use Rattle.opb_reader.proofs.sums.objective.Goals as goal
@@ -39,21 +28,15 @@ returns-in_err-coefficient-clause-read c =
 
 pub widen-requires : goal.widen-requires
 widen-requires c =
-    let p = c.loop-next.problem in
-    let same : c.problem.inside.variables ≡ p.variables =
+    let same : c.problem.inside.variables ≡ c.loop-next.problem.variables =
     ap (λ (q : ProblemContent). q.variables) c.problem.view_is in
-    omega (
-      arith,
-      same,
-      c.in_ok-coefficient.ensures.counted,
-      widened-le c.problem.inside.variables c.term.new.list.items,
-    )
+    let more = widened-le c.problem.inside.variables c.term.new.list.items in
+    omega (arith, same, c.in_ok-coefficient.ensures.counted)
 
 pub add_term-requires-clause-within : goal.add_term-requires-clause-within
 add_term-requires-clause-within c =
-    let ls = c.term.new.list.items in
     rw (c.widen.ensures, c.in_ok-coefficient.ensures.counted)
-    (widened_within c.problem.inside.variables ls)
+    (widened_within c.problem.inside.variables c.term.new.list.items)
 
 pub loop-next-preserved : goal.loop-next-preserved
 loop-next-preserved c =
@@ -73,26 +56,18 @@ loop-next-preserved c =
     let least : c.term.new.variables ≡ widened p.variables t.literals =
     c.in_ok-coefficient.ensures.counted ∙ ap (λ v. widened v t.literals) before_it in
     let state : c.add_term.new.self ≡ with_term p t =
-    c.in_ok-add_term.ensures.added
-    ∙ (λ i. with_product (c.widen.ensures i)
+    c.in_ok-add_term.ensures.added ∙ (λ i. with_product (c.widen.ensures i)
     (record { literals = t.literals; coefficient = whole i }))
     ∙ ap (λ v. with_product (with_variables p v) t) least in
     let shorter = c.in_ok-coefficient.ensures.shorter in
     record {
       read = rw state
           (sym (term_goes_on greatest_index with_term p is_semicolon c.args.end w c.loop-next.words
-          rest t
-          (sym c.is_semicolon.ensures ∙ c.if-is_semicolon.false) (omega (arith, shorter))
-          c.in_ok-coefficient.ensures.read)
-          ∙ before);
+          rest t (sym c.is_semicolon.ensures ∙ c.if-is_semicolon.false) (omega (arith, shorter))
+          c.in_ok-coefficient.ensures.read) ∙ before);
       small = rw state
-          (omega (
-            arith,
-            with_product-total (with_variables p (widened p.variables t.literals)) t,
-            c.in_ok-coefficient.ensures.small,
-            shorter,
-            small,
-          ));
+          (let with = with_product-total (with_variables p (widened p.variables t.literals)) t in
+          omega (arith, c.in_ok-coefficient.ensures.small, shorter, small));
       emptied = c.in_ok-add_term.ensures.emptied;
     }
 
@@ -100,6 +75,5 @@ pub returns-clause-read : goal.returns-clause-read
 returns-clause-read c =
     let p = c.loop-next.problem in
     let before = rw c.in_default.is at c.loop-next.invariant.read in
-    rw c.fault.ensures
-    (objective_open c.args.problem.now p c.args.end c.args.words.now
+    rw c.fault.ensures (objective_open c.args.problem.now p c.args.end c.args.words.now
     (sym before ∙ sum_ends greatest_index with_term p is_semicolon c.args.end))

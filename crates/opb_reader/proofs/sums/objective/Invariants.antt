@@ -1,8 +1,4 @@
-use Rattle.std.proofs.Common.{◌≡◌, ◌+◌, ◌*◌, ◌^◌, ◌≤◌, [], length}
-use Rattle.whole_text.specs.Rows.{left}
-use Rattle.problem_form.specs.Problems.{problem_total}
-use Rattle.opb_reader.specs.Opb.{greatest_index, is_semicolon, sum_at}
-use Rattle.opb_reader.specs.Views.{with_term, put_all}
+use Rattle.opb_reader.proofs.Common.{◌≡◌, ◌+◌, ◌*◌, ◌^◌, ◌≤◌, [], length, left, problem_total, greatest_index, is_semicolon, sum_at, with_term, put_all}
 use Rattle.opb_reader.proofs.sums.objective.Given as goal
 
 -- the problem so far, with the terms that are left, is the problem of all; and each took a word at

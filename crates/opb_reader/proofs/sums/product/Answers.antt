@@ -1,8 +1,4 @@
-use Rattle.std.proofs.Common.{◌≡◌, ◌∷◌, ◌++◌, [], List, sym, ap, ◌∙◌, arith}
-use Rattle.whole_text.specs.TokenTexts.{word_of}
-use Rattle.literal_lists.specs.declared.literal.Literal.{Literal}
-use Rattle.opb_reader.specs.Opb.{product_at}
-use Rattle.opb_reader.specs.Views.{literals_read}
+use Rattle.opb_reader.proofs.Common.{◌≡◌, ◌∷◌, ◌++◌, [], List, sym, ap, ◌∙◌, arith, word_of, Literal, product_at, literals_read}
 use Rattle.opb_reader.proofs.Literals.{product_first}
 use Rattle.opb_reader.proofs.sums.product.Goals as goal
 
@@ -17,7 +13,6 @@ returns-clause-read c =
     let same : product_at c.args.limit c.args.end c.args.words.now
     ≡ literals_read c.args.limit c.push.new.list.items c.next_word.new.words =
     product_first c.args.limit c.args.end c.args.words.now c.next_word.new.words
-    (word_of c.in_ok-first.first) l
-    c.in_ok-first.ensures (sym c.in_ok-literal.ensures.value)
+    (word_of c.in_ok-first.first) l c.in_ok-first.ensures (sym c.in_ok-literal.ensures.value)
     ∙ ap (λ (ls : List Literal). literals_read c.args.limit ls c.next_word.new.words) (sym list) in
     rw same c.more_literals.ensures.read

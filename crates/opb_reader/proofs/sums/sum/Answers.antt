@@ -1,13 +1,4 @@
-use Rattle.std.proofs.Common.{◌≡◌, ◌∷◌, ◌++◌, [], List, refl, sym, ap, ◌∙◌, to_z, of_z, arith, rules}
-use Rattle.std.specs.Int.{w128}
-use Rattle.std.proofs.lemmas.Int.{to_z-of_z}
-use Rattle.std.proofs.lemmas.List.{flat_map_more}
-use Rattle.std.proofs.lemmas.Result.{err_from_is_err_and}
-use Rattle.whole_text.specs.TokenTexts.{word_of}
-use Rattle.whole_text.specs.Rows.{left}
-use Rattle.problem_form.specs.declared.terms.Product.{Product}
-use Rattle.opb_reader.specs.Opb.{widened, literals_in, is_operator, sum_at}
-use Rattle.opb_reader.specs.Views.{put_all}
+use Rattle.opb_reader.proofs.Common.{◌≡◌, ◌∷◌, ◌++◌, [], List, refl, sym, ap, ◌∙◌, to_z, of_z, arith, rules, w128, to_z-of_z, flat_map_more, err_from_is_err_and, word_of, left, Product, widened, literals_in, is_operator, sum_at, put_all}
 use Rattle.opb_reader.proofs.Many.{push, put_none}
 use Rattle.opb_reader.proofs.TermSums.{term_goes_on, term_fails, sum_stops, sum_ends}
 use Rattle.opb_reader.proofs.Variables.{widened-append}
@@ -38,11 +29,9 @@ returns-in_err-coefficient-clause-read c =
     let w = word_of c.in-Some.word in
     let before = rw c.in-Some.is at c.loop-next.invariant.read in
     let p = err_from_is_err_and c.from_residual.result c.from_residual.ensures.1 in
-    rw (p.1, p.2)
-    (rw (← before)
+    rw (p.1, p.2) (rw (← before)
     (term_fails c.args.limit c.in_err-coefficient.field-0.0 push c.loop-next.terms is_operator
-    c.args.end w
-    c.loop-next.words (sym c.is_operator.ensures ∙ c.if-is_operator.false)
+    c.args.end w c.loop-next.words (sym c.is_operator.ensures ∙ c.if-is_operator.false)
     c.in_err-coefficient.ensures.read))
 
 pub loop-next-preserved : goal.loop-next-preserved
@@ -65,24 +54,16 @@ loop-next-preserved c =
     record {
       read = rw pushed
           (sym (term_goes_on c.args.limit push terms is_operator c.args.end w c.loop-next.words
-          rest t
-          (sym c.is_operator.ensures ∙ c.if-is_operator.false) (omega (arith, shorter))
-          c.in_ok-coefficient.ensures.read)
-          ∙ before);
-      counted = rw pushed
-          (c.in_ok-coefficient.ensures.counted
+          rest t (sym c.is_operator.ensures ∙ c.if-is_operator.false) (omega (arith, shorter))
+          c.in_ok-coefficient.ensures.read) ∙ before);
+      counted = rw pushed (c.in_ok-coefficient.ensures.counted
           ∙ ap (λ v. widened v t.literals) c.loop-next.invariant.counted
           ∙ sym (widened-append c.args.variables.now (literals_in terms) t.literals)
           ∙ ap (widened c.args.variables.now)
           (flat_map_more (λ (u : Product). u.literals) [] terms t));
       small = rw pushed
-          (omega (
-            arith,
-            products_total-push terms t,
-            c.in_ok-coefficient.ensures.small,
-            shorter,
-            small,
-          ));
+          (let products = products_total-push terms t in
+          omega (arith, c.in_ok-coefficient.ensures.small, shorter, small));
       emptied = c.clear.ensures.items;
     }
 

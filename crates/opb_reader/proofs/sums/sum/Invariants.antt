@@ -1,9 +1,4 @@
-use Rattle.std.proofs.Common.{◌≡◌, ◌+◌, ◌*◌, ◌^◌, ◌≤◌, [], ◌∷◌, length}
-use Rattle.whole_text.specs.TokenTexts.{word_of}
-use Rattle.whole_text.specs.Rows.{left}
-use Rattle.problem_form.specs.Problems.{products_total}
-use Rattle.opb_reader.specs.Opb.{literals_in, widened, is_operator, sum_at}
-use Rattle.opb_reader.specs.Views.{put_all}
+use Rattle.opb_reader.proofs.Common.{◌≡◌, ◌+◌, ◌*◌, ◌^◌, ◌≤◌, [], ◌∷◌, length, word_of, left, products_total, literals_in, widened, is_operator, sum_at, put_all}
 use Rattle.opb_reader.proofs.Many.{push}
 use Rattle.opb_reader.proofs.sums.sum.Given as goal
 

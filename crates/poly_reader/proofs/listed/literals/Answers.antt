@@ -1,11 +1,4 @@
-use Rattle.std.proofs.Common.{◌≡◌, ◌≤◌, ◌++◌, ◌∷◌, [], length, true, false, sym, ap, subst, ◌∙◌, arith, rules, ◌==◌}
-use Rattle.std.proofs.lemmas.Result.{err_from_is_err_and}
-use Rattle.whole_text.specs.TokenTexts.{word_of}
-use Rattle.literal_lists.specs.declared.literal.Literal.{Literal}
-use Rattle.poly_reader.specs.Poly.{Named}
-use Rattle.poly_reader.specs.Numbering.{with_name, number_of}
-use Rattle.poly_reader.specs.Cost.{literal_of}
-use Rattle.poly_reader.specs.Views.{named_of, literals_read}
+use Rattle.poly_reader.proofs.Common.{◌≡◌, ◌≤◌, ◌++◌, ◌∷◌, [], length, true, false, sym, ap, subst, ◌∙◌, arith, rules, ◌==◌, err_from_is_err_and, word_of, Literal, Named, with_name, number_of, literal_of, named_of, literals_read}
 use Rattle.poly_reader.proofs.Literals.{literal_goes_on, literal_fails, literals_stop, literals_end, literals_settled}
 use Rattle.poly_reader.proofs.NameNumbers.{with_name-le}
 use Rattle.poly_reader.proofs.NameLists.{within_pushed}
@@ -24,8 +17,7 @@ returns-in_err-literal-clause-read c =
     let before = rw c.in-Some.ensures at c.loop-word.invariant.read in
     let here : (w.line == c.args.line) ≡ true = search rules in
     let p = err_from_is_err_and c.from_residual.result c.from_residual.ensures.1 in
-    rw (p.1, p.2)
-    (sym before
+    rw (p.1, p.2) (sym before
     ∙ literal_fails c.args.line c.loop-word.names c.loop-word.list.items w c.next.new.self
     c.in_err-literal.field-0.0 here c.in_err-literal.ensures.read)
 

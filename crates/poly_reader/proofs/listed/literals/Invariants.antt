@@ -1,5 +1,4 @@
-use Rattle.std.proofs.Common.{◌≡◌, ◌<◌, ◌≤◌, All, [], length}
-use Rattle.poly_reader.specs.Views.{literals_read}
+use Rattle.poly_reader.proofs.Common.{◌≡◌, ◌<◌, ◌≤◌, All, [], length, literals_read}
 use Rattle.poly_reader.proofs.listed.literals.Given as goal
 
 -- the literals so far, and then those of the other words, are the literals of the line

@@ -1,8 +1,4 @@
-use Rattle.std.proofs.Common.{◌<◌, ap, sym, subst, ◌∙◌}
-use Rattle.std.specs.Prelude.{All}
-use Rattle.literal_lists.specs.declared.literal.Literal.{Literal}
-use Rattle.literal_lists.specs.Literals.{literal_set}
-use Rattle.literal_lists.proofs.LiteralSets.{literal_set-ascends, literal_set-ascending, All-literal_set}
+use Rattle.poly_reader.proofs.Common.{◌<◌, ap, sym, subst, ◌∙◌, All, Literal, literal_set, literal_set-ascends, literal_set-ascending, All-literal_set}
 use Rattle.poly_reader.proofs.listed.settle.Goals as goal
 
 pub returns-clause-same : goal.returns-clause-same

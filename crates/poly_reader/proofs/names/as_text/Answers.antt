@@ -4,5 +4,4 @@ use Rattle.poly_reader.proofs.names.as_text.Goals as goal
 
 pub from_utf8_unchecked-requires : goal.from_utf8_unchecked-requires
 from_utf8_unchecked-requires c =
-    let name = c.args.name.now in
-    IsUtf8-from_ascii name (name_ascii name c.requires)
+    IsUtf8-from_ascii c.args.name.now (name_ascii c.args.name.now c.requires)

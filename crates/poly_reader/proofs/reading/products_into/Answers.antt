@@ -1,28 +1,10 @@
-use Rattle.std.proofs.Common.{◌≡◌, length, sym, ap, subst, ◌∙◌, to_z, of_z, arith, rules}
-use Rattle.std.specs.Int.{w128}
-use Rattle.std.proofs.lemmas.Int.{to_z-of_z}
-use Rattle.std.proofs.lemmas.Result.{err_from_is_err_and}
-use Rattle.whole_text.specs.TokenTexts.{word_of}
-use Rattle.whole_text.specs.Steps.{Fails}
-use Rattle.whole_text.specs.Rows.{left}
-use Rattle.problem_form.specs.declared.terms.Product.{Product}
-use Rattle.problem_form.specs.NormalForm.{with_variables, with_product}
-use Rattle.problem_form.proofs.KeptProducts.{with_product-total}
-use Rattle.problem_form.specs.Problems.{ProblemContent}
-use Rattle.poly_reader.specs.Views.{products_put}
+use Rattle.poly_reader.proofs.Common.{nat_tests, ◌≡◌, length, sym, ap, ◌∙◌, to_z, of_z, arith, rules, w128, to_z-of_z, err_from_is_err_and, word_of, left, Product, with_variables, with_product, with_product-total, ProblemContent, products_put}
 use Rattle.poly_reader.proofs.ProductSets.{set_product, with_product-set}
 use Rattle.poly_reader.proofs.Products.{product_goes_on, product_fails, products_end}
 use Rattle.poly_reader.proofs.reading.products_into.Goals as goal
 
 pub returns-in_err-coefficient : goal.returns-in_err-coefficient
-returns-in_err-coefficient c =
-    let w = word_of c.in-Some.first in
-    let e = c.in_err-coefficient.field-0.0 in
-    let before = rw c.in-Some.is at c.loop-next.invariant.read in
-    let failed = product_fails e c.loop-next.problem c.loop-next.names w c.loop-next.words
-    c.in_err-coefficient.ensures.read in
-    let r = err_from_is_err_and c.from_residual.result c.from_residual.ensures.1 in
-    rw (r.1, r.2) (subst (Fails e) before failed)
+returns-in_err-coefficient c = grind (arith, nat_tests, product_fails, err_from_is_err_and)
 
 pub loop-next-preserved : goal.loop-next-preserved
 loop-next-preserved c =
@@ -41,19 +23,13 @@ loop-next-preserved c =
     c.in_ok-add_term.ensures.added
     ∙ (λ i. with_product (wide i) (record { literals = t.literals; coefficient = whole i })) in
     record {
-      read = rw state
-          (ap (λ (q : ProblemContent). products_put (q, names) rest)
+      read = rw state (ap (λ (q : ProblemContent). products_put (q, names) rest)
           (sym (with_product-set (with_variables p (length names)) t))
           ∙ sym (product_goes_on p c.loop-next.names names w c.loop-next.words rest (set_product t) c.in_ok-coefficient.ensures.read)
           ∙ before);
-      small = rw state
-          (omega (
-            arith,
-            with_product-total (with_variables p (length names)) t,
-            c.in_ok-coefficient.ensures.small,
-            c.in_ok-coefficient.ensures.shorter,
-            small,
-          ));
+      small =
+          let w = c.in_ok-coefficient.ensures in
+          rw state (omega (arith, with_product-total, small, w.small, w.shorter));
       counted = rw state (search rules);
       emptied = c.in_ok-add_term.ensures.emptied;
     }

@@ -1,7 +1,4 @@
-use Rattle.std.proofs.Common.{◌≡◌, ◌+◌, ◌*◌, ◌^◌, ◌<◌, [], length}
-use Rattle.whole_text.specs.Rows.{left}
-use Rattle.problem_form.specs.Problems.{problem_total}
-use Rattle.poly_reader.specs.Views.{products_put, products_read}
+use Rattle.poly_reader.proofs.Common.{◌≡◌, ◌+◌, ◌*◌, ◌^◌, ◌<◌, [], length, left, problem_total, products_put, products_read}
 use Rattle.poly_reader.proofs.reading.products_into.Given as goal
 
 -- the problem so far, with the products that are left, is the problem of all; and each took a word

@@ -1,5 +1,4 @@
-use Rattle.std.proofs.Common.{length, ap, arith}
-use Rattle.whole_text.proofs.Lengths.{few_words}
+use Rattle.poly_reader.proofs.Common.{length, ap, arith, few_words}
 use Rattle.poly_reader.proofs.reading.read_poly_tokens.Goals as goal
 
 pub read_with-requires-clause-few : goal.read_with-requires-clause-few

@@ -1,5 +1,4 @@
-use Rattle.std.proofs.Common.{Ok, sym, ◌∙◌}
-use Rattle.std.proofs.lemmas.Result.{err_from_is_err_and}
+use Rattle.poly_reader.proofs.Common.{Ok, sym, ◌∙◌, err_from_is_err_and}
 use Rattle.poly_reader.proofs.Additions.{polynomial_fails, polynomial_read}
 use Rattle.poly_reader.proofs.reading.read_with.Goals as goal
 
@@ -11,7 +10,6 @@ returns-in_err-problem c =
 
 pub returns : goal.returns
 returns c =
-    let p = c.in_ok-problem.problem in
     let names = c.products.new.names in
-    polynomial_read c.args.words p names c.in_ok-problem.ensures
-    ∙ (λ i. Ok (record { problem = p; names = sym c.in_ok-names.ensures i }))
+    polynomial_read c.args.words c.in_ok-problem.problem names c.in_ok-problem.ensures
+    ∙ (λ i. Ok (record { problem = c.in_ok-problem.problem; names = sym c.in_ok-names.ensures i }))

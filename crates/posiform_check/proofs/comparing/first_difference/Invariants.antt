@@ -1,7 +1,4 @@
-use Rattle.std.proofs.Common.{◌≡◌, []}
-use Rattle.std.specs.Prelude.{option_map}
-use Rattle.term_table.specs.Terms.{in_front}
-use Rattle.posiform_check.specs.Differences.{behind_next, difference, lent_term}
+use Rattle.posiform_check.proofs.Common.{◌≡◌, [], option_map, in_front, behind_next, difference, lent_term}
 use Rattle.posiform_check.proofs.comparing.first_difference.Given as goal
 
 -- the difference is that of what is left of both

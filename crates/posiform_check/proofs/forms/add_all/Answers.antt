@@ -1,10 +1,4 @@
-use Rattle.std.proofs.Common.{rules, ◌≡◌, ◌∙◌, ap, sym, subst, [], ◌∷◌, to_z, of_z}
-use Rattle.std.specs.Int.{w128}
-use Rattle.std.specs.List.{flat_map}
-use Rattle.term_table.specs.Tables.{AreAdditions, with_more}
-use Rattle.posiform_check.specs.declared.lines.Line.{Line}
-use Rattle.posiform_check.specs.BitForms.{line_terms}
-use Rattle.posiform_check.specs.Certificates.{IsCertificate}
+use Rattle.posiform_check.proofs.Common.{rules, ◌≡◌, ◌∙◌, ap, sym, subst, [], ◌∷◌, to_z, of_z, w128, flat_map, AreAdditions, with_more, Line, line_terms, IsCertificate}
 use Rattle.posiform_check.proofs.Gathering.{certificate_fits, bound_fits, bound_left, behind_fits, behind_left}
 use Rattle.posiform_check.proofs.forms.add_all.Goals as goal
 
@@ -47,8 +41,7 @@ add_plain_terms-requires c =
     let whole : to_z w128 (of_z w128 parts.coefficient) ≡ parts.coefficient = search rules in
     let coefficient : to_z w128 (of_z w128 parts.coefficient) ≡ l.coefficient =
     whole ∙ ap (λ (k : Line). k.coefficient) c.literals.view_is in
-    rw (set, coefficient)
-    (behind_fits c.loop-literals.terms _ c.loop-literals.list.items l
+    rw (set, coefficient) (behind_fits c.loop-literals.terms _ c.loop-literals.list.items l
     c.loop-literals.literals-iterator c.next.new.self c.in-Some.ensures.steps h.list h.whole h.fits)
 
 pub loop-literals-preserved : goal.loop-literals-preserved

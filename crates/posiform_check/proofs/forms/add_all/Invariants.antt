@@ -1,7 +1,4 @@
-use Rattle.std.proofs.Common.{◌≡◌, []}
-use Rattle.std.specs.List.{flat_map}
-use Rattle.term_table.specs.Tables.{AreAdditions, with_more}
-use Rattle.posiform_check.specs.BitForms.{certificate_terms, line_terms}
+use Rattle.posiform_check.proofs.Common.{◌≡◌, [], flat_map, AreAdditions, with_more, certificate_terms, line_terms}
 use Rattle.posiform_check.proofs.forms.add_all.Given as goal
 
 -- the terms of the lines that are left make up the rest, and all of it fits

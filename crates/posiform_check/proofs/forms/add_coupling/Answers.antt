@@ -1,15 +1,10 @@
-use Rattle.std.proofs.Common.{rules, ◌≡◌, ap, ◌∙◌, ℤ, ◌*ℤ◌, ◌∷◌, [], pos, neg_ℤ, to_z, of_z}
-use Rattle.std.specs.Int.{w128}
-use Rattle.std.proofs.lemmas.Int.{to_z-of_z}
-use Rattle.term_table.specs.Tables.{with_more}
-use Rattle.posiform_check.specs.BitForms.{node_set}
+use Rattle.posiform_check.proofs.Common.{rules, ◌≡◌, ap, ◌∙◌, ℤ, ◌*ℤ◌, ◌∷◌, [], pos, neg_ℤ, to_z, of_z, w128, to_z-of_z, with_more, node_set}
 use Rattle.posiform_check.proofs.Gathering.{first_fits, second_fits, third_fits}
 use Rattle.posiform_check.proofs.forms.add_coupling.Goals as goal
 
 -- the product of a weight and -2 does not wrap
 twice : (w z : ℤ) → to_z w128 (of_z w128 w) ≡ w → to_z w128 (of_z w128 z) ≡ z
-    → z ≡ neg_ℤ (pos 2 *ℤ to_z w128 (of_z w128 w))
-    → to_z w128 (of_z w128 z) ≡ neg_ℤ (pos 2 *ℤ w)
+    → z ≡ neg_ℤ (pos 2 *ℤ to_z w128 (of_z w128 w)) → to_z w128 (of_z w128 z) ≡ neg_ℤ (pos 2 *ℤ w)
 twice w z same whole is = whole ∙ is ∙ ap (λ k. neg_ℤ (pos 2 *ℤ k)) same
 
 pub add_node-requires : goal.add_node-requires

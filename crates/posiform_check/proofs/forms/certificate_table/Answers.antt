@@ -1,5 +1,4 @@
-use Rattle.std.proofs.Common.{sym, subst}
-use Rattle.posiform_check.specs.Certificates.{AreOfNodes}
+use Rattle.posiform_check.proofs.Common.{sym, subst, AreOfNodes}
 use Rattle.posiform_check.proofs.forms.certificate_table.Goals as goal
 
 pub add_all-requires-clause-nodes : goal.add_all-requires-clause-nodes

@@ -1,11 +1,4 @@
-use Rattle.std.proofs.Common.{◌≡◌, ◌+ℤ◌, ap, to_z, of_z, arith}
-use Rattle.std.specs.Int.{w128}
-use Rattle.std.proofs.lemmas.Int.{ints, fits_signed_from_abs}
-use Rattle.std.proofs.lemmas.Map.Iter.{rest_more}
-use Rattle.base.specs.Sums.{total_by}
-use Rattle.base.proofs.Totals.{size-plus}
-use Rattle.bits_model.proofs.Energies.{weight_left}
-use Rattle.posiform_check.specs.BitForms.{entry_constant}
+use Rattle.posiform_check.proofs.Common.{◌≡◌, ◌+ℤ◌, ap, to_z, of_z, arith, w128, ints, fits_signed_from_abs, rest_more, total_by, size-plus, weight_left, entry_constant}
 use Rattle.posiform_check.proofs.Gathering.{constant-size}
 use Rattle.posiform_check.proofs.forms.model_constant.Goals as goal
 
@@ -37,11 +30,8 @@ constant_of-sum-requires c =
     let left =
     rest_more _ c.loop-entry.entry-iterator c.next.new.self c.next.result c.in-Some.entry
     c.in-Some.is c.next.ensures.steps in
-    omega (
-      arith,
-      weight_left c.loop-entry.entry-iterator c.next.new.self c.in-Some.entry left,
-      c.loop-entry.invariant.small,
-    )
+    let weight = weight_left c.loop-entry.entry-iterator c.next.new.self c.in-Some.entry left in
+    omega (arith, c.loop-entry.invariant.small)
 
 pub overflow_add-sum : goal.overflow_add-sum
 overflow_add-sum c =
@@ -49,11 +39,6 @@ overflow_add-sum c =
     rest_more _ c.loop-entry.entry-iterator c.next.new.self c.next.result c.in-Some.entry
     c.in-Some.is c.next.ensures.steps in
     fits_signed_from_abs w128 _
-    (omega (
-      arith,
-      ints,
-      c.constant_of-sum.ensures,
-      weight_left c.loop-entry.entry-iterator c.next.new.self c.in-Some.entry left,
-      constant-size c.args.kind c.in-Some.entry,
-      c.loop-entry.invariant.small,
-    ))
+    (let weight = weight_left c.loop-entry.entry-iterator c.next.new.self c.in-Some.entry left in
+    let constant_size = constant-size c.args.kind c.in-Some.entry in
+    omega (arith, ints, c.constant_of-sum.ensures, c.loop-entry.invariant.small))

@@ -1,7 +1,4 @@
-use Rattle.std.proofs.Common.{◌≡◌, ◌+◌, ◌≤◌, ◌^◌, ◌+ℤ◌, unsigned_abs}
-use Rattle.base.specs.Sums.{total_by}
-use Rattle.bits_model.specs.Output.{weight_total}
-use Rattle.posiform_check.specs.BitForms.{entry_constant}
+use Rattle.posiform_check.proofs.Common.{◌≡◌, ◌+◌, ◌≤◌, ◌^◌, ◌+ℤ◌, unsigned_abs, total_by, weight_total, entry_constant}
 use Rattle.posiform_check.proofs.forms.model_constant.Given as goal
 
 -- the sum, and the constants of the entries that are left, are the constant

@@ -1,4 +1,4 @@
-use Rattle.std.proofs.lemmas.Map.Iter.{rest_more}
+use Rattle.posiform_check.proofs.Common.{rest_more}
 use Rattle.posiform_check.proofs.Gathering.{model_fits, next_fits}
 use Rattle.posiform_check.proofs.forms.model_table.Goals as goal
 
@@ -7,6 +7,5 @@ add_entry-requires-clause-fits c =
     let left =
     rest_more _ c.loop-entry.entry-iterator c.next.new.self c.next.result c.in-Some.entry
     c.in-Some.is c.next.ensures.steps in
-    let h = c.loop-entry.invariant in
-    next_fits c.args.kind c.loop-entry.terms _ c.in-Some.entry _ _ left h.whole
+    next_fits c.args.kind c.loop-entry.terms _ c.in-Some.entry _ _ left c.loop-entry.invariant.whole
     (model_fits c.args.kind c.args.nodes c.args.entries.now c.requires.placed c.requires.small)

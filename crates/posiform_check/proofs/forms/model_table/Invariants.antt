@@ -1,8 +1,4 @@
-use Rattle.std.proofs.Common.{◌≡◌, ◌≤◌, ◌^◌}
-use Rattle.std.specs.List.{flat_map}
-use Rattle.bits_model.specs.Output.{weight_total}
-use Rattle.term_table.specs.Tables.{with_more}
-use Rattle.posiform_check.specs.BitForms.{entry_sets}
+use Rattle.posiform_check.proofs.Common.{◌≡◌, ◌≤◌, ◌^◌, flat_map, weight_total, with_more, entry_sets}
 use Rattle.posiform_check.proofs.forms.model_table.Given as goal
 
 -- the terms of the entries that are left make up the rest, and they fit

@@ -1,7 +1,4 @@
-use Rattle.std.proofs.Common.{rules, ◌≤◌, length}
-use Rattle.std.proofs.lemmas.List.Elements.{All-from_recursion}
-use Rattle.posiform_check.specs.declared.lines.Line.{Line}
-use Rattle.posiform_check.specs.Certificates.{most_literals}
+use Rattle.posiform_check.proofs.Common.{rules, ◌≤◌, length, All-from_recursion, Line, most_literals}
 use Rattle.posiform_check.proofs.Gathering.{none_above}
 use Rattle.posiform_check.proofs.limits.check_certificate.Goals as goal
 

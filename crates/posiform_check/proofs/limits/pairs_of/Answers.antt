@@ -1,8 +1,4 @@
-use Rattle.std.proofs.Common.{ℕ, ◌≤◌, ◌^◌, All, List, length, subst, arith}
-use Rattle.std.proofs.lemmas.List.Elements.{All-head, All-tail}
-use Rattle.problem_form.proofs.LeftSums.{answered_left, answered_end}
-use Rattle.term_table.specs.MultipliedOut.{complements}
-use Rattle.posiform_check.specs.declared.lines.Line.{Line}
+use Rattle.posiform_check.proofs.Common.{ℕ, ◌≤◌, ◌^◌, All, List, length, subst, arith, All-head, All-tail, answered_left, answered_end, complements, Line}
 use Rattle.posiform_check.proofs.limits.pairs_of.Goals as goal
 
 abbrev products : Line → ℕ

@@ -1,8 +1,4 @@
-use Rattle.std.proofs.Common.{◌≤◌, ◌^◌, All, length}
-use Rattle.problem_form.proofs.LeftSums.{Answered}
-use Rattle.term_table.specs.MultipliedOut.{complements}
-use Rattle.posiform_check.specs.declared.lines.Line.{Line}
-use Rattle.posiform_check.specs.Certificates.{pairs}
+use Rattle.posiform_check.proofs.Common.{◌≤◌, ◌^◌, All, length, Answered, complements, Line, pairs}
 use Rattle.posiform_check.proofs.limits.pairs_of.Given as goal
 
 -- the products so far and those of the lines that are left are the whole

@@ -1,9 +1,4 @@
-use Rattle.std.proofs.Common.{rules, ◌≡◌, ◌++◌, ◌∷◌, [], true, false, List, OnOk, subst, sym, ap, ◌∙◌, append-nil, to_z, of_z}
-use Rattle.std.specs.Int.{w128}
-use Rattle.literal_lists.specs.Literals.{has_clash, literal_set}
-use Rattle.problem_form.specs.NormalForm.{is_empty}
-use Rattle.posiform_check.specs.declared.lines.Line.{Line}
-use Rattle.posiform_check.specs.Texts.{written}
+use Rattle.posiform_check.proofs.Common.{rules, ◌≡◌, ◌++◌, ◌∷◌, [], true, false, List, OnOk, subst, sym, ap, ◌∙◌, append-nil, to_z, of_z, w128, has_clash, literal_set, is_empty, Line, written}
 use Rattle.posiform_check.proofs.KeptLines.{kept_clashing, kept_whole}
 use Rattle.posiform_check.proofs.listed.keep_line.Goals as goal
 
@@ -20,9 +15,7 @@ returns c =
     let filled : is_empty l.literals ≡ false = search rules in
     let apart : has_clash (literal_set l.literals) ≡ false = search rules in
     let whole : to_z w128 (of_z w128 c.args.coefficient) ≡ c.args.coefficient = search rules in
-    let set = c.make_set.new.literals.items in
-    let same : set ≡ literal_set l.literals = search rules in
+    let same : c.make_set.new.literals.items ≡ literal_set l.literals = search rules in
     subst (λ (ls : List Line). OnOk c.push.result (c.push.new.self ≡ c.args.lines.now ++ ls))
     ((λ i. written (c.deref-2.ensures.value i) (whole i) c.args.line ∷ [])
-    ∙ kept_whole l set filled apart same)
-    c.push.ensures.pushed
+    ∙ kept_whole l c.make_set.new.literals.items filled apart same) c.push.ensures.pushed

@@ -1,9 +1,4 @@
-use Rattle.std.proofs.Common.{◌≡◌, ◌<◌, ◌++◌, ◌∷◌, [], length, true, false, sym, ap, ◌∙◌, arith, rules, ◌==◌}
-use Rattle.std.proofs.lemmas.Result.{err_from_is_err_and}
-use Rattle.std.proofs.lemmas.List.Elements.{All-push}
-use Rattle.whole_text.specs.TokenTexts.{word_of}
-use Rattle.literal_lists.specs.declared.literal.Literal.{Literal}
-use Rattle.posiform_check.specs.ReadingSteps.{literals_read}
+use Rattle.posiform_check.proofs.Common.{◌≡◌, ◌<◌, ◌++◌, ◌∷◌, [], length, true, false, sym, ap, ◌∙◌, arith, rules, ◌==◌, err_from_is_err_and, All-push, word_of, Literal, literals_read}
 use Rattle.posiform_check.proofs.ReadSteps.{literal_goes_on, literal_fails, literals_stop, literals_end}
 use Rattle.posiform_check.proofs.listed.literals.Goals as goal
 
@@ -21,8 +16,7 @@ returns-in_err-literal-clause-read c =
     let before = rw c.in-Some.ensures at c.loop-word.invariant.read in
     let here : (w.line == c.args.line) ≡ true = search rules in
     let p = err_from_is_err_and c.from_residual.result c.from_residual.ensures.1 in
-    rw (p.1, p.2)
-    (sym before
+    rw (p.1, p.2) (sym before
     ∙ literal_fails c.args.nodes c.args.line c.loop-word.list.items w c.next.new.self
     c.in_err-literal.field-0.0 here (sym c.in_err-literal.ensures.value))
 
@@ -37,8 +31,7 @@ loop-word-preserved c =
     record {
       read = ap (λ ls. literals_read c.args.nodes c.args.line ls c.next.new.self) pushed
           ∙ literal_goes_on c.args.nodes c.args.line list w c.next.new.self l here
-          (sym c.in_ok-literal.ensures.value)
-          ∙ before;
+          (sym c.in_ok-literal.ensures.value) ∙ before;
       within = rw pushed
           (All-push (λ (k : Literal). k.variable < c.args.nodes) list l c.loop-word.invariant.within
           c.in_ok-literal.ensures.small);

@@ -1,4 +1,4 @@
-use Rattle.std.proofs.Common.{rules}
+use Rattle.posiform_check.proofs.Common.{rules}
 use Rattle.posiform_check.proofs.proving.first_negative.Goals as goal
 
 pub loop-line-preserved : goal.loop-line-preserved

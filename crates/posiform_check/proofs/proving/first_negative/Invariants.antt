@@ -1,5 +1,4 @@
-use Rattle.std.proofs.Common.{◌≡◌}
-use Rattle.posiform_check.specs.Certificates.{first_negative}
+use Rattle.posiform_check.proofs.Common.{◌≡◌, first_negative}
 use Rattle.posiform_check.proofs.proving.first_negative.Given as goal
 
 -- the first one is among those that are left

@@ -1,33 +1,23 @@
-use Rattle.std.proofs.Common.{rules, ◌≡◌, ◌≢◌, None, Some, pos, ◌-ℤ◌, refl, ◌∙◌, to_z, of_z, arith}
-use Rattle.std.specs.Int.{w128}
-use Rattle.std.proofs.lemmas.Int.{ints, to_z-of_z}
-use Rattle.base.specs.Costs.{energy}
-use Rattle.bits_model.specs.Output.{form_of}
-use Rattle.bits_model.proofs.Energies.{size-energy}
-use Rattle.posiform_check.specs.BitForms.{certificate_list, model_list}
-use Rattle.posiform_check.specs.Certificates.{first_negative}
-use Rattle.posiform_check.specs.Differences.{difference}
+use Rattle.posiform_check.proofs.Common.{rules, ◌≡◌, ◌≢◌, None, Some, pos, ◌-ℤ◌, refl, ◌∙◌, to_z, of_z, arith, w128, ints, to_z-of_z, energy, form_of, size-energy, certificate_list, model_list, first_negative, difference}
 use Rattle.posiform_check.proofs.FirstFaults.{fault_from, first_above, first_faults_tell}
 use Rattle.posiform_check.proofs.proving.prove.Goals as goal
 
 pub returns-in-Some-clause-first : goal.returns-in-Some-clause-first
 returns-in-Some-clause-first c =
-    let cert = c.args.certificate.now in
-    let line : first_negative cert.lines ≡ Some c.in-Some.line = search rules in
-    fault_from c.args.model.now cert c.args.y.now _ _ _ line refl refl
+    let line : first_negative c.args.certificate.now.lines ≡ Some c.in-Some.line = search rules in
+    fault_from c.args.model.now c.args.certificate.now c.args.y.now _ _ _ line refl refl
 
 pub returns-in-Some-2-clause-first : goal.returns-in-Some-2-clause-first
 returns-in-Some-2-clause-first c =
-    let m = c.args.model.now in
     let cert = c.args.certificate.now in
     let none : first_negative cert.lines ≡ None = search rules in
     let ours = c.in-Some-2.ours in
     let theirs = c.in-Some-2.theirs in
     let found : Some (ours, theirs)
-    ≡ difference (model_list m) (certificate_list cert) = search rules in
+    ≡ difference (model_list c.args.model.now) (certificate_list cert) = search rules in
     let our_own : to_z w128 (of_z w128 ours) ≡ ours = to_z-of_z w128 ours (search rules) in
     let their_own : to_z w128 (of_z w128 theirs) ≡ theirs = to_z-of_z w128 theirs (search rules) in
-    rw (our_own, their_own) (fault_from m cert c.args.y.now _ _ _ none found refl)
+    rw (our_own, their_own) (fault_from c.args.model.now cert c.args.y.now _ _ _ none found refl)
 
 pub returns-in-Some-2-clause-refused : goal.returns-in-Some-2-clause-refused
 returns-in-Some-2-clause-refused c =
@@ -39,11 +29,9 @@ above-requires-clause-energy c =
     let m = c.args.model.now in
     let value : to_z w128 (of_z w128 c.total_energy-energy.result)
     ≡ energy (form_of m) c.args.y.now = search rules in
-    rw value
-    (omega (arith, size-energy m.kind c.args.y.now m.entries, c.requires.small))
+    rw value (omega (arith, size-energy m.kind c.args.y.now m.entries, c.requires.small))
 
-pub returns-then-energy-certificate-clause-first :
-    goal.returns-then-energy-certificate-clause-first
+pub returns-then-energy-certificate-clause-first : goal.returns-then-energy-certificate-clause-first
 returns-then-energy-certificate-clause-first c =
     let m = c.args.model.now in
     let cert = c.args.certificate.now in

@@ -1,12 +1,4 @@
-use Rattle.std.proofs.Common.{rules, ◌≡◌, ◌∙◌, ap, sym, subst, to_z, of_z, arith}
-use Rattle.std.specs.Int.{w128}
-use Rattle.std.specs.List.{flat_map}
-use Rattle.std.proofs.lemmas.Int.{ints}
-use Rattle.term_table.specs.Terms.{coefficient_of}
-use Rattle.term_table.specs.Tables.{AreAdditions, with_more}
-use Rattle.posiform_check.specs.declared.lines.Line.{Line}
-use Rattle.posiform_check.specs.BitForms.{line_terms}
-use Rattle.posiform_check.specs.Certificates.{IsCertificate}
+use Rattle.posiform_check.proofs.Common.{rules, ◌≡◌, ◌∙◌, ap, sym, subst, to_z, of_z, arith, w128, flat_map, ints, coefficient_of, AreAdditions, with_more, Line, line_terms, IsCertificate}
 use Rattle.posiform_check.proofs.Sums.{coefficients-append}
 use Rattle.posiform_check.proofs.SumLines.{lines_fit, next_line_fits, split_lines}
 use Rattle.posiform_check.proofs.quick.add_each_line.Goals as goal
@@ -20,13 +12,9 @@ loop-literals-init c =
     let fits = lines_fit long.width cert is c.requires.few c.requires.nodes in
     record {
       whole = λ set.
-          omega (
-            arith,
-            ints,
-            coefficients-append set c.args.sums.now long.terms,
-            ap (coefficient_of set) c.requires.none,
-            ap (λ ls. coefficient_of set (flat_map line_terms ls)) items,
-          );
+          let coefficients_append = coefficients-append set c.args.sums.now long.terms in
+          let same = ap (λ ls. coefficient_of set (flat_map line_terms ls)) items in
+          omega (arith, ints, ap (coefficient_of set) c.requires.none);
       fits = rw items
           (subst (λ ts. AreAdditions (with_more (record { width = long.width; terms = ts })
           (flat_map line_terms cert.lines))) (sym c.requires.none) fits);
@@ -49,7 +37,6 @@ add_line-requires-clause-fits c =
 
 pub loop-literals-preserved : goal.loop-literals-preserved
 loop-literals-preserved c =
-    let h = c.loop-literals.invariant in
     let l : Line = c.in-Some.field-0 in
     let parts = c.literals.inside in
     let set : c.deref.result.now ≡ l.literals =
@@ -65,25 +52,16 @@ loop-literals-preserved c =
     let kept = rw (set, coefficient) at c.in_ok-add_line.ensures.left in
     record {
       whole = λ ks.
-          omega (
-            arith,
-            ints,
-            h.whole ks,
-            ap (λ ls. coefficient_of ks (flat_map line_terms ls)) steps,
-            coefficients-append ks (line_terms l) (flat_map line_terms rest),
-            added ks,
-          );
+          let same = ap (λ ls. coefficient_of ks (flat_map line_terms ls)) steps in
+          let coefficients_append = coefficients-append ks (line_terms l) (flat_map line_terms rest) in
+          omega (arith, ints, c.loop-literals.invariant.whole ks, added ks);
       fits = kept (flat_map line_terms rest)
-          (split_lines c.loop-literals.long l left rest steps h.fits);
+          (split_lines c.loop-literals.long l left rest steps c.loop-literals.invariant.fits);
       list = c.in_ok-add_line.ensures.list;
     }
 
 pub returns : goal.returns
 returns c =
     λ set.
-    omega (
-      arith,
-      ints,
-      c.loop-literals.invariant.whole set,
-      ap (λ ls. coefficient_of set (flat_map line_terms ls)) c.in-None.ensures.steps.0,
-    )
+    let same = ap (λ ls. coefficient_of set (flat_map line_terms ls)) c.in-None.ensures.steps.0 in
+    omega (arith, ints, c.loop-literals.invariant.whole set)

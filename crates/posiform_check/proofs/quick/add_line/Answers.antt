@@ -1,8 +1,4 @@
-use Rattle.std.proofs.Common.{rules, ◌≡◌, ap, ◌∙◌, to_z, of_z, ◌++◌, refl}
-use Rattle.std.specs.Int.{w128}
-use Rattle.term_table.specs.Tables.{with_more}
-use Rattle.term_table.specs.MultipliedOut.{plain_terms}
-use Rattle.normal_form.proofs.PlainSteps.{additions_second}
+use Rattle.posiform_check.proofs.Common.{rules, ◌≡◌, ap, ◌∙◌, to_z, of_z, ◌++◌, refl, w128, with_more, plain_terms, additions_second}
 use Rattle.posiform_check.proofs.SumLines.{additions_without, behind_empty, more_before, more_behind}
 use Rattle.posiform_check.proofs.quick.add_line.Goals as goal
 
@@ -33,8 +29,7 @@ returns-in_ok-add_plain_terms-clause-added c =
     let long = c.args.long.now in
     let made = rw own at c.in_ok-add_plain_terms.ensures.added in
     let all = made ∙ ap (with_more long) (behind_empty c.args.list.now.items ts c.requires.list) in
-    more_behind long.terms c.add_plain_terms.new.terms.terms ts c.args.sums.now
-    (λ i. (all i).terms)
+    more_behind long.terms c.add_plain_terms.new.terms.terms ts c.args.sums.now (λ i. (all i).terms)
 
 pub returns-in_ok-add_plain_terms-clause-left : goal.returns-in_ok-add_plain_terms-clause-left
 returns-in_ok-add_plain_terms-clause-left c =

@@ -1,10 +1,4 @@
-use Rattle.std.proofs.Common.{ap, sym, subst, arith}
-use Rattle.std.proofs.lemmas.Int.{ints}
-use Rattle.std.proofs.lemmas.Result.{on_ok_weaker}
-use Rattle.term_table.specs.Terms.{coefficient_of}
-use Rattle.term_table.specs.Tables.{KeptTable}
-use Rattle.term_table.proofs.Additions.{coefficient_of-with_additions}
-use Rattle.posiform_check.specs.Certificates.{AreOfNodes}
+use Rattle.posiform_check.proofs.Common.{ap, sym, subst, arith, ints, on_ok_weaker, coefficient_of, KeptTable, coefficient_of-with_additions, AreOfNodes}
 use Rattle.posiform_check.proofs.Sums.{coefficients-append}
 use Rattle.posiform_check.proofs.quick.add_lines.Goals as goal
 
@@ -21,16 +15,12 @@ add_each_line-requires-clause-list c = c.new-list.ensures.items
 
 pub returns : goal.returns
 returns c =
-    let long = c.add_each_line.new.long.terms in
-    on_ok_weaker c.add_table.result
-    (λ more set.
-    omega (
+    on_ok_weaker c.add_table.result (λ more set. omega (
       arith,
       ints,
       c.in_ok-add_each_line.ensures set,
-      coefficients-append set c.add_each_line.new.sums long,
+      coefficients-append set c.add_each_line.new.sums c.add_each_line.new.long.terms,
       more set,
       ap (λ (t : KeptTable). coefficient_of set t.content.terms) c.into_table.ensures,
-      coefficient_of-with_additions set long,
-    ))
-    c.add_table.ensures
+      coefficient_of-with_additions set c.add_each_line.new.long.terms,
+    )) c.add_table.ensures

@@ -1,8 +1,4 @@
-use Rattle.std.proofs.Common.{rules, ◌≡◌, ap, arith, to_z, of_z}
-use Rattle.std.specs.Int.{w128}
-use Rattle.std.proofs.lemmas.Int.{ints}
-use Rattle.std.proofs.lemmas.Map.Iter.{rest_more}
-use Rattle.term_table.specs.Terms.{coefficient_of}
+use Rattle.posiform_check.proofs.Common.{rules, ◌≡◌, ap, arith, to_z, of_z, w128, ints, rest_more, coefficient_of}
 use Rattle.posiform_check.proofs.quick.add_table.Goals as goal
 
 pub loop-set-preserved : goal.loop-set-preserved
@@ -12,11 +8,4 @@ loop-set-preserved c =
     (c.in-Some.set, c.in-Some.coefficient) c.in-Some.is c.next.ensures.steps in
     let back : to_z w128 (of_z w128 c.in-Some.coefficient) ≡ c.in-Some.coefficient = search rules in
     let added = rw back at c.in_ok-add_set.ensures in
-    λ set.
-    omega (
-      arith,
-      ints,
-      c.loop-set.invariant set,
-      ap (coefficient_of set) left,
-      added set,
-    )
+    λ set. omega (arith, ints, c.loop-set.invariant set, ap (coefficient_of set) left, added set)

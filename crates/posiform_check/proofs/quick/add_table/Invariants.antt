@@ -1,6 +1,4 @@
-use Rattle.std.proofs.Common.{◌≡◌, ◌+ℤ◌, List}
-use Rattle.literal_lists.specs.declared.literal.Literal.{Literal}
-use Rattle.term_table.specs.Terms.{coefficient_of}
+use Rattle.posiform_check.proofs.Common.{◌≡◌, ◌+ℤ◌, List, Literal, coefficient_of}
 use Rattle.posiform_check.proofs.quick.add_table.Given as goal
 
 -- the sums and the terms that are left are the sums at first and all terms

@@ -1,5 +1,4 @@
-use Rattle.std.proofs.Common.{arith}
-use Rattle.std.proofs.lemmas.Int.{ints}
+use Rattle.posiform_check.proofs.Common.{arith, ints}
 use Rattle.posiform_check.proofs.quick.find_same.Goals as goal
 
 pub returns-then-branch : goal.returns-then-branch

@@ -1,7 +1,4 @@
-use Rattle.std.proofs.Common.{rules, ◌≡◌, true, false, pos, ◌+ℤ◌, to_z, of_z}
-use Rattle.std.specs.Int.{w128}
-use Rattle.std.proofs.lemmas.Result.{on_ok_weaker}
-use Rattle.bits_model.specs.Output.{is_node}
+use Rattle.posiform_check.proofs.Common.{rules, ◌≡◌, true, false, pos, ◌+ℤ◌, to_z, of_z, w128, on_ok_weaker, is_node}
 use Rattle.posiform_check.proofs.Sums.{take_back}
 use Rattle.posiform_check.proofs.quick.take_bits.Goals as goal
 
@@ -20,9 +17,8 @@ returns-else-first-second c =
     let pair : is_node c.args.entry ≡ false = search rules in
     let less : to_z w128 (of_z w128 c.in_ok-less.less) +ℤ c.args.entry.weight ≡ pos 0 =
     search rules in
-    let first = c.from-else-first-second.ensures in
     let second = c.from-else-first-second-2.ensures in
     rw pair (
     on_ok_weaker c.add_pair.result (take_back _ _ _ _ _ less)
-    (rw (first, second) at c.add_pair.ensures)
+    (rw (c.from-else-first-second.ensures, second) at c.add_pair.ensures)
     )

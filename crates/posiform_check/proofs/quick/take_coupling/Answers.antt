@@ -1,7 +1,4 @@
-use Rattle.std.proofs.Common.{rules, ◌≡◌, [], pos, neg_ℤ, ◌+ℤ◌, ◌*ℤ◌, arith, to_z, of_z}
-use Rattle.std.specs.Int.{w128}
-use Rattle.std.proofs.lemmas.Int.{ints}
-use Rattle.posiform_check.specs.BitForms.{node_set, pair_set}
+use Rattle.posiform_check.proofs.Common.{rules, ◌≡◌, [], pos, neg_ℤ, ◌*ℤ◌, arith, to_z, of_z, w128, ints, node_set, pair_set}
 use Rattle.posiform_check.proofs.Sums.{take_back}
 use Rattle.posiform_check.proofs.quick.take_coupling.Goals as goal
 
@@ -11,35 +8,25 @@ returns c =
     let w = e.weight in
     let own : to_z w128 (of_z w128 w) ≡ w = search rules in
     let less_own : to_z w128 (of_z w128 c.in_ok-less.less) ≡ c.in_ok-less.less = search rules in
-    let less : c.in_ok-less.less ≡ neg_ℤ (to_z w128 (of_z w128 w)) = c.in_ok-less.ensures in
-    let twice_own : to_z w128 (of_z w128 c.in_ok-twice.twice) ≡ c.in_ok-twice.twice =
-    search rules in
-    let twice : c.in_ok-twice.twice
-    ≡ to_z w128 (of_z w128 w) +ℤ to_z w128 (of_z w128 w) = c.in_ok-twice.ensures in
-    let down_own : to_z w128 (of_z w128 c.in_ok-twice_less.twice_less)
-    ≡ c.in_ok-twice_less.twice_less = search rules in
-    let down : c.in_ok-twice_less.twice_less
-    ≡ to_z w128 (of_z w128 c.in_ok-less.less) +ℤ to_z w128 (of_z w128 c.in_ok-less.less) =
-    c.in_ok-twice_less.ensures in
+    let twice_own : to_z w128 (of_z w128 c.in_ok-twice.twice) ≡ c.in_ok-twice.twice = search rules in
+    let down = c.in_ok-twice_less.twice_less in
+    let down_own : to_z w128 (of_z w128 down) ≡ down = search rules in
     let four_own : to_z w128 (of_z w128 c.in_ok-sum.field-0) ≡ c.in_ok-sum.field-0 = search rules in
-    let four : c.in_ok-sum.field-0
-    ≡ to_z w128 (of_z w128 c.in_ok-twice_less.twice_less)
-    +ℤ to_z w128 (of_z w128 c.in_ok-twice_less.twice_less) = c.in_ok-sum.ensures in
     let first : c.from.result ≡ e.first = search rules in
     let second : c.from-2.result ≡ e.second = search rules in
     let first' : c.from-3.result ≡ e.first = search rules in
     let second' : c.from-4.result ≡ e.second = search rules in
     let a = take_back c.args.sums.now c.add_constant.new.self [] w
-    (to_z w128 (of_z w128 c.in_ok-less.less)) (omega (arith, ints, own, less_own, less))
+    (to_z w128 (of_z w128 c.in_ok-less.less)) (omega (arith, ints, c.in_ok-less.ensures))
     c.in_ok-add_constant.ensures in
     let b = take_back c.add_constant.new.self c.add_node.new.self (node_set e.first)
     (neg_ℤ (pos 2 *ℤ w)) (to_z w128 (of_z w128 c.in_ok-twice.twice))
-    (omega (arith, ints, own, twice_own, twice)) (rw first at c.in_ok-add_node.ensures) in
+    (omega (arith, ints, c.in_ok-twice.ensures)) (rw first at c.in_ok-add_node.ensures) in
     let d = take_back c.add_node.new.self c.add_node-2.new.self (node_set e.second)
     (neg_ℤ (pos 2 *ℤ w)) (to_z w128 (of_z w128 c.in_ok-twice.twice))
-    (omega (arith, ints, own, twice_own, twice)) (rw second at c.in_ok-add_node-2.ensures) in
+    (omega (arith, ints, c.in_ok-twice.ensures)) (rw second at c.in_ok-add_node-2.ensures) in
     let f = take_back c.add_node-2.new.self c.add_pair.new.self (pair_set e.first e.second)
     (pos 4 *ℤ w) (to_z w128 (of_z w128 c.in_ok-sum.field-0))
-    (omega (arith, ints, own, less_own, less, down_own, down, four_own, four))
+    (omega (arith, ints, c.in_ok-less.ensures, c.in_ok-twice_less.ensures, c.in_ok-sum.ensures))
     (rw (first', second') at c.in_ok-add_pair.ensures) in
     λ set. omega (arith, ints, a set, b set, d set, f set)

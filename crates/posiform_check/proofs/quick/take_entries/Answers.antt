@@ -1,9 +1,4 @@
-use Rattle.std.proofs.Common.{ap, arith}
-use Rattle.std.proofs.lemmas.Int.{ints}
-use Rattle.std.specs.List.{flat_map}
-use Rattle.std.proofs.lemmas.Map.Iter.{rest_more}
-use Rattle.term_table.specs.Terms.{coefficient_of}
-use Rattle.posiform_check.specs.BitForms.{entry_terms}
+use Rattle.posiform_check.proofs.Common.{ap, arith, ints, flat_map, rest_more, coefficient_of, entry_terms}
 use Rattle.posiform_check.proofs.Sums.{coefficients-append}
 use Rattle.posiform_check.proofs.quick.take_entries.Goals as goal
 
@@ -14,12 +9,7 @@ loop-entry-preserved c =
     c.in-Some.is c.next.ensures.steps in
     let kind = c.args.kind in
     λ set.
-    omega (
-      arith,
-      ints,
-      c.loop-entry.invariant set,
-      ap (λ es. coefficient_of set (flat_map (entry_terms kind) es)) left,
-      coefficients-append set (entry_terms kind c.in-Some.entry)
-          (flat_map (entry_terms kind) c.next.new.self),
-      c.in_ok-take_entry.ensures set,
-    )
+    let same = ap (λ es. coefficient_of set (flat_map (entry_terms kind) es)) left in
+    let coefficients_append = coefficients-append set (entry_terms kind c.in-Some.entry)
+    (flat_map (entry_terms kind) c.next.new.self) in
+    omega (arith, ints, c.loop-entry.invariant set, c.in_ok-take_entry.ensures set)

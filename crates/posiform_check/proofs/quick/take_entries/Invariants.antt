@@ -1,8 +1,4 @@
-use Rattle.std.proofs.Common.{◌≡◌, ◌+ℤ◌, List}
-use Rattle.std.specs.List.{flat_map}
-use Rattle.literal_lists.specs.declared.literal.Literal.{Literal}
-use Rattle.term_table.specs.Terms.{coefficient_of}
-use Rattle.posiform_check.specs.BitForms.{entry_terms}
+use Rattle.posiform_check.proofs.Common.{◌≡◌, ◌+ℤ◌, List, flat_map, Literal, coefficient_of, entry_terms}
 use Rattle.posiform_check.proofs.quick.take_entries.Given as goal
 
 -- the sums less the entries that are left are those at first less all

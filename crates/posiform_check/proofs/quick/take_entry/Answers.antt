@@ -1,10 +1,4 @@
-use Rattle.std.proofs.Common.{rules, ◌≡◌, [], ◌∷◌, List, pos, neg_ℤ, ◌*ℤ◌, OnOk, sym, subst, arith, is_eq, to_z, of_z}
-use Rattle.std.specs.Int.{w128}
-use Rattle.std.proofs.lemmas.Int.{ints}
-use Rattle.std.proofs.lemmas.Result.{on_ok_weaker}
-use Rattle.term_table.specs.Terms.{set_cmp, Term}
-use Rattle.posiform_check.specs.BitForms.{entry_terms, coupling_sets, node_set}
-use Rattle.posiform_check.specs.Sums.{HasMore}
+use Rattle.posiform_check.proofs.Common.{rules, ◌≡◌, [], ◌∷◌, List, pos, neg_ℤ, ◌*ℤ◌, OnOk, sym, subst, arith, is_eq, to_z, of_z, w128, ints, on_ok_weaker, set_cmp, Term, entry_terms, coupling_sets, node_set, HasMore}
 use Rattle.posiform_check.proofs.Sums.{nothing-given}
 use Rattle.posiform_check.proofs.quick.take_entry.Goals as goal
 

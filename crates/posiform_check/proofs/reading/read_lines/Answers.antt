@@ -1,15 +1,4 @@
-use Rattle.std.proofs.Common.{ℤ, List, ◌≡◌, ◌+ℤ◌, ◌++◌, sym, ap, subst, ◌∙◌, to_z, of_z, arith, rules, pos, [], refl}
-use Rattle.std.specs.Int.{w128}
-use Rattle.std.proofs.lemmas.List.Elements.{All-nil}
-use Rattle.std.proofs.lemmas.Result.{err_from_is_err_and}
-use Rattle.whole_text.specs.TokenTexts.{word_of}
-use Rattle.whole_text.specs.Steps.{Fails}
-use Rattle.whole_text.specs.Rows.{left}
-use Rattle.posiform_check.specs.declared.lines.Line.{Line}
-use Rattle.posiform_check.specs.BitForms.{CertificateContent}
-use Rattle.posiform_check.specs.Certificates.{IsLine}
-use Rattle.posiform_check.specs.Texts.{written, bound_of, kept_line}
-use Rattle.posiform_check.specs.ReadingSteps.{with_line, lines_put}
+use Rattle.posiform_check.proofs.Common.{ℤ, List, ◌≡◌, ◌+ℤ◌, ◌++◌, sym, ap, subst, ◌∙◌, to_z, of_z, arith, rules, pos, [], refl, w128, All-nil, err_from_is_err_and, word_of, Fails, left, Line, CertificateContent, IsLine, written, bound_of, kept_line, with_line, lines_put}
 use Rattle.posiform_check.proofs.ReadSteps.{line_goes_on, line_fails, lines_end, lines_all, next_left}
 use Rattle.posiform_check.proofs.KeptLines.{more_good, more_within, with_line-total}
 use Rattle.posiform_check.proofs.reading.read_lines.Goals as goal
@@ -45,27 +34,19 @@ loop-next-preserved c =
     record {
       read = ap (λ (t : CertificateContent). lines_put c.args.nodes t rest) state
           ∙ sym (line_goes_on c.args.nodes s w c.loop-next.words rest l
-          c.in_ok-coefficient.ensures.read)
-          ∙ before;
+          c.in_ok-coefficient.ensures.read) ∙ before;
       lines = rw lines (more_good s l c.loop-next.invariant.lines);
-      small = rw (bound, lines)
-          (omega (
-            arith,
-            with_line-total s l,
-            c.in_ok-coefficient.ensures.small,
-            c.in_ok-coefficient.ensures.shorter,
-            small,
-          ));
-      nodes = rw lines
-          (more_within c.args.nodes s l c.loop-next.invariant.nodes
+      small =
+          let w = c.in_ok-coefficient.ensures in
+          rw (bound, lines) (omega (arith, with_line-total s l, small, w.small, w.shorter));
+      nodes = rw lines (more_within c.args.nodes s l c.loop-next.invariant.nodes
           c.in_ok-coefficient.ensures.within);
     }
 
 pub loop-next-init : goal.loop-next-init
 loop-next-init c =
-    let next = c.next-next.result in
-    let whole : left next c.next-next.new.self ≡ c.args.words =
-    next_left next c.args.words c.next-next.new.self c.next-next.ensures in
+    let whole : left c.next-next.result c.next-next.new.self ≡ c.args.words =
+    next_left c.next-next.result c.args.words c.next-next.new.self c.next-next.ensures in
     let empty = c.requires.none in
     record {
       read = (λ i. lines_put c.args.nodes (so_far (pos 0) (empty i)) (whole i))

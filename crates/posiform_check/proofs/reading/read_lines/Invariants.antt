@@ -1,8 +1,4 @@
-use Rattle.std.proofs.Common.{◌≡◌, ◌+◌, ◌*◌, ◌^◌, ◌<◌, All, length}
-use Rattle.whole_text.specs.Rows.{left}
-use Rattle.posiform_check.specs.Certificates.{IsLine, certificate_total, AreOfNodes}
-use Rattle.posiform_check.specs.Texts.{reading_of_words}
-use Rattle.posiform_check.specs.ReadingSteps.{lines_put}
+use Rattle.posiform_check.proofs.Common.{◌≡◌, ◌+◌, ◌*◌, ◌^◌, ◌<◌, All, length, left, IsLine, certificate_total, AreOfNodes, reading_of_words, lines_put}
 use Rattle.posiform_check.proofs.reading.read_lines.Given as goal
 
 -- the certificate so far, with the lines that are left, is that of all; and each took a word at

@@ -1,6 +1,4 @@
-use Rattle.std.proofs.Common.{◌∷◌, [], map, take}
-use Rattle.posiform_check.specs.BitForms.{AreSameForms}
-use Rattle.posiform_check.specs.Sums.{pair_term, sum_term}
+use Rattle.posiform_check.proofs.Common.{◌∷◌, [], map, take, AreSameForms, pair_term, sum_term}
 use Rattle.posiform_check.proofs.set_sums.pairs_cancel.Given as goal
 
 -- the terms so far come to the sum

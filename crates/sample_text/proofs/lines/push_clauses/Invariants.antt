@@ -1,6 +1,4 @@
-use Rattle.std.proofs.Common.{◌≡◌, ◌-◌, ◌++◌}
-use Rattle.std.specs.List.{flat_map}
-use Rattle.sample_text.specs.Sample.{drawn_clauses, line}
+use Rattle.sample_text.proofs.Common.{◌≡◌, ◌-◌, ◌++◌, flat_map, drawn_clauses, line}
 use Rattle.sample_text.proofs.lines.push_clauses.Given as goal
 
 -- the text so far and the clauses that are left are the whole

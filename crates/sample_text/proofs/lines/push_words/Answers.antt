@@ -1,5 +1,4 @@
-use Rattle.std.proofs.Common.{rules, ◌≡◌, ◌++◌, ◌∷◌}
-use Rattle.std.specs.Fmt.{decimal, signed_decimal}
+use Rattle.sample_text.proofs.Common.{rules, ◌≡◌, ◌++◌, ◌∷◌, decimal, signed_decimal}
 use Rattle.sample_text.proofs.Clauses.{words_added}
 use Rattle.sample_text.proofs.lines.push_words.Goals as goal
 

@@ -1,6 +1,4 @@
-use Rattle.std.proofs.Common.{sym, subst, ◌∙◌}
-use Rattle.wbo_reader.specs.Wbo.{IsWbo}
-use Rattle.wbo_reader.proofs.Rewritten.{carries_assignments}
+use Rattle.source_texts.proofs.Common.{sym, subst, ◌∙◌, IsWbo, carries_assignments}
 use Rattle.source_texts.proofs.carrying.soft_cost.Goals as goal
 
 -- the extension costs in the rewritten problem what the assignment costs

@@ -1,7 +1,4 @@
-use Rattle.std.proofs.Common.{◌≡◌, [], sym, ap, subst, ◌∙◌}
-use Rattle.whole_text.specs.Steps.{Gives}
-use Rattle.whole_text.specs.Tokens.{tokens_of}
-use Rattle.source_texts.specs.Sources.{problem_of_words, style_of}
+use Rattle.source_texts.proofs.Common.{◌≡◌, [], sym, ap, subst, ◌∙◌, Gives, tokens_of, problem_of_words, style_of}
 use Rattle.source_texts.proofs.Standing.{words_read}
 use Rattle.source_texts.proofs.reading.read_source.Goals as goal
 

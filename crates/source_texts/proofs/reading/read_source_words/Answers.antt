@@ -1,13 +1,5 @@
 -- What the reader of a format makes of words is what they are read into.
-use Rattle.std.proofs.Common.{rules, ◌≡◌, List, Result, Ok, sym, ap, subst, ◌∙◌}
-use Rattle.whole_text.specs.declared.faults.TextAnswer.{TextAnswer}
-use Rattle.whole_text.specs.declared.faults.TextFault.{TextFault}
-use Rattle.whole_text.specs.Tokens.{Word}
-use Rattle.whole_text.specs.Steps.{Gives}
-use Rattle.whole_text.specs.TokenTexts.{words_of}
-use Rattle.command_words.specs.declared.commands.Format.{Format}
-use Rattle.source_texts.specs.declared.reading.Read.{Read}
-use Rattle.source_texts.specs.Sources.{problem_of_words}
+use Rattle.source_texts.proofs.Common.{rules, ◌≡◌, List, Result, Ok, sym, ap, subst, ◌∙◌, TextAnswer, TextFault, Word, Gives, words_of, Format, Read, problem_of_words}
 use Rattle.source_texts.proofs.WcnfTexts.{wcnf_words}
 use Rattle.source_texts.proofs.OpbTexts.{opb_words}
 use Rattle.source_texts.proofs.WboTexts.{wbo_words}

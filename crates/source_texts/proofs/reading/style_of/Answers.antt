@@ -1,5 +1,4 @@
-use Rattle.std.proofs.Common.{ap, sym}
-use Rattle.source_texts.specs.Sources.{style_of}
+use Rattle.source_texts.proofs.Common.{ap, sym, style_of}
 use Rattle.source_texts.proofs.reading.style_of.Goals as goal
 
 pub returns-in-Wbo : goal.returns-in-Wbo

@@ -1,16 +1,13 @@
-use Rattle.std.proofs.Common.{rules, ◌≡◌, ◌∷◌, [], ◌-ℤ◌, arith, false, int_le, to_z, of_z}
-use Rattle.std.specs.Int.{w128}
-use Rattle.wbo_reader.specs.Rewriting.{least_sum}
+use Rattle.wbo_reader.proofs.Common.{rules, ◌≡◌, ◌∷◌, [], ◌-ℤ◌, arith, false, int_le, to_z, of_z, w128, least_sum}
 use Rattle.wbo_reader.proofs.Copied.{eased_pushed}
 use Rattle.wbo_reader.proofs.Sound.{least_size}
 use Rattle.wbo_reader.proofs.copying.ease.Goals as goal
 
 pub gap-gap-requires-clause-sum : goal.gap-gap-requires-clause-sum
 gap-gap-requires-clause-sum c =
-    let k = c.args.written.now in
     let value : to_z w128 (of_z w128 c.least_sum-low.result)
-    ≡ least_sum k.products = search rules in
-    rw value (omega (arith, least_size k.products, c.requires.small))
+    ≡ least_sum c.args.written.now.products = search rules in
+    rw value (omega (arith, least_size c.args.written.now.products, c.requires.small))
 
 pub returns : goal.returns
 returns c =

@@ -1,11 +1,4 @@
-use Rattle.std.proofs.Common.{rules, ◌≡◌, ◌+◌, ◌+ℤ◌, ◌∙◌, ◌∷◌, ap, to_z, of_z, unsigned_abs, arith}
-use Rattle.std.specs.Int.{w128}
-use Rattle.std.proofs.lemmas.Int.{ints}
-use Rattle.std.proofs.lemmas.List.Sums.{sum_by-cons}
-use Rattle.base.proofs.Totals.{size-plus}
-use Rattle.problem_form.specs.declared.terms.Product.{Product}
-use Rattle.problem_form.specs.Problems.{products_total}
-use Rattle.wbo_reader.specs.Rewriting.{least_part, least_sum}
+use Rattle.wbo_reader.proofs.Common.{rules, ◌≡◌, ◌+◌, ◌+ℤ◌, ◌∙◌, ◌∷◌, ap, to_z, of_z, unsigned_abs, arith, w128, ints, sum_by-cons, size-plus, Product, products_total, least_part, least_sum}
 use Rattle.wbo_reader.proofs.Copied.{least_part-size, least_sum-cons}
 use Rattle.wbo_reader.proofs.copying.least_sum.Goals as goal
 

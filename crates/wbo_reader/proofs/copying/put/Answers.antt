@@ -1,6 +1,4 @@
-use Rattle.std.proofs.Common.{◌≡◌, ◌∷◌, [], subst, OnOk}
-use Rattle.problem_form.specs.declared.terms.Constraint.{Constraint}
-use Rattle.wbo_reader.specs.Rewriting.{with_rows}
+use Rattle.wbo_reader.proofs.Common.{◌≡◌, ◌∷◌, [], subst, OnOk, Constraint, with_rows}
 use Rattle.wbo_reader.proofs.Added.{row_normal, row_small, row_within}
 use Rattle.wbo_reader.proofs.Copied.{normal_itself}
 use Rattle.wbo_reader.proofs.copying.put.Goals as goal
@@ -17,7 +15,5 @@ returns c =
     let p = c.args.problem.now in
     let k = c.args.written.now in
     let same = normal_itself p.variables k (row_normal p k c.requires) in
-    subst
-    (λ (k : Constraint). OnOk c.add_constraint.result (c.add_constraint.new.self
-    ≡ with_rows p (k ∷ [])))
-    same c.add_constraint.ensures.added
+    subst (λ (k : Constraint). OnOk c.add_constraint.result (c.add_constraint.new.self
+    ≡ with_rows p (k ∷ []))) same c.add_constraint.ensures.added

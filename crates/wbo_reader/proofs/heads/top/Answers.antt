@@ -1,5 +1,4 @@
-use Rattle.std.proofs.Common.{sym}
-use Rattle.whole_text.specs.TokenTexts.{word_of}
+use Rattle.wbo_reader.proofs.Common.{sym, word_of}
 use Rattle.wbo_reader.proofs.LeastNumbers.{natural_least, not_zero}
 use Rattle.wbo_reader.proofs.heads.top.Goals as goal
 

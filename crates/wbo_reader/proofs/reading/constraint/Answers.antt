@@ -1,13 +1,4 @@
-use Rattle.std.proofs.Common.{◌≡◌, ap, ◌∙◌, to_z, of_z, arith, rules}
-use Rattle.std.specs.Int.{w128}
-use Rattle.std.proofs.lemmas.Int.{to_z-of_z}
-use Rattle.std.proofs.lemmas.Result.{err_from_is_err_and}
-use Rattle.problem_form.specs.Problems.{constraint_total}
-use Rattle.opb_reader.specs.Opb.{literals_in, widened}
-use Rattle.opb_reader.specs.Cost.{compared}
-use Rattle.opb_reader.proofs.Constraints.{compared-total}
-use Rattle.wbo_reader.specs.Wbo.{WboContent}
-use Rattle.wbo_reader.specs.Gathering.{with_weighed}
+use Rattle.wbo_reader.proofs.Common.{◌≡◌, ap, ◌∙◌, to_z, of_z, arith, rules, w128, to_z-of_z, err_from_is_err_and, constraint_total, literals_in, widened, compared, compared-total, WboContent, with_weighed}
 use Rattle.wbo_reader.proofs.Together.{with_constraint-total}
 use Rattle.wbo_reader.proofs.WeighedSteps.{front_fails, sum_fails, comparison_fails, weighed, weighed_is, added_is}
 use Rattle.wbo_reader.proofs.reading.constraint.Goals.{In_ok-add}
@@ -22,8 +13,7 @@ pub returns-in_err-next-clause-read : goal.returns-in_err-next-clause-read
 returns-in_err-next-clause-read c =
     let residual = c.from_residual-in_err-next in
     let p = err_from_is_err_and residual.result residual.ensures.1 in
-    rw (p.1, p.2)
-    (sum_fails _ _ _ _ _ _ _ _ c.in_ok-weight.ensures.read c.in_err-next.ensures.read)
+    rw (p.1, p.2) (sum_fails _ _ _ _ _ _ _ _ c.in_ok-weight.ensures.read c.in_err-next.ensures.read)
 
 pub returns-in_err-operator-clause-read : goal.returns-in_err-operator-clause-read
 returns-in_err-operator-clause-read c =
@@ -35,21 +25,14 @@ returns-in_err-operator-clause-read c =
 
 pub add-requires : goal.add-requires
 add-requires c =
-    let ts = c.sum.new.terms in
-    let operator = c.in_ok-operator.operator in
     let z = c.in_ok-operator.bound in
     let whole : to_z w128 (of_z w128 z) ≡ z = to_z-of_z w128 z (search rules) in
-    let written : c.compare.new.constraint ≡ compared operator ts z =
-    c.compare.ensures ∙ ap (compared operator ts) whole in
-    omega (
-      arith,
-      ap constraint_total written,
-      compared-total operator ts z,
-      c.requires.small,
-      c.in_ok-weight.ensures.small,
-      c.in_ok-next.ensures.small,
-      c.in_ok-operator.ensures.small,
-    )
+    let written : c.compare.new.constraint ≡ compared c.in_ok-operator.operator c.sum.new.terms z =
+    c.compare.ensures ∙ ap (compared c.in_ok-operator.operator c.sum.new.terms) whole in
+    let total = ap constraint_total written in
+    let front = c.in_ok-weight.ensures.small in
+    let sum = c.in_ok-next.ensures.small in
+    omega (arith, compared-total, c.requires.small, c.in_ok-operator.ensures.small)
 
 -- the source with the constraint that was read
 state : (c : In_ok-add)
@@ -73,14 +56,12 @@ pub returns-clause-small : goal.returns-clause-small
 returns-clause-small c =
     let s = c.args.gathered.now in
     let ts = c.sum.new.terms in
-    let operator = c.in_ok-operator.operator in
     let z = c.in_ok-operator.bound in
     let wide : WboContent = record s { variables = widened s.variables (literals_in ts) } in
-    rw (state (goal.at.returns-clause-small c).In_ok-add)
-    (omega (
+    rw (state (goal.at.returns-clause-small c).In_ok-add) (omega (
       arith,
-      with_constraint-total wide c.in_ok-weight.weight (compared operator ts z),
-      compared-total operator ts z,
+      with_constraint-total wide c.in_ok-weight.weight (compared c.in_ok-operator.operator ts z),
+      compared-total c.in_ok-operator.operator ts z,
       c.in_ok-weight.ensures.small,
       c.in_ok-next.ensures.small,
       c.in_ok-operator.ensures.small,

@@ -1,7 +1,4 @@
-use Rattle.std.proofs.Common.{sym, ap, ◌∙◌, length, arith}
-use Rattle.std.proofs.lemmas.Result.{err_from_is_err_and}
-use Rattle.whole_text.specs.TokenTexts.{word_of}
-use Rattle.wbo_reader.specs.Gathering.{constraints_read}
+use Rattle.wbo_reader.proofs.Common.{sym, ap, ◌∙◌, length, arith, err_from_is_err_and, word_of, constraints_read}
 use Rattle.wbo_reader.proofs.WeighedSteps.{constraint_goes_on, constraint_fails, constraints_end}
 use Rattle.wbo_reader.proofs.reading.constraints.Goals as goal
 
@@ -12,14 +9,10 @@ loop-first-preserved c =
     record {
       read = sym (constraint_goes_on c.loop-first.gathered c.constraint.new.gathered c.args.end w
           c.next.new.self c.constraint.new.words c.in_ok-constraint.ensures.shorter
-          c.in_ok-constraint.ensures.read)
-          ∙ before;
-      small = omega (
-        arith,
-        ap length c.in-Some.ensures,
-        c.in_ok-constraint.ensures.small,
-        c.loop-first.invariant.small,
-      );
+          c.in_ok-constraint.ensures.read) ∙ before;
+      small =
+          let long = ap length c.in-Some.ensures in
+          omega (arith, c.in_ok-constraint.ensures.small, c.loop-first.invariant.small);
       emptied = c.in_ok-constraint.ensures.emptied;
     }
 
@@ -36,6 +29,5 @@ returns-in_err-constraint-clause-read c =
 pub returns-clause-read : goal.returns-clause-read
 returns-clause-read c =
     let s = c.loop-first.gathered in
-    sym c.loop-first.invariant.read
-    ∙ ap (constraints_read s c.args.end) c.in_default.ensures.0
+    sym c.loop-first.invariant.read ∙ ap (constraints_read s c.args.end) c.in_default.ensures.0
     ∙ constraints_end s c.args.end

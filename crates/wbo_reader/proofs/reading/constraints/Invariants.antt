@@ -1,6 +1,4 @@
-use Rattle.std.proofs.Common.{◌≡◌, ◌+◌, ◌*◌, ◌^◌, ◌≤◌, [], length}
-use Rattle.wbo_reader.specs.Wbo.{wbo_total}
-use Rattle.wbo_reader.specs.Gathering.{constraints_read}
+use Rattle.wbo_reader.proofs.Common.{◌≡◌, ◌+◌, ◌*◌, ◌^◌, ◌≤◌, [], length, wbo_total, constraints_read}
 use Rattle.wbo_reader.proofs.reading.constraints.Given as goal
 
 -- the source so far, with the constraints that are left, is the source of all; and each took a word

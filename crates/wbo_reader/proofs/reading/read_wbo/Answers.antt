@@ -1,4 +1,4 @@
-use Rattle.std.proofs.Common.{[]}
+use Rattle.wbo_reader.proofs.Common.{[]}
 use Rattle.wbo_reader.proofs.reading.read_wbo.Goals as goal
 
 pub finish-requires : goal.finish-requires

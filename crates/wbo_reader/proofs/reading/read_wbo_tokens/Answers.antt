@@ -1,13 +1,4 @@
-use Rattle.std.proofs.Common.{◌≡◌, ◌≤◌, ◌^◌, ℕ, List, Option, length, Result, Ok, sym, ap, subst, ◌∙◌, arith}
-use Rattle.std.proofs.lemmas.Result.{err_from_is_err_and}
-use Rattle.whole_text.specs.declared.faults.TextFault.{TextFault}
-use Rattle.whole_text.specs.Tokens.{Word}
-use Rattle.whole_text.specs.TokenTexts.{words_of}
-use Rattle.whole_text.specs.Steps.{◌>>=◌, Fails, end_line}
-use Rattle.whole_text.proofs.Lengths.{few_words}
-use Rattle.wbo_reader.specs.Wbo.{WboContent, wbo_total}
-use Rattle.wbo_reader.specs.Reading.{content_of_words, head_at}
-use Rattle.wbo_reader.specs.Gathering.{nothing, constraints_read}
+use Rattle.wbo_reader.proofs.Common.{◌≡◌, ◌≤◌, ◌^◌, ℕ, List, Option, length, Result, Ok, sym, ap, subst, ◌∙◌, arith, err_from_is_err_and, TextFault, Word, words_of, ◌>>=◌, Fails, end_line, few_words, WboContent, wbo_total, content_of_words, head_at, nothing, constraints_read}
 use Rattle.wbo_reader.proofs.Together.{constraints_after, content_of_words-put}
 use Rattle.wbo_reader.proofs.Read.{read_is_wbo}
 use Rattle.wbo_reader.proofs.WeighedSteps.{head_fails}
@@ -35,20 +26,14 @@ returns-in_err-top c =
     let end = c.end_line-end.result in
     let words = c.words-words.result in
     let p = err_from_is_err_and c.from_residual.result c.from_residual.ensures.1 in
-    rw (p.1, p.2)
-    (whole text words end c.end_line-end.ensures c.words-words.ensures
+    rw (p.1, p.2) (whole text words end c.end_line-end.ensures c.words-words.ensures
     ∙ head_fails c.in_err-top.field-0.0 end (head_at end words) c.in_err-top.ensures.read)
 
 pub read_into-requires : goal.read_into-requires
 read_into-requires c =
-    omega (
-      arith,
-      ap wbo_total c.new-gathered.ensures,
-      c.requires,
-      few_words c.args.text.now,
-      ap length c.words-words.ensures,
-      c.in_ok-top.ensures.small,
-    )
+    let total = ap wbo_total c.new-gathered.ensures in
+    let long = ap length c.words-words.ensures in
+    omega (arith, c.requires, few_words c.args.text.now, c.in_ok-top.ensures.small)
 
 pub returns-in_err-read_into : goal.returns-in_err-read_into
 returns-in_err-read_into c =
@@ -65,21 +50,13 @@ returns-in_err-read_into c =
 pub into_wbo-requires : goal.into_wbo-requires
 into_wbo-requires c =
     let end = c.end_line-end.result in
-    let top = c.in_ok-top.top in
     let rest = c.head.new.words in
     let read = c.in_ok-read_into.ensures.read in
-    let few : length rest ≤ 2 ^ 24 =
-    omega (
-      arith,
-      c.requires,
-      few_words c.args.text.now,
-      ap length c.words-words.ensures,
-      c.in_ok-top.ensures.small,
-    ) in
-    read_is_wbo top end rest c.read_into.new.gathered
+    let few : length rest ≤ 2 ^ 24 = let ensures_is = ap length c.words-words.ensures in
+    omega (arith, c.requires, few_words c.args.text.now, c.in_ok-top.ensures.small) in
+    read_is_wbo c.in_ok-top.top end rest c.read_into.new.gathered
     (subst (λ (s : WboContent). constraints_read s end rest ≡ Ok c.read_into.new.gathered)
-    c.new-gathered.ensures read)
-    c.in_ok-top.ensures.some few c.in_ok-read_into.ensures.small
+    c.new-gathered.ensures read) c.in_ok-top.ensures.some few c.in_ok-read_into.ensures.small
 
 pub returns : goal.returns
 returns c =

@@ -1,9 +1,4 @@
-use Rattle.std.proofs.Common.{rules, ◌≡◌, ◌-ℤ◌, pos, [], ◌∷◌, map, subst, sym, ap, arith, to_z, of_z, OnOk}
-use Rattle.std.specs.Int.{w128}
-use Rattle.std.proofs.lemmas.Int.{ints}
-use Rattle.problem_form.specs.Fields.{IsSound}
-use Rattle.problem_form.specs.Problems.{ProblemContent, negated, products_total}
-use Rattle.wbo_reader.specs.Rewriting.{eased, eased_row, with_rows}
+use Rattle.wbo_reader.proofs.Common.{rules, ◌≡◌, ◌-ℤ◌, pos, [], ◌∷◌, map, subst, sym, ap, arith, to_z, of_z, OnOk, w128, ints, IsSound, ProblemContent, negated, products_total, eased, eased_row, with_rows}
 use Rattle.wbo_reader.proofs.Sound.{negated_total}
 use Rattle.wbo_reader.proofs.Steps.{first_eased, both_eased}
 use Rattle.wbo_reader.proofs.rewriting.add_soft.Goals.{After-negate}
@@ -11,25 +6,16 @@ use Rattle.wbo_reader.proofs.rewriting.add_soft.Goals as goal
 
 pub add_eased-requires-clause-sound : goal.add_eased-requires-clause-sound
 add_eased-requires-clause-sound c =
-    let p = c.args.problem.now in
     let k = c.args.constraint in
     let products : c.copy_products.new.list ≡ k.products = search rules in
     let bound : to_z w128 (of_z w128 c.constraint.inside.bound) ≡ k.bound = search rules in
-    first_eased p c.args.variable k _ _ c.requires.sound products bound
+    first_eased c.args.problem.now c.args.variable k _ _ c.requires.sound products bound
 
 pub add_eased-requires-2-clause-small : goal.add_eased-requires-2-clause-small
 add_eased-requires-2-clause-small c =
-    let k = c.args.constraint in
-    let products : c.negate.new.self ≡ map negated k.products = search rules in
-    let bound : c.constraint.inside.bound ≡ k.bound = search rules in
-    omega (
-      arith,
-      ints,
-      c.requires.small,
-      ap products_total products,
-      negated_total k.products,
-      bound,
-    )
+    let products : c.negate.new.self ≡ map negated c.args.constraint.products = search rules in
+    let bound : c.constraint.inside.bound ≡ c.args.constraint.bound = search rules in
+    omega (arith, ints, ap products_total products, negated_total, bound)
 
 -- both rows of an equation are added
 both : (c : After-negate)

@@ -1,10 +1,4 @@
-use Rattle.std.proofs.Common.{◌≡◌, rules, subst, sym, false, map, pos, ◌-ℤ◌, int_lt, to_z, of_z, List}
-use Rattle.std.specs.Int.{w128}
-use Rattle.problem_form.specs.declared.terms.Constraint.{Constraint}
-use Rattle.problem_form.specs.Fields.{IsSound}
-use Rattle.problem_form.specs.Limits.{own_upper}
-use Rattle.problem_form.specs.Problems.{negated}
-use Rattle.wbo_reader.specs.Rewriting.{with_rows}
+use Rattle.wbo_reader.proofs.Common.{◌≡◌, rules, subst, sym, false, map, pos, ◌-ℤ◌, int_lt, to_z, of_z, List, w128, Constraint, IsSound, own_upper, negated, with_rows}
 use Rattle.wbo_reader.proofs.Steps.{top_needed}
 use Rattle.wbo_reader.proofs.rewriting.add_top.Goals as goal
 

@@ -1,5 +1,4 @@
-use Rattle.std.proofs.Common.{◌≡◌, ◌<◌, ◌≤◌, length, All}
-use Rattle.wcnf_reader.specs.Views.{literals_read, bound_of}
+use Rattle.wcnf_reader.proofs.Common.{◌≡◌, ◌<◌, ◌≤◌, length, All, literals_read, bound_of}
 use Rattle.wcnf_reader.proofs.Loops.{with_front}
 use Rattle.wcnf_reader.proofs.listed.literals.Given as goal
 

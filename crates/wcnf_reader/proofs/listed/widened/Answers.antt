@@ -1,6 +1,4 @@
-use Rattle.std.proofs.Common.{◌≡◌, ◌+◌, max, get_or, false, sym, ap, ◌∙◌, arith}
-use Rattle.std.proofs.Math.Nat.{le-max_left, le-max_right}
-use Rattle.literal_lists.specs.declared.literal.Literal.{Literal}
+use Rattle.wcnf_reader.proofs.Common.{◌≡◌, ◌+◌, max, get_or, false, sym, ap, ◌∙◌, arith, le-max_left, le-max_right, Literal}
 use Rattle.wcnf_reader.proofs.Widening.{widened_more, all_within}
 use Rattle.wcnf_reader.proofs.listed.widened.Goals as goal
 

@@ -1,5 +1,4 @@
-use Rattle.std.proofs.Common.{◌≡◌, ◌<◌, ◌≤◌, take, All}
-use Rattle.wcnf_reader.specs.Views.{widened}
+use Rattle.wcnf_reader.proofs.Common.{◌≡◌, ◌<◌, ◌≤◌, take, All, widened}
 use Rattle.wcnf_reader.proofs.listed.widened.Given as goal
 
 -- so far it is the number for the literals so far

@@ -1,12 +1,4 @@
-use Rattle.std.proofs.Common.{sym, ◌∙◌, arith}
-use Rattle.std.proofs.lemmas.Result.{err_from_is_err_and}
-use Rattle.whole_text.specs.TokenTexts.{word_of}
-use Rattle.problem_form.specs.declared.terms.Clause.{Clause}
-use Rattle.problem_form.specs.NormalForm.{blank, with_variables}
-use Rattle.problem_form.proofs.KeptClauses.{with_clause-total}
-use Rattle.wcnf_reader.specs.Wcnf.{clauses_at}
-use Rattle.wcnf_reader.specs.Views.{header_of, problem_read}
-use Rattle.whole_text.proofs.Lengths.{next_less}
+use Rattle.wcnf_reader.proofs.Common.{sym, ◌∙◌, arith, err_from_is_err_and, word_of, Clause, blank, with_variables, with_clause-total, clauses_at, header_of, problem_read, next_less}
 use Rattle.wcnf_reader.proofs.Clauses.{read_into, clause_goes_on, clause_fails, no_clause, clauses_done, problem_read-blank}
 use Rattle.wcnf_reader.proofs.reading.counted.Goals as goal
 
@@ -45,21 +37,14 @@ loop-preserved c =
     let less = next_less end c.loop.words c.next_word.new.words (word_of c.in_ok-first.first)
     c.in_ok-first.ensures in
     record {
-      read = rw added
-          (clause_goes_on h h.clauses c.loop.counter end c.loop.problem c.loop.words
+      read = rw added (clause_goes_on h h.clauses c.loop.counter end c.loop.problem c.loop.words
           c.next_word.new.words c.clause.new.words (word_of c.in_ok-first.first) clause all
-          c.loop-test.true c.in_ok-first.ensures c.in_ok-weight.ensures.read
-          c.loop.invariant.read);
+          c.loop-test.true c.in_ok-first.ensures c.in_ok-weight.ensures.read c.loop.invariant.read);
       variables = rw added c.loop.invariant.variables;
-      small = rw added
-          (omega (
-            arith,
-            with_clause-total c.loop.problem clause,
-            c.in_ok-weight.ensures.small,
-            c.in_ok-weight.ensures.shorter,
-            less,
-            c.loop.invariant.small,
-          ));
+      small =
+          let w = c.in_ok-weight.ensures in
+          let small = c.loop.invariant.small in
+          rw added (omega (arith, with_clause-total, less, w.small, w.shorter));
       emptied = c.in_ok-add_literals.ensures.emptied;
     }
 
@@ -68,5 +53,4 @@ returns c =
     let h = header_of c.args.start in
     let all = problem_read-blank h c.args.end c.args.words.now in
     clauses_done h h.clauses c.loop.counter c.args.end c.loop.problem c.loop.words
-    (problem_read h c.args.end c.args.words.now) c.loop-test.false
-    (c.loop.invariant.read ∙ sym all)
+    (problem_read h c.args.end c.args.words.now) c.loop-test.false (c.loop.invariant.read ∙ sym all)

@@ -1,8 +1,4 @@
-use Rattle.std.proofs.Common.{◌≡◌, ◌+◌, ◌-◌, ◌*◌, ◌^◌, ◌≤◌, [], length}
-use Rattle.problem_form.specs.Problems.{problem_total}
-use Rattle.problem_form.specs.NormalForm.{blank, with_variables}
-use Rattle.wcnf_reader.specs.Wcnf.{clauses_at}
-use Rattle.wcnf_reader.specs.Views.{header_of}
+use Rattle.wcnf_reader.proofs.Common.{◌≡◌, ◌+◌, ◌-◌, ◌*◌, ◌^◌, ◌≤◌, [], length, problem_total, blank, with_variables, clauses_at, header_of}
 use Rattle.wcnf_reader.proofs.Clauses.{read_into}
 use Rattle.wcnf_reader.proofs.reading.counted.Given as goal
 

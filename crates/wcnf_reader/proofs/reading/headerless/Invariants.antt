@@ -1,7 +1,4 @@
-use Rattle.std.proofs.Common.{◌≡◌, ◌+◌, ◌*◌, ◌^◌, ◌≤◌, [], length}
-use Rattle.problem_form.specs.Problems.{problem_total}
-use Rattle.problem_form.specs.NormalForm.{blank}
-use Rattle.wcnf_reader.specs.Wcnf.{clauses_to_end}
+use Rattle.wcnf_reader.proofs.Common.{◌≡◌, ◌+◌, ◌*◌, ◌^◌, ◌≤◌, [], length, problem_total, blank, clauses_to_end}
 use Rattle.wcnf_reader.proofs.Headerless.{read_into}
 use Rattle.wcnf_reader.proofs.reading.headerless.Given as goal
 

@@ -1,5 +1,4 @@
-use Rattle.std.proofs.Common.{rules, ◌≡◌, ◌∷◌, [], ◌∙◌, ap, map, replicate}
-use Rattle.basic_solve.specs.Heads.{lists_at}
+use Rattle.basic_solve.proofs.Common.{rules, ◌≡◌, ◌∷◌, [], ◌∙◌, ap, map, replicate, lists_at}
 use Rattle.basic_solve.proofs.Heads.{seen_none}
 use Rattle.basic_solve.proofs.buckets.Buckets.empty.Goals as goal
 

@@ -1,8 +1,4 @@
-use Rattle.std.proofs.Common.{◌≡◌, true, ◌++◌, ◌∷◌, [], sym, ap, subst, ◌∙◌, append_assoc}
-use Rattle.std.proofs.lemmas.List.Elements.{All-tail}
-use Rattle.poly_reader.specs.Poly.{is_name}
-use Rattle.poly_reader.specs.Numbering.{AreNames}
-use Rattle.poly_reader.specs.Views.{names_lent}
+use Rattle.poly_reader.proofs.Common.{◌≡◌, true, ◌++◌, ◌∷◌, [], sym, ap, subst, ◌∙◌, append_assoc, All-tail, is_name, AreNames, names_lent}
 use Rattle.poly_reader.proofs.name_table.NameTable.copied.Goals as goal
 
 pub loop-name-preserved : goal.loop-name-preserved
@@ -13,9 +9,7 @@ loop-name-preserved c =
     let left : names_lent c.loop-name.name-iterator ≡ name ∷ rest =
     ap names_lent c.in-Some.ensures.steps in
     record {
-      all = ap (λ names. names ++ rest) c.in_ok-push.ensures
-          ∙ append_assoc copied (name ∷ []) rest
-          ∙ ap (λ names. copied ++ names) (sym left)
-          ∙ c.loop-name.invariant.all;
+      all = ap (λ names. names ++ rest) c.in_ok-push.ensures ∙ append_assoc copied (name ∷ []) rest
+          ∙ ap (λ names. copied ++ names) (sym left) ∙ c.loop-name.invariant.all;
       form = All-tail (λ n. is_name n ≡ true) name rest (subst AreNames left c.loop-name.invariant.form);
     }

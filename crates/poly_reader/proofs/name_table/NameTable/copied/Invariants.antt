@@ -1,6 +1,4 @@
-use Rattle.std.proofs.Common.{◌≡◌, ◌++◌}
-use Rattle.poly_reader.specs.Numbering.{AreNames}
-use Rattle.poly_reader.specs.Views.{names_lent}
+use Rattle.poly_reader.proofs.Common.{◌≡◌, ◌++◌, AreNames, names_lent}
 use Rattle.poly_reader.proofs.name_table.NameTable.copied.Given as goal
 
 -- the names so far and those that are left are all

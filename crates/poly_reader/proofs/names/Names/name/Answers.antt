@@ -1,5 +1,4 @@
-use Rattle.std.proofs.Common.{◌≡◌, ◌<◌, true, List, ℕ, [], length, ap, sym, subst, arith}
-use Rattle.poly_reader.specs.Poly.{is_name}
+use Rattle.poly_reader.proofs.Common.{◌≡◌, ◌<◌, true, List, ℕ, [], length, ap, sym, subst, arith, is_name}
 use Rattle.poly_reader.proofs.names.Names.name.Goals as goal
 
 pub as_text-requires : goal.as_text-requires

@@ -1,12 +1,4 @@
-use Rattle.std.proofs.Common.{◌≡◌, ◌<◌, length, rules, arith, ap, sym, ◌∙◌, Some, List, ℤ, to_z, of_z}
-use Rattle.std.specs.Int.{w128}
-use Rattle.std.specs.List.{slice_get}
-use Rattle.std.specs.Vec.{vec_len}
-use Rattle.problem_form.specs.declared.terms.Product.{Product}
-use Rattle.problem_form.specs.WeighedLists.{product_of}
-use Rattle.problem_form.proofs.WeighedParts.{length-zip_with, zip_with-at}
-use Rattle.posiform_check.specs.declared.lines.Line.{Line}
-use Rattle.posiform_check.specs.Lines.{line_of}
+use Rattle.posiform_check.proofs.Common.{◌≡◌, ◌<◌, length, rules, arith, ap, sym, ◌∙◌, Some, List, ℤ, to_z, of_z, w128, slice_get, vec_len, Product, product_of, length-zip_with, zip_with-at, Line, line_of}
 use Rattle.posiform_check.proofs.lines.LineList.at.Goals as goal
 
 pub at-requires : goal.at-requires
@@ -32,9 +24,7 @@ returns c =
     zip_with-at line_of fields.products fields.numbers.items c.args.i c.at.result c.index.result.now
     c.at.ensures within c.index.ensures in
     let parts = c.literals.inside in
-    let number = c.index.result.now in
     let whole : to_z w128 (of_z w128 parts.coefficient) ≡ parts.coefficient = search rules in
-    ap (λ (ls : List Line). slice_get ls c.args.i) (sym c.self.view_is)
-    ∙ here
-    ∙ ap (λ (t : Product). Some (line_of t number)) (sym c.literals.view_is)
-    ∙ ap (λ (k : ℤ). Some (line_of (product_of parts.literals k) number)) (sym whole)
+    ap (λ (ls : List Line). slice_get ls c.args.i) (sym c.self.view_is) ∙ here
+    ∙ ap (λ (t : Product). Some (line_of t c.index.result.now)) (sym c.literals.view_is)
+    ∙ ap (λ (k : ℤ). Some (line_of (product_of parts.literals k) c.index.result.now)) (sym whole)

@@ -1,6 +1,4 @@
-use Rattle.std.proofs.Common.{◌≡◌, rules, length, sym, ap, ◌∙◌}
-use Rattle.problem_form.proofs.WeighedParts.{length-zip_with}
-use Rattle.posiform_check.specs.Lines.{line_of}
+use Rattle.posiform_check.proofs.Common.{◌≡◌, rules, length, sym, ap, ◌∙◌, length-zip_with, line_of}
 use Rattle.posiform_check.proofs.lines.LineList.len.Goals as goal
 
 pub returns : goal.returns

@@ -1,8 +1,4 @@
-use Rattle.std.proofs.Common.{◌≡◌, ◌++◌, ◌∷◌, [], rules, ◌∙◌}
-use Rattle.problem_form.specs.declared.terms.Product.{Product}
-use Rattle.problem_form.specs.WeighedLists.{zip_with}
-use Rattle.problem_form.proofs.WeighedParts.{zip_with-push}
-use Rattle.posiform_check.specs.Lines.{line_of}
+use Rattle.posiform_check.proofs.Common.{◌≡◌, ◌++◌, ◌∷◌, [], rules, ◌∙◌, Product, zip_with, zip_with-push, line_of}
 use Rattle.posiform_check.proofs.lines.LineList.push.Goals as goal
 
 pub returns-clause-pushed : goal.returns-clause-pushed

@@ -1,9 +1,4 @@
-use Rattle.std.proofs.Common.{rules, ◌≡◌, [], ◌+ℤ◌, ap, ◌∙◌, arith, is_eq, to_z, of_z}
-use Rattle.std.specs.Int.{w128}
-use Rattle.std.proofs.lemmas.Int.{ints}
-use Rattle.base.specs.Sums.{if_so}
-use Rattle.term_table.specs.Terms.{set_cmp, coefficient_of}
-use Rattle.term_table.proofs.Additions.{if_so-plus}
+use Rattle.posiform_check.proofs.Common.{rules, ◌≡◌, [], ◌+ℤ◌, ap, ◌∙◌, arith, is_eq, to_z, of_z, w128, ints, if_so, set_cmp, coefficient_of, if_so-plus}
 use Rattle.posiform_check.proofs.set_sums.SetSums.add_constant.Goals as goal
 
 pub returns : goal.returns

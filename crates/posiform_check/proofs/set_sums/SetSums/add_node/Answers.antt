@@ -1,6 +1,5 @@
 use Rattle.std.proofs.Common.{rules, ◌≡◌, ◌<◌, length, get_or, pos, ◌+ℤ◌, arith, to_z, of_z}
-use Rattle.std.specs.Int.{w128}
-use Rattle.std.proofs.lemmas.Int.{ints}
+use Rattle.posiform_check.proofs.Common.{w128, ints}
 use Rattle.posiform_check.proofs.Sums.{sums_node, same_default}
 use Rattle.posiform_check.proofs.set_sums.SetSums.add_node.Goals as goal
 
@@ -16,18 +15,7 @@ returns c =
     let added : to_z w128 (of_z w128 c.args.coefficient) ≡ c.args.coefficient = search rules in
     let whole : to_z w128 (of_z w128 c.in_ok-self-inside.field-0) ≡ c.in_ok-self-inside.field-0 =
     search rules in
-    let sum : c.in_ok-self-inside.field-0
-    ≡ to_z w128 (of_z w128 c.index.result.now) +ℤ to_z w128 (of_z w128 c.args.coefficient) =
-    c.in_ok-self-inside.ensures in
-    omega (
-      arith,
-      ints,
-      whole,
-      sum,
-      now,
-      added,
-      c.index.ensures,
-      same_default ws i c.index.result.now (pos 0) within,
-    ) in
+    let same = same_default ws i c.index.result.now (pos 0) within in
+    omega (arith, ints, whole, c.in_ok-self-inside.ensures, now, added, c.index.ensures) in
     sums_node parts.constant ws parts.pairs.items i c.args.coefficient _ c.args.self.now within
     value c.self.view_is

@@ -1,6 +1,4 @@
-use Rattle.std.proofs.Common.{rules, ◌≡◌, neg_ℤ, ap, ◌∙◌, to_z, of_z}
-use Rattle.std.specs.Int.{w128}
-use Rattle.std.proofs.lemmas.Result.{on_ok_weaker}
+use Rattle.posiform_check.proofs.Common.{rules, ◌≡◌, neg_ℤ, ap, ◌∙◌, to_z, of_z, w128, on_ok_weaker}
 use Rattle.posiform_check.proofs.Sums.{two_more}
 use Rattle.posiform_check.proofs.set_sums.SetSums.add_one.Goals as goal
 
@@ -16,7 +14,6 @@ returns c =
     search rules in
     let less = whole ∙ c.in_ok-opposite.ensures ∙ ap neg_ℤ own in
     rw c.if-not-literal.false (
-    on_ok_weaker c.add_node-2.result
-    (two_more _ _ _ _ _ (rw own at c.in_ok-add_constant.ensures))
+    on_ok_weaker c.add_node-2.result (two_more _ _ _ _ _ (rw own at c.in_ok-add_constant.ensures))
     (rw less at c.add_node-2.ensures)
     )

@@ -1,7 +1,5 @@
-use Rattle.std.proofs.Common.{rules, to_z, of_z}
-use Rattle.std.specs.Int.{w64}
+use Rattle.posiform_check.proofs.Common.{rules, to_z, of_z, w64, pair_set}
 use Rattle.posiform_check.specs.declared.set_sums.PairTerm.{PairTerm}
-use Rattle.posiform_check.specs.BitForms.{pair_set}
 use Rattle.posiform_check.proofs.Sums.{sums_pair}
 use Rattle.posiform_check.proofs.set_sums.SetSums.add_pair.Goals as goal
 

@@ -1,6 +1,4 @@
-use Rattle.std.proofs.Common.{rules, ◌≡◌, neg_ℤ, ap, ◌∙◌, arith, to_z, of_z}
-use Rattle.std.specs.Int.{w128}
-use Rattle.std.proofs.lemmas.Int.{ints}
+use Rattle.posiform_check.proofs.Common.{rules, ◌≡◌, neg_ℤ, ap, ◌∙◌, arith, to_z, of_z, w128, ints}
 use Rattle.posiform_check.proofs.Sums.{two_more, four_more}
 use Rattle.posiform_check.proofs.set_sums.SetSums.add_two.Goals as goal
 

@@ -1,7 +1,4 @@
-use Rattle.std.proofs.Common.{rules, ◌≡◌, true, map, pos, subst}
-use Rattle.std.specs.List.{list_all}
-use Rattle.std.specs.Ordering.{int_eq}
-use Rattle.posiform_check.specs.Sums.{pair_term, HasNone}
+use Rattle.posiform_check.proofs.Common.{rules, ◌≡◌, true, map, pos, subst, list_all, int_eq, pair_term, HasNone}
 use Rattle.posiform_check.proofs.Sums.{sums_cancel}
 use Rattle.posiform_check.proofs.set_sums.SetSums.cancel.Goals as goal
 

@@ -1,17 +1,11 @@
-use Rattle.std.proofs.Common.{rules, ◌≡◌, false, arith, ap, ◌∙◌}
-use Rattle.std.specs.List.{list_any}
-use Rattle.std.proofs.lemmas.Int.{ints}
-use Rattle.problem_form.specs.Problems.{fails}
-use Rattle.wbo_reader.specs.Wbo.{WboContent, paid, reaches_top, wbo_cost}
+use Rattle.wbo_reader.proofs.Common.{rules, ◌≡◌, false, arith, ap, ◌∙◌, list_any, ints, fails, WboContent, paid, reaches_top, wbo_cost}
 use Rattle.wbo_reader.proofs.Paid.{paid-le, cost_whole}
 use Rattle.wbo_reader.proofs.costs.WboCosted.cost.Goals as goal
 
 pub overflow_cast-result : goal.overflow_cast-result
 overflow_cast-result c =
-    let x = c.args.x.now in
-    let soft = c.self.inside.soft in
-    let sum : c.paid-sum.result ≡ paid x soft = search rules in
-    omega (arith, ints, sum, paid-le x soft, c.self.invariant.small)
+    let sum : c.paid-sum.result ≡ paid c.args.x.now c.self.inside.soft = search rules in
+    omega (arith, ints, sum, paid-le c.args.x.now c.self.inside.soft, c.self.invariant.small)
 
 pub returns : goal.returns
 returns c =
@@ -21,8 +15,7 @@ returns c =
       variables = i.variables;
       hard = i.hard;
       soft = i.soft;
-      top =
-          i.top;
+      top = i.top;
       order = i.order;
     } in
     let sum : c.paid-sum.result ≡ paid x i.soft = search rules in

@@ -1,7 +1,4 @@
-use Rattle.std.proofs.Common.{◌≡◌, ◌<◌, length, rules, arith, ap, sym, ◌∙◌}
-use Rattle.std.specs.List.{slice_get}
-use Rattle.std.specs.Vec.{vec_len}
-use Rattle.problem_form.proofs.WeighedParts.{length-zip_with, zip_with-at}
+use Rattle.wbo_reader.proofs.Common.{◌≡◌, ◌<◌, length, rules, arith, ap, sym, ◌∙◌, slice_get, vec_len, length-zip_with, zip_with-at}
 use Rattle.wbo_reader.specs.SoftLists.{soft_of}
 use Rattle.wbo_reader.proofs.soft.SoftList.at.Goals as goal
 
@@ -26,6 +23,5 @@ returns c =
     omega (arith, c.requires, ap length c.self.view_is, count) in
     let here =
     zip_with-at soft_of fields.constraints fields.weights.items c.args.i c.at.result
-    c.index.result.now
-    c.at.ensures within c.index.ensures in
+    c.index.result.now c.at.ensures within c.index.ensures in
     ap (λ ts. slice_get ts c.args.i) (sym c.self.view_is) ∙ here

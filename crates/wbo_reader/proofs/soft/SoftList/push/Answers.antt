@@ -1,7 +1,4 @@
-use Rattle.std.proofs.Common.{◌≡◌, ◌++◌, ◌∷◌, [], rules, ◌∙◌}
-use Rattle.problem_form.specs.NormalForm.{normal_constraint}
-use Rattle.problem_form.specs.WeighedLists.{zip_with}
-use Rattle.problem_form.proofs.WeighedParts.{zip_with-push}
+use Rattle.wbo_reader.proofs.Common.{◌≡◌, ◌++◌, ◌∷◌, [], rules, ◌∙◌, normal_constraint, zip_with, zip_with-push}
 use Rattle.wbo_reader.specs.SoftLists.{soft_of}
 use Rattle.wbo_reader.proofs.soft.SoftList.push.Goals as goal
 

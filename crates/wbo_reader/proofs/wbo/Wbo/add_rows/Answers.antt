@@ -1,10 +1,4 @@
-use Rattle.std.proofs.Common.{rules, ◌≡◌, ◌+◌, true, false, Some, drop, subst, sym, ap, ◌∙◌, arith}
-use Rattle.std.specs.List.{slice_get}
-use Rattle.problem_form.specs.declared.terms.Constraint.{Constraint}
-use Rattle.problem_form.specs.Fields.{IsSound}
-use Rattle.problem_form.specs.Problems.{constraint_total}
-use Rattle.wbo_reader.specs.declared.soft.Soft.{Soft}
-use Rattle.wbo_reader.specs.Rewriting.{eased_row, with_rows}
+use Rattle.wbo_reader.proofs.Common.{rules, ◌≡◌, ◌+◌, true, false, Some, drop, subst, sym, ap, ◌∙◌, arith, slice_get, Constraint, IsSound, constraint_total, Soft, eased_row, with_rows}
 use Rattle.wbo_reader.proofs.Copied.{soft_within}
 use Rattle.wbo_reader.proofs.Steps.{rows_left, hard_sound, soft_sound, hard_added, soft_added}
 use Rattle.wbo_reader.proofs.Whole.{first_left, soft_more, hard_more}
@@ -14,12 +8,9 @@ use Rattle.wbo_reader.proofs.wbo.Wbo.add_rows.Goals.{then-is_soft+in_ok-add_soft
 pub add_soft-requires-clause-small : goal.add_soft-requires-clause-small
 add_soft-requires-clause-small c =
     let at : slice_get c.self.inside.soft c.loop-is_soft.soft ≡ Some c.at.result = search rules in
-    omega (
-      arith,
-      ap (λ (s : Soft). constraint_total s.constraint) c.add_soft.view_is,
-      soft_within c.self.inside.soft c.loop-is_soft.soft c.at.result at,
-      c.self.invariant.small,
-    )
+    let view = ap (λ (s : Soft). constraint_total s.constraint) c.add_soft.view_is in
+    let within = soft_within c.self.inside.soft c.loop-is_soft.soft c.at.result at in
+    omega (arith, c.self.invariant.small)
 
 pub add_soft-requires-clause-sound : goal.add_soft-requires-clause-sound
 add_soft-requires-clause-sound c =
@@ -61,15 +52,13 @@ loop-is_soft-preserved c =
           let first = first_left items i true c.loop-is_soft-test.true w.if-is_soft.true in
           let more = soft_more (drop i items) rest first in
           let added =
-          w.in_ok-add_soft.ensures
-          ∙ ap (λ (k : Soft). with_rows p (eased_row
+          w.in_ok-add_soft.ensures ∙ ap (λ (k : Soft). with_rows p (eased_row
           (v + c.loop-is_soft.soft) k.constraint)) w.add_soft.view_is in
           record {
             rows = (λ n. with_rows (w.problem-is n) (rows_left rest (w.hard-is n) s.hard v
                 (w.soft-is n) s.soft))
                 ∙ soft_added p _ _ (drop i items) rest c.loop-is_soft.hard s.hard v
-                c.loop-is_soft.soft
-                s.soft w.at.result h.rows first w.at.ensures added;
+                c.loop-is_soft.soft s.soft w.at.result h.rows first w.at.ensures added;
             hard_left = omega (arith, w.hard-is, more.1, h.hard_left);
             soft_left = omega (arith, w.soft-is, more.0, h.soft_left);
           }

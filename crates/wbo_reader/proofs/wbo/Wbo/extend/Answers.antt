@@ -1,26 +1,18 @@
-use Rattle.std.proofs.Common.{rules, ◌≡◌, ◌∙◌, ◌++◌, ◌∷◌, [], arith, ap, sym}
-use Rattle.std.specs.List.{slice_get}
-use Rattle.problem_form.specs.Problems.{constraint_total, fails}
-use Rattle.wbo_reader.specs.declared.soft.Soft.{Soft}
-use Rattle.wbo_reader.specs.Wbo.{WboContent}
+use Rattle.wbo_reader.proofs.Common.{rules, ◌≡◌, ◌∙◌, ◌++◌, ◌∷◌, [], arith, ap, sym, slice_get, constraint_total, fails, Soft, WboContent}
 use Rattle.wbo_reader.proofs.Copied.{soft_within, bits_more}
 use Rattle.wbo_reader.proofs.wbo.Wbo.extend.Goals as goal
 
 pub fails-bit-requires : goal.fails-bit-requires
 fails-bit-requires c =
-    omega (
-      arith,
-      ap (λ (s : Soft). constraint_total s.constraint) c.soft.view_is,
-      soft_within c.self.inside.soft c.loop-i.i c.at-soft.result c.at-soft.ensures,
-      c.self.invariant.small,
-    )
+    let view = ap (λ (s : Soft). constraint_total s.constraint) c.soft.view_is in
+    let within = soft_within c.self.inside.soft c.loop-i.i c.at-soft.result c.at-soft.ensures in
+    omega (arith, c.self.invariant.small)
 
 pub loop-i-preserved : goal.loop-i-preserved
 loop-i-preserved c =
-    let x = c.args.x.now in
-    let bit : c.fails-bit.result ≡ fails x c.at-soft.result.constraint = search rules in
+    let bit : c.fails-bit.result ≡ fails c.args.x.now c.at-soft.result.constraint = search rules in
     let more : c.push.new.self.items ≡ c.loop-i.y.items ++ c.fails-bit.result ∷ [] = search rules in
     let at = ap (λ (s : WboContent). slice_get s.soft c.loop-i.i) (sym c.self.view_is)
     ∙ c.at-soft.ensures in
-    bits_more x c.loop-i.y.items _ c.args.self.now.soft c.loop-i.i c.at-soft.result _
+    bits_more c.args.x.now c.loop-i.y.items _ c.args.self.now.soft c.loop-i.i c.at-soft.result _
     c.loop-i.invariant at bit more

@@ -1,7 +1,4 @@
-use Rattle.std.proofs.Common.{rules, ◌≡◌, subst, sym, ap, ◌∙◌, OnOk}
-use Rattle.problem_form.specs.Fields.{IsSound}
-use Rattle.problem_form.specs.Problems.{ProblemContent}
-use Rattle.wbo_reader.specs.Rewriting.{rewritten, top_row, with_rows}
+use Rattle.wbo_reader.proofs.Common.{rules, ◌≡◌, subst, sym, ap, ◌∙◌, OnOk, IsSound, ProblemContent, rewritten, top_row, with_rows}
 use Rattle.wbo_reader.proofs.Whole.{weighed_then, rowed_then, weights_are_sound, rows_are_sound, top_sound, with_top, without_top}
 use Rattle.wbo_reader.proofs.wbo.Wbo.fill.Goals as goal
 
@@ -10,19 +7,17 @@ add_weights-requires-clause-sound c = weights_are_sound c.self.invariant (search
 
 pub add_rows-requires : goal.add_rows-requires
 add_rows-requires c =
-    let kept = c.self.invariant in
-    rows_are_sound kept c.self.view_is
-    (weighed_then kept (search rules) c.in_ok-add_weights.ensures)
+    rows_are_sound c.self.invariant c.self.view_is
+    (weighed_then c.self.invariant (search rules) c.in_ok-add_weights.ensures)
 
 pub add_top-requires : goal.add_top-requires
 add_top-requires c =
-    let kept = c.self.invariant in
-    let weights = weighed_then kept (search rules) c.in_ok-add_weights.ensures in
+    let weights = weighed_then c.self.invariant (search rules) c.in_ok-add_weights.ensures in
     let rows = rowed_then c.self.view_is weights c.in_ok-add_rows.ensures in
     record {
       sound =
           subst (λ (p : ProblemContent). IsSound (with_rows p (top_row p c.in-Some.top))) (sym rows)
-          (top_sound _ c.in-Some.top c.in-Some.is kept);
+          (top_sound _ c.in-Some.top c.in-Some.is c.self.invariant);
     }
 
 pub returns-in-Some : goal.returns-in-Some
@@ -31,9 +26,7 @@ returns-in-Some c =
     let rows = rowed_then c.self.view_is weights c.in_ok-add_rows.ensures in
     subst (λ (p : ProblemContent). OnOk c.add_top.result (c.add_top.new.problem ≡ p))
     (ap (λ (p : ProblemContent). with_rows p (top_row p c.in-Some.top)) rows
-    ∙ with_top _ c.in-Some.top c.in-Some.is
-    ∙ ap rewritten c.self.view_is)
-    c.add_top.ensures
+    ∙ with_top _ c.in-Some.top c.in-Some.is ∙ ap rewritten c.self.view_is) c.add_top.ensures
 
 pub returns-in-None : goal.returns-in-None
 returns-in-None c =
