@@ -1,19 +1,5 @@
 -- Steps of the additions that stand for a term.
-use Rattle.std.proofs.Common.{◌≡◌, Bool, ℕ, zero, suc, ◌+◌, ◌-◌, ◌*◌, ◌<◌, ◌≤◌, ◌^◌, List, [], ◌∷◌, ◌++◌, length, map, take, drop, get_or, ℤ, refl, sym, ap, ◌∙◌, arith}
-use Rattle.std.specs.Prelude.{Result, Ok, Err, IfOk, OnOk}
-use Rattle.std.specs.List.{flat_map, sum_by}
-use Rattle.std.proofs.lemmas.List.{append_assoc, append-nil, drop_more, take_rest}
-use Rattle.std.proofs.lemmas.List.Elements.{recursion_from_All}
-use Rattle.std.proofs.lemmas.List.Sums.{sum_by-cons}
-use Rattle.std.proofs.lemmas.Result.{on_ok_weaker}
-use Rattle.literal_lists.specs.declared.literal.Literal.{Literal}
-use Rattle.term_table.specs.Terms.{Term, terms_total, IsTermSet}
-use Rattle.term_table.specs.Tables.{TableContent, AreAdditions, IsTable, with_appended, with_more}
-use Rattle.term_table.specs.Rooms.{Fills, HasRoomFor}
-use Rattle.term_table.proofs.Filling.{fills_as, fills_more, room_as, room_first, room_next, room_same}
-use Rattle.term_table.proofs.KeptTerms.{OfSet}
-use Rattle.term_table.proofs.RoomForTerms.{room-additions}
-use Rattle.monomial_layer.specs.Monomials.{node, with_each, pair_terms, node_term, node_terms, new_nodes, new_bits, all_new_terms}
+use Rattle.monomial_layer.proofs.Common.{nat_tests, ints, ◌≡◌, Bool, ℕ, zero, suc, ◌+◌, ◌-◌, ◌*◌, ◌<◌, ◌≤◌, ◌^◌, List, [], ◌∷◌, ◌++◌, length, map, take, drop, get_or, ℤ, refl, sym, ap, ◌∙◌, arith, Result, IfOk, OnOk, flat_map, sum_by, append_assoc, append-nil, drop_more, take_rest, recursion_from_All, sum_by-cons, on_ok_weaker, Literal, Term, terms_total, IsTermSet, TableContent, AreAdditions, IsTable, with_appended, with_more, Fills, HasRoomFor, fills_as, fills_more, room_first, room_next, room_same, OfSet, room-additions, node, with_each, pair_terms, node_term, node_terms, new_nodes, new_bits, all_new_terms}
 use Rattle.monomial_layer.proofs.NewSets.{sets-all_new_terms}
 use Rattle.monomial_layer.proofs.Sizes.{total-image}
 
@@ -32,10 +18,7 @@ pub pairs_left : (ls : List Literal) (i : ℕ) (d : Literal) (c : ℤ) → i < l
     → pair_terms (drop i ls) c
     ≡ with_each (get_or ls i d) c (take (length ls - (i + 1)) (drop (i + 1) ls))
     ++ pair_terms (drop (i + 1) ls) c
-pairs_left ls i d c inside =
-    ap (λ ks. pair_terms ks c) (drop_more ls i d inside)
-    ∙ ap (λ ks. with_each (get_or ls i d) c ks ++ pair_terms (drop (i + 1) ls) c)
-    (sym (take_rest ls (i + 1)))
+pairs_left ls i d c inside = grind (arith, nat_tests, ints, drop_more, take_rest)
 
 -- ---- a term, whose literals and coefficient the code has in other words, and others after it
 
@@ -43,18 +26,14 @@ module _ {S : Type 0} (takes : S → List Term → Type 0) (holds : S → TableC
   -- there is room for it
   pub own_room : (now : S) (ls ks : List Literal) (c d : ℤ) (us : List Term) → ks ≡ ls → d ≡ c
       → HasRoomFor takes now ((ls, c) ∷ us) → HasRoomFor takes now ((ks, d) ∷ [])
-  own_room now ls ks c d us set weight room =
-      room_as takes now ls ks c d set weight
-      (room_first takes now ((ls, c) ∷ us) ((ls, c) ∷ []) us refl room)
+  own_room now ls ks c d us set weight room = grind (arith, nat_tests, ints)
 
   -- after it there is room for the others
   pub others_room : (now new : S) (ls ks : List Literal) (c d : ℤ) (us : List Term) → ks ≡ ls → d ≡ c
       → ((t : TableContent) → holds now t → holds new (with_appended t ks d))
       → ((more : List Term) → takes now ((ks, d) ∷ more) → takes new more)
       → HasRoomFor takes now ((ls, c) ∷ us) → HasRoomFor takes new us
-  others_room now new ls ks c d us set weight held room all =
-      room_next takes holds now new ((ls, c) ∷ us) ((ls, c) ∷ []) us refl
-      (fills_as takes holds now new ls ks c d set weight held room) all
+  others_room now new ls ks c d us set weight held room all = grind (arith, nat_tests, ints)
 
   -- and with them all are taken in
   pub own_and_others : {V E : Type 0} (r : Result V E) (now new last : S) (ls ks : List Literal) (c d : ℤ)
@@ -74,18 +53,12 @@ module _ {S : Type 0} (takes : S → List Term → Type 0) (holds : S → TableC
 -- the terms of some nodes begin with those of the first ones
 nodes_more : (ls : List Literal) (c : ℤ) (n k d : ℕ)
     → (rest : List Term) × (node_terms ls c n (k + d) ≡ node_terms ls c n k ++ rest)
-nodes_more ls c n k zero =
-    let none : k + 0 ≡ k = omega arith in
-    ([], ap (node_terms ls c n) none ∙ sym (append-nil (node_terms ls c n k)))
+nodes_more ls c n k zero = grind (arith, nat_tests, ints, append-nil)
 nodes_more ls c n k (suc d) =
     let before = nodes_more ls c n k d in
     let one = node_term ls c (node (n + (k + d))) (k + d) in
-    let next : k + suc d ≡ suc (k + d) = omega arith in (
-      before.0 ++ one,
-      ap (node_terms ls c n) next
-          ∙ ap (λ ts. ts ++ one) before.1
-          ∙ append_assoc (node_terms ls c n k) before.0 one,
-    )
+    let next : k + suc d ≡ suc (k + d) = omega arith in
+    (before.0 ++ one, rw (next, before.1) (append_assoc (node_terms ls c n k) before.0 one))
 
 -- where there is room for the terms of all nodes, and those of the first ones are taken in, there is
 -- room for those of the next one
@@ -117,11 +90,7 @@ nodes_left so_far found all t left rest e same h =
 pub bits_left : (x bits more whole : List Bool) (t : Term) (left rest : List Term) → left ≡ t ∷ rest
     → more ≡ bits ++ new_bits x t → bits ++ flat_map (new_bits x) left ≡ whole
     → more ++ flat_map (new_bits x) rest ≡ whole
-bits_left x bits more whole t left rest e new h =
-    ap (λ ys. ys ++ flat_map (new_bits x) rest) new
-    ∙ append_assoc bits (new_bits x t) (flat_map (new_bits x) rest)
-    ∙ sym (ap (λ ts. bits ++ flat_map (new_bits x) ts) e)
-    ∙ h
+bits_left x bits more whole t left rest e new h = grind (arith, nat_tests, append_assoc)
 
 -- ---- the table of what stands for all terms
 
@@ -150,5 +119,4 @@ room_for_all t table total =
 -- what follows from what holds of an answer
 pub if_ok-then : {T E : Type 0} (r : Result T E) {P Q : T → Type 0} → IfOk r P
     → ((x : T) → P x → Q x) → IfOk r Q
-if_ok-then (Ok x) p f = f x p
-if_ok-then (Err e) p f = tt
+if_ok-then r p f = grind (arith, nat_tests)

@@ -1,3 +1,4 @@
+pub mod Common
 pub mod NewSets
 pub mod Sets
 pub mod Sizes

@@ -1,15 +1,6 @@
 -- The sets of the terms that stand for a list of terms: literal sets over the variables and the new
 -- nodes.
-use Rattle.std.proofs.Common.{ℕ, zero, suc, ◌+◌, ◌<◌, ◌≤◌, Bool, true, false, cond, leb, int_lt, arith, List, [], ◌∷◌, length, ℤ, pos, sum_by}
-use Rattle.std.specs.Prelude.{All}
-use Rattle.std.specs.List.{AllByRecursion}
-use Rattle.std.proofs.lemmas.List.Elements.{All-nil, All-cons, All-append, recursion_from_All}
-use Rattle.std.proofs.lemmas.List.Sums.{sum_by-cons}
-use Rattle.literal_lists.specs.declared.literal.Literal.{Literal}
-use Rattle.term_table.specs.Terms.{Term, IsTermSet}
-use Rattle.term_table.proofs.KeptTerms.{OfSet}
-use Rattle.term_table.proofs.SmallSets.{Ascend, IsBelow, IsLiteralSet-ascends, IsTermSet-one, IsTermSet-two, IsTermSet-wider}
-use Rattle.monomial_layer.specs.Monomials.{node, with_each, each_with, pair_terms, node_term, node_terms, nodes_for, positive_terms, negative_terms, new_nodes, new_terms, all_new_terms}
+use Rattle.monomial_layer.proofs.Common.{ℕ, zero, suc, ◌+◌, ◌<◌, ◌≤◌, Bool, true, false, cond, leb, int_lt, arith, List, [], ◌∷◌, length, ℤ, pos, sum_by, All, AllByRecursion, All-nil, All-cons, All-append, recursion_from_All, sum_by-cons, Literal, Term, IsTermSet, OfSet, Ascend, IsBelow, IsLiteralSet-ascends, IsTermSet-one, IsTermSet-two, IsTermSet-wider, node, with_each, each_with, pair_terms, node_term, node_terms, nodes_for, positive_terms, negative_terms, new_nodes, new_terms, all_new_terms}
 
 -- the sets of all terms are of the width
 abbrev pub AreSets : ℕ → List Term → Type 0

@@ -1,14 +1,6 @@
 -- No set of the terms that stand for a term has more than two literals, and such terms are not
 -- replaced.
-use Rattle.std.proofs.Common.{◌≡◌, ap, ℕ, zero, suc, ◌+◌, ◌≤◌, Bool, true, false, cond, leb, int_lt, List, [], ◌∷◌, length, ℤ, pos, refl, arith}
-use Rattle.std.specs.Prelude.{All}
-use Rattle.std.proofs.lemmas.Bool.Decides.{nat_tests}
-use Rattle.std.proofs.lemmas.List.Elements.{All-nil, All-cons, All-append}
-use Rattle.literal_lists.specs.declared.literal.Literal.{Literal}
-use Rattle.term_table.specs.Terms.{Term}
-use Rattle.term_table.specs.Tables.{TableContent, IsLow}
-use Rattle.term_table.proofs.KeptTerms.{OfSet, All-with_additions}
-use Rattle.monomial_layer.specs.Monomials.{node, with_each, each_with, pair_terms, node_term, node_terms, nodes_for, positive_terms, negative_terms, is_low, new_nodes, new_terms, all_new_terms, image}
+use Rattle.monomial_layer.proofs.Common.{ints, ◌≡◌, ℕ, zero, suc, ◌+◌, ◌≤◌, Bool, true, false, cond, leb, int_lt, List, [], ◌∷◌, length, ℤ, pos, refl, arith, All, nat_tests, All-nil, All-cons, All-append, Literal, Term, TableContent, IsLow, OfSet, All-with_additions, node, with_each, each_with, pair_terms, node_term, node_terms, nodes_for, positive_terms, negative_terms, new_nodes, new_terms, all_new_terms, image}
 
 -- at most two literals
 abbrev pub IsShort : List Literal → Type 0
@@ -19,13 +11,11 @@ AreShort ts = All (OfSet IsShort) ts
 
 short-with_each : (l : Literal) (c : ℤ) (ks : List Literal) → AreShort (with_each l c ks)
 short-with_each l c [] = All-nil (OfSet IsShort)
-short-with_each l c (k ∷ ks) =
-    All-cons (OfSet IsShort) (l ∷ k ∷ [], c) (with_each l c ks) (omega arith) (short-with_each l c ks)
+short-with_each l c (k ∷ ks) = grind (arith, nat_tests, ints, short-with_each l c ks)
 
 short-each_with : (ks : List Literal) (l : Literal) (c : ℤ) → AreShort (each_with ks l c)
 short-each_with [] l c = All-nil (OfSet IsShort)
-short-each_with (k ∷ ks) l c =
-    All-cons (OfSet IsShort) (k ∷ l ∷ [], c) (each_with ks l c) (omega arith) (short-each_with ks l c)
+short-each_with (k ∷ ks) l c = grind (arith, nat_tests, ints, short-each_with ks l c)
 
 short-pair_terms : (ls : List Literal) (c : ℤ) → AreShort (pair_terms ls c)
 short-pair_terms [] c = All-nil (OfSet IsShort)
@@ -46,8 +36,7 @@ short-new_terms t n = go (leb (length t.0) 2) (int_lt t.1 (pos 0)) (λ e. grind 
     go : (a b : Bool) → (a ≡ true → length t.0 ≤ 2)
         → AreShort (cond a (t ∷ []) (cond b (negative_terms t.0 t.1 n) (positive_terms t.0 t.1 n)))
     go true b h = All-cons (OfSet IsShort) t [] (h refl) (All-nil (OfSet IsShort))
-    go false true h =
-        All-cons (OfSet IsShort) _ _ (omega arith) (short-each_with t.0 (node n) t.1)
+    go false true h = All-cons (OfSet IsShort) _ _ (omega arith) (short-each_with t.0 (node n) t.1)
     go false false h =
         All-append (OfSet IsShort) (pair_terms t.0 t.1) (node_terms t.0 t.1 n (nodes_for (length t.0)))
         (short-pair_terms t.0 t.1)
@@ -65,21 +54,10 @@ IsLow-image t =
 
 -- ---- terms of at most two literals
 
-short-low : (t : Term) → OfSet IsShort t → is_low t ≡ true
-short-low t few = go (is_low t) refl
-  where
-    go : (b : Bool) → is_low t ≡ b → b ≡ true
-    go true e = refl
-    go false e = absurd (grind (arith, nat_tests))
-
 -- they stand for themselves
 pub new_terms-one : (t : Term) (n : ℕ) → OfSet IsShort t → new_terms t n ≡ t ∷ []
-new_terms-one t n few =
-    ap
-    (λ b. cond b (t ∷ []) (cond (int_lt t.1 (pos 0)) (negative_terms t.0 t.1 n) (positive_terms t.0 t.1 n)))
-    (short-low t few)
+new_terms-one t n few = grind (arith, nat_tests)
 
 -- without new nodes
 pub new_nodes-one : (t : Term) → OfSet IsShort t → new_nodes t ≡ 0
-new_nodes-one t few =
-    ap (λ b. cond b 0 (cond (int_lt t.1 (pos 0)) 1 (nodes_for (length t.0)))) (short-low t few)
+new_nodes-one t few = grind (arith, nat_tests)

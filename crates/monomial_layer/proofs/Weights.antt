@@ -1,7 +1,5 @@
 -- What a product of a coefficient and a number is, as the code computes it.
-use Rattle.std.proofs.Common.{◌≡◌, ℕ, ◌^◌, ◌≤◌, ℤ, pos, ◌*ℤ◌, ◌-ℤ◌, neg_ℤ, unsigned_abs, FitsSigned, to_z, of_z, arith, ap, ◌∙◌}
-use Rattle.std.specs.Int.{w128}
-use Rattle.std.proofs.lemmas.Int.{ints, to_z-of_z, fits_signed_from_abs}
+use Rattle.monomial_layer.proofs.Common.{nat_tests, ◌≡◌, ℕ, ◌^◌, ◌≤◌, ℤ, pos, ◌*ℤ◌, ◌-ℤ◌, neg_ℤ, unsigned_abs, FitsSigned, to_z, of_z, arith, w128, ints, to_z-of_z, fits_signed_from_abs}
 
 -- the factors, read back from their bits
 product_back : (c x : ℤ) (n : ℕ) → FitsSigned w128 c → FitsSigned w128 x → x ≡ pos n
@@ -19,27 +17,17 @@ product_fits c x n fits more is small = rw (product_back c x n fits more is) (sm
 pub product_is : (c x : ℤ) (n : ℕ) → FitsSigned w128 c → FitsSigned w128 x → x ≡ pos n
     → unsigned_abs (c *ℤ pos n) ≤ 2 ^ 124
     → to_z w128 (of_z w128 (to_z w128 (of_z w128 c) *ℤ to_z w128 (of_z w128 x))) ≡ c *ℤ pos n
-product_is c x n fits more is small =
-    rw (product_back c x n fits more is) (to_z-of_z w128 _ (small_fits _ small))
-
--- what the code takes from 0 is the product
-taken : (z : ℤ) → unsigned_abs z ≤ 2 ^ 124 → pos 0 -ℤ z ≡ neg_ℤ z
-taken z small = omega (arith, ints)
+product_is c x n fits more is small = grind (arith, nat_tests, ints)
 
 pub negated_fits : (c x : ℤ) (n : ℕ) → FitsSigned w128 c → FitsSigned w128 x → x ≡ pos n
     → unsigned_abs (c *ℤ pos n) ≤ 2 ^ 124
     → FitsSigned w128
     (pos 0 -ℤ to_z w128 (of_z w128 (to_z w128 (of_z w128 c) *ℤ to_z w128 (of_z w128 x))))
-negated_fits c x n fits more is small =
-    rw (product_is c x n fits more is small)
-    (fits_signed_from_abs w128 (pos 0 -ℤ (c *ℤ pos n)) (omega (arith, ints, small)))
+negated_fits c x n fits more is small = grind (arith, nat_tests, ints)
 
 pub negated_is : (c x : ℤ) (n : ℕ) → FitsSigned w128 c → FitsSigned w128 x → x ≡ pos n
     → unsigned_abs (c *ℤ pos n) ≤ 2 ^ 124
     → to_z w128 (of_z w128
     (pos 0 -ℤ to_z w128 (of_z w128 (to_z w128 (of_z w128 c) *ℤ to_z w128 (of_z w128 x)))))
     ≡ neg_ℤ (c *ℤ pos n)
-negated_is c x n fits more is small =
-    to_z-of_z w128 _ (negated_fits c x n fits more is small)
-    ∙ ap (λ z. pos 0 -ℤ z) (product_is c x n fits more is small)
-    ∙ taken (c *ℤ pos n) small
+negated_is c x n fits more is small = grind (arith, nat_tests, ints)

@@ -1,4 +1,6 @@
 //! The layer that replaces each term of degree 3 or more by itself.
+//!
+//! No run of the program comes here: quadratization makes the same form at once.
 ghost use Rattle.std.specs.Prelude.{◌≡◌, ◌++◌, IfOk};
 ghost use Rattle.std.specs.List.{flat_map};
 ghost use Rattle.term_table.specs.Tables.{IsLow};

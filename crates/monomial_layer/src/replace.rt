@@ -3,6 +3,8 @@
 //! For a negative coefficient: D. Freedman and P. Drineas, Energy minimization via graph cuts:
 //! settling what is possible, 2005. For a positive one: H. Ishikawa, Transformation of general
 //! binary MRF minimization to the first-order case, 2011.
+//!
+//! No run of the program comes here: quadratization makes the same form at once.
 ghost use Rattle.std.specs.Prelude.{◌≡◌, ◌+◌, ◌*◌, ◌<◌, ◌≤◌, ◌^◌, IfOk, OnOk, length};
 ghost use Rattle.term_table.specs.Terms.{terms_total};
 ghost use Rattle.term_table.specs.Tables.{kept_at_once, table_size, IsTable};

@@ -17,8 +17,7 @@ few-image p t admitted made =
     (few-contributions p (within_limits p admitted.within).negations)))
 
 -- multiplied out it is at most 256 times as great
-pub total-expanded : (t made : KeptTable)
-    → All (λ (u : Term). complements u.0 ≤ 8) t.content.terms
+pub total-expanded : (t made : KeptTable) → All (λ (u : Term). complements u.0 ≤ 8) t.content.terms
     → terms_total t.content.terms + 1 ≤ 2 ^ 64 → made ≡ kept_at_once (expanded t.content)
     → terms_total made.content.terms + 1 ≤ 2 ^ 72
 total-expanded t made few small same =

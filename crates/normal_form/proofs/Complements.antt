@@ -125,9 +125,7 @@ few-contributions p h =
       few-append 8 (map product_term p.objective) (map (clause_term (penalty p)) p.clauses)
           (few-products 8 p.objective (raised _ _ _ p.objective low products.0))
           (few-clauses 8 (penalty p) p.clauses (raised _ _ _ p.clauses low clauses.0)),
-    )
-    (few-constraints 8 (penalty p) p.variables p.constraints
-    (raised _ _ _ p.constraints high
+    ) (few-constraints 8 (penalty p) p.variables p.constraints (raised _ _ _ p.constraints high
     (twice_most square p.constraints (at_most_all most_complements p.constraints square (omega arith)))))
   where
     sums : List ℕ

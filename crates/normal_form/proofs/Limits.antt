@@ -45,8 +45,7 @@ sums-le f g (x ∷ xs) le =
     omega (arith, le x, sums-le f g xs le, sum_by-cons f x xs, sum_by-cons g x xs)
 
 -- a product of two terms of a constraint has twice the complements
-pub constraint_pairs-scaled : (k : Constraint)
-    → constraint_pairs normals.Multilinear k
+pub constraint_pairs-scaled : (k : Constraint) → constraint_pairs normals.Multilinear k
     ≡ 2 ^ (2 * most_complements k) * constraint_pairs normals.Literal k
 constraint_pairs-scaled k =
     let m = most_complements k in
@@ -54,12 +53,10 @@ constraint_pairs-scaled k =
     let q = spread (nat_le d 1) d in
     let twice : 2 * m ≡ m + m = omega arith in
     let power = ap (λ i. 2 ^ i) twice ∙ pow-add 2 m m in
-    omega (
-      arith,
-      ap (λ x. x * q) (square_is (summands normals.Multilinear k)),
-      ap (λ x. 2 ^ (2 * m) * (x * q)) (square_is (summands normals.Literal k)),
-      ap (λ x. x * (summands normals.Literal k * summands normals.Literal k * q)) power,
-    )
+    let same = ap (λ x. x * q) (square_is (summands normals.Multilinear k)) in
+    let more = ap (λ x. 2 ^ (2 * m) * (x * q)) (square_is (summands normals.Literal k)) in
+    let other = ap (λ x. x * (summands normals.Literal k * summands normals.Literal k * q)) power in
+    omega arith
 
 constraint_pairs-le : (k : Constraint)
     → constraint_pairs normals.Literal k ≤ constraint_pairs normals.Multilinear k

@@ -10,12 +10,8 @@ few-additions p admitted = few-contributions p (within_limits p admitted.within)
 pub total-multiplied : (p : ProblemContent) → Admits p
     → terms_total (contributions (penalty.contributions p)) + 1 ≤ 2 ^ 72
 total-multiplied p admitted =
-    omega (
-      arith,
-      contributions-total p,
-      (within_limits p admitted.within).weight,
-      contributions-grow 8 (penalty.contributions p) (few-additions p admitted),
-    )
+    let contributions_grow = contributions-grow 8 (penalty.contributions p) (few-additions p admitted) in
+    omega (arith, contributions-total p, (within_limits p admitted.within).weight)
 
 pub AreAdditions-multiplied_out : (p : ProblemContent) → Admits p →
     AreAdditions (multiplied (record { width = penalty.node_count p; terms = penalty.contributions p }))

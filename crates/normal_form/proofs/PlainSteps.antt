@@ -11,8 +11,7 @@ behind-nothing (t ∷ ts) = ap (λ us. t ∷ us) (behind-nothing ts)
 behind-behind : (fs gs : List Literal) (ts : List Term)
     → behind fs (behind gs ts) ≡ behind (fs ++ gs) ts
 behind-behind fs gs [] = refl
-behind-behind fs gs (t ∷ ts) =
-    λ i. (sym (append_assoc fs gs t.0) i, t.1) ∷ behind-behind fs gs ts i
+behind-behind fs gs (t ∷ ts) = λ i. (sym (append_assoc fs gs t.0) i, t.1) ∷ behind-behind fs gs ts i
 
 behind-append : (fs : List Literal) (ts us : List Term)
     → behind fs (ts ++ us) ≡ behind fs ts ++ behind fs us
@@ -28,10 +27,8 @@ plain_front : (fs ls : List Literal) (c : ℤ) → AllByRecursion (λ (l : Liter
     → plain_terms (fs ++ ls) c ≡ behind fs (plain_terms ls c)
 plain_front [] ls c h = sym (behind-nothing (plain_terms ls c))
 plain_front (f ∷ fs) ls c h =
-    front f.negated h.0
-    ∙ ap (λ l. with_front l rest) (same_literal f h.0)
-    ∙ ap (behind (f ∷ [])) (plain_front fs ls c h.1)
-    ∙ behind-behind (f ∷ []) fs (plain_terms ls c)
+    front f.negated h.0 ∙ ap (λ l. with_front l rest) (same_literal f h.0)
+    ∙ ap (behind (f ∷ [])) (plain_front fs ls c h.1) ∙ behind-behind (f ∷ []) fs (plain_terms ls c)
   where
     rest : List Term
     rest = plain_terms (fs ++ ls) c
@@ -55,14 +52,12 @@ pub last_terms : (fs ls : List Literal) (n : ℕ) (c : ℤ) → length ls ≤ n 
 last_terms fs ls n c short none =
     let whole : ls ≡ take n ls ++ [] = sym (append-nil (take n ls) ∙ take_all n ls short) in
     let front = plain_front (take n ls) [] c (recursion_from_All (λ (l : Literal). l.negated ≡ false) (take n ls) none) in
-    ap (λ ks. behind fs (plain_terms ks c)) whole
-    ∙ ap (behind fs) front
+    ap (λ ks. behind fs (plain_terms ks c)) whole ∙ ap (behind fs) front
     ∙ (λ i. (fs ++ append-nil (take n ls) i, c) ∷ [])
 
 -- a term whose first complement stands at n
 pub more_terms : (fs ls : List Literal) (n : ℕ) (d : Literal) (c : ℤ) → n < length ls
-    → ArePlain (take n ls) → (get_or ls n d).negated ≡ true
-    → behind fs (plain_terms ls c)
+    → ArePlain (take n ls) → (get_or ls n d).negated ≡ true → behind fs (plain_terms ls c)
     ≡ behind (fs ++ take n ls) (plain_terms (drop (n + 1) ls) c)
     ++ behind ((fs ++ take n ls) ++ plain (get_or ls n d) ∷ []) (plain_terms (drop (n + 1) ls) (neg_ℤ c))
 more_terms fs ls n d c inside none is =
@@ -86,22 +81,16 @@ more_terms fs ls n d c inside none is =
     whole : ls ≡ gs ++ l ∷ rest
     whole =
         let next : suc n ≡ n + 1 = omega arith in
-        sym (take-append-drop n ls)
-        ∙ ap (λ ks. gs ++ ks) (drop-cons ls n d inside)
+        sym (take-append-drop n ls) ∙ ap (λ ks. gs ++ ks) (drop-cons ls n d inside)
         ∙ ap (λ i. gs ++ l ∷ drop i ls) next
 
 -- the coefficient of a term is no greater than what it adds
 pub coefficient_small : (t : TableContent) (fs ls : List Literal) (c : ℤ)
     → AreAdditions (with_more t (behind fs (plain_terms ls c))) → unsigned_abs c ≤ 2 ^ 124
 coefficient_small t fs ls c h =
-    omega (
-      arith,
-      h.small,
-      terms_total-append t.terms (behind fs (plain_terms ls c)),
-      total-behind fs (plain_terms ls c),
-      terms_total-plain_terms ls c,
-      mul-le-mul_right (unsigned_abs c) (one_le_pow (complements ls)),
-    )
+    let terms_total_append = terms_total-append t.terms (behind fs (plain_terms ls c)) in
+    let right = mul-le-mul_right (unsigned_abs c) (one_le_pow (complements ls)) in
+    omega (arith, h.small, total-behind fs (plain_terms ls c), terms_total-plain_terms ls c)
   where
     total-behind : (gs : List Literal) (ts : List Term) → terms_total (behind gs ts) ≡ terms_total ts
     total-behind gs [] = refl

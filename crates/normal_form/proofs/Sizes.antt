@@ -23,13 +23,9 @@ grown-few : (most : ℕ) (ts : List Term) → AreFew most ts
     → sets_sum grown ts ≤ 2 ^ most * sets_sum square ts
 grown-few most [] few = omega arith
 grown-few most (t ∷ ts) few =
-    omega (
-      arith,
-      grown-few most ts few.1,
-      mul-le-mul_right (square t.0) (pow_mono few.0),
-      sets_sum-cons grown t ts,
-      ap (λ m. 2 ^ most * m) (sets_sum-cons square t ts),
-    )
+    let right = mul-le-mul_right (square t.0) (pow_mono few.0) in
+    let same = ap (λ m. 2 ^ most * m) (sets_sum-cons square t ts) in
+    omega (arith, grown-few most ts few.1, sets_sum-cons grown t ts)
 
 -- ---- products and clauses
 
@@ -42,14 +38,10 @@ clauses-grown : (n : ℕ) (cs : List Clause)
     → sets_sum grown (map (clause_term n) cs) ≡ sum_by (clause_pairs normals.Multilinear) cs
 clauses-grown n [] = omega arith
 clauses-grown n (c ∷ cs) =
-    omega (
-      arith,
-      clauses-grown n cs,
-      ap (λ m. 2 ^ complements (map opposite c.literals) * m ^ 2) (opposites_length c.literals),
-      ap (λ m. 2 ^ m * length c.literals ^ 2) (complements-opposites c.literals),
-      sets_sum-cons grown (clause_term n c) (map (clause_term n) cs),
-      sum_by-cons (clause_pairs normals.Multilinear) c cs,
-    )
+    let same = ap (λ m. 2 ^ complements (map opposite c.literals) * m ^ 2) (opposites_length c.literals) in
+    let more = ap (λ m. 2 ^ m * length c.literals ^ 2) (complements-opposites c.literals) in
+    let sets = sets_sum-cons grown (clause_term n c) (map (clause_term n) cs) in
+    omega (arith, clauses-grown n cs, sum_by-cons (clause_pairs normals.Multilinear) c cs)
 
 -- ---- constraints
 

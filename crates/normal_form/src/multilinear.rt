@@ -1,4 +1,6 @@
 //! The penalty method's table in multilinear form.
+//!
+//! No run of the program comes here: it multiplies out what a problem contributes as it comes.
 ghost use Rattle.std.specs.Prelude.{◌^◌};
 ghost use Rattle.form_steps.specs.Links.{first_bits, HasFirstBits};
 ghost use Rattle.term_table.specs.Tables.{kept_at_once};

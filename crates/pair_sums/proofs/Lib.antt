@@ -1,3 +1,4 @@
+pub mod Common
 pub mod PairOrder
 pub mod SummedPairs
 pub mod UniqueSums

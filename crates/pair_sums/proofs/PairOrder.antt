@@ -1,18 +1,6 @@
 -- The numbers of pairs: which pairs have one, and that couplers are ordered by them.
-use Rattle.std.proofs.Common.{◌≡◌, ◌⊎◌, inl, inr, ℕ, ◌+◌, ◌*◌, ◌<◌, ◌^◌, List, [], ◌∷◌, refl, sym, ap, ◌∙◌, arith}
-use Rattle.std.specs.List.{AllByRecursion}
-use Rattle.std.specs.List.Sorted.{IsStrictlySortedBy}
-use Rattle.std.specs.Ordering.{nat_cmp, ordering_then}
-use Rattle.std.specs.declared.cmp.Ordering.{Ordering}
-use Rattle.std.specs.declared.cmp.Ordering.TheVariants.{Less, Equal, Greater}
-use Rattle.std.specs.Prelude.{⊤}
-use Rattle.std.specs.Cmp.{nat_cmp_is}
-use Rattle.std.proofs.lemmas.Bool.{lt-ltb}
-use Rattle.std.proofs.lemmas.Bool.Decides.{nat_tests}
-use Rattle.bits_model.specs.declared.output.Entry.{Entry}
-use Rattle.bits_model.specs.Output.{entry_cmp}
-use Rattle.bits_model.specs.PairNumbers.{pair_number}
-use Rattle.pair_sums.specs.Pairs.{IsPair}
+use Rattle.pair_sums.proofs.Common.{◌≡◌, ◌⊎◌, ℕ, ◌+◌, ◌*◌, ◌<◌, ◌^◌, List, [], ◌∷◌, arith, AllByRecursion, IsStrictlySortedBy, nat_cmp, ⊤, nat_tests, Entry, entry_cmp, pair_number, IsPair}
+use Rattle.std.specs.declared.cmp.Ordering.TheVariants.{Less}
 
 pub same_pair : (a b c d : ℕ) → b < 2 ^ 32 → d < 2 ^ 32
     → a * 2 ^ 32 + b ≡ c * 2 ^ 32 + d → (a ≡ c) × (b ≡ d)
@@ -39,55 +27,23 @@ compared m n = grind arith
 below : (b d : ℕ) → nat_cmp b d ≡ Less → b < d
 below b d less = grind (arith, nat_tests)
 
-same_number : (a c : ℕ) → nat_cmp a c ≡ Equal → a ≡ c
-same_number a c e = grind (arith, nat_tests)
-
-in_order : (a b c d : ℕ) → b < 2 ^ 32 → d < 2 ^ 32
-    → a * 2 ^ 32 + b < c * 2 ^ 32 + d
-    → ordering_then (nat_cmp a c) (nat_cmp b d) ≡ Less
-in_order a b c d in' in2 less =
-    elim (compared a c) [
-      | inl lt ↦ ap (λ o. ordering_then o (nat_cmp b d)) (sym (nat_cmp_is a c Less lt))
-      | inr (inl same) ↦
-          ap (λ o. ordering_then o (nat_cmp b d)) (sym (nat_cmp_is a c Equal same))
-          ∙ sym (nat_cmp_is b d Less (omega arith))
-      | inr (inr gt) ↦ absurd (omega arith)
-    ]
-
-by_number : (a b c d : ℕ) → b < 2 ^ 32 → d < 2 ^ 32
-    → ordering_then (nat_cmp a c) (nat_cmp b d) ≡ Less
-    → a * 2 ^ 32 + b < c * 2 ^ 32 + d
-by_number a b c d in' in2 less = go (nat_cmp a c) refl less
-  where
-    go : (o : Ordering) → nat_cmp a c ≡ o → ordering_then o (nat_cmp b d) ≡ Less
-        → a * 2 ^ 32 + b < c * 2 ^ 32 + d
-    go Less e less = omega (arith, below a c e)
-    go Equal e less = omega (arith, same_number a c e, below b d less)
-    go Greater e less = cc
-
 numbers_in_order : (e f : Entry) → IsPair (2 ^ 32) e → IsPair (2 ^ 32) f
     → pair_number e < pair_number f → entry_cmp e f ≡ Less
-numbers_in_order e f a b less =
-    rw (lt-ltb e.first e.second a.upward, lt-ltb f.first f.second b.upward)
-    (in_order e.first e.second f.first f.second a.within b.within less)
+numbers_in_order e f a b less = grind (arith, nat_tests)
 
 order_of_numbers : (e f : Entry) → IsPair (2 ^ 32) e → IsPair (2 ^ 32) f
     → entry_cmp e f ≡ Less → pair_number e < pair_number f
-order_of_numbers e f a b less =
-    by_number e.first e.second f.first f.second a.within b.within
-    (rw (lt-ltb e.first e.second a.upward, lt-ltb f.first f.second b.upward) at less)
+order_of_numbers e f a b less = grind (arith, nat_tests)
 
 all_in_order : (e : Entry) (es : List Entry) → IsPair (2 ^ 32) e → ArePairs es → Before e es
     → AllByRecursion (λ f. entry_cmp e f ≡ Less) es
 all_in_order e [] a b h = tt
-all_in_order e (f ∷ fs) a b h =
-    (numbers_in_order e f a b.0 h.0, all_in_order e fs a b.1 h.1)
+all_in_order e (f ∷ fs) a b h = (numbers_in_order e f a b.0 h.0, all_in_order e fs a b.1 h.1)
 
 all_by_number : (e : Entry) (es : List Entry) → IsPair (2 ^ 32) e → ArePairs es
     → AllByRecursion (λ f. entry_cmp e f ≡ Less) es → Before e es
 all_by_number e [] a b h = tt
-all_by_number e (f ∷ fs) a b h =
-    (order_of_numbers e f a b.0 h.0, all_by_number e fs a b.1 h.1)
+all_by_number e (f ∷ fs) a b h = (order_of_numbers e f a b.0 h.0, all_by_number e fs a b.1 h.1)
 
 pub ordered_from_rising : (es : List Entry) → ArePairs es → Rises es
     → IsStrictlySortedBy entry_cmp es

@@ -1,22 +1,7 @@
 -- Couplers in the order of their pairs, packed ones, equal neighbours as one, and couplers that came
 -- in order.
-use Rattle.std.proofs.Common.{◌≡◌, ◌≢◌, ℕ, ◌+◌, ◌*◌, ◌/◌, ◌%◌, ◌<◌, ◌≤◌, ◌^◌, unsigned_abs, arith, sym, ap, ◌∙◌, refl, subst, List, [], ◌∷◌, ◌++◌, append_assoc, append-nil, pos, length, map, ℤ, drop, Option, None, Some, slice_get, ◌+ℤ◌, ◌-ℤ◌, OnErr, Result, Ok, Err}
-use Rattle.std.specs.Prelude.{All, IfSome}
-use Rattle.std.proofs.lemmas.Int.{ints}
-use Rattle.std.specs.List.Sorted.{IsPermutation, IsNonDecreasingBy}
-use Rattle.std.proofs.lemmas.List.{drop_more, get_or-map, length-map, map-append}
-use Rattle.std.proofs.lemmas.Option.{slice_get_within, get_or_from_slice_get}
-use Rattle.std.proofs.lemmas.List.Sorted.{All-permutation, IsPermutation-append_comm, sum_by-IsPermutation}
-use Rattle.std.proofs.lemmas.List.Elements.{All-nil, All-push, All-tail, All-weaker, recursion_from_All}
-use Rattle.base.proofs.Totals.{total_by-IsPermutation}
-use Rattle.bits_model.specs.declared.output.Entry.{Entry}
-use Rattle.bits_model.specs.PairNumbers.{pair_number}
-use Rattle.pair_sums.specs.Pairs.{IsPair, IsNonzero, weight_for, entry_in_front, sums_from, AreSummed}
+use Rattle.pair_sums.proofs.Common.{nat_tests, ◌≡◌, ◌≢◌, ℕ, ◌+◌, ◌/◌, ◌<◌, ◌≤◌, ◌^◌, unsigned_abs, arith, sym, ap, ◌∙◌, refl, subst, List, [], ◌∷◌, ◌++◌, append_assoc, append-nil, pos, length, map, ℤ, drop, Option, Some, slice_get, ◌+ℤ◌, OnErr, Result, Ok, Err, All, IfSome, ints, IsPermutation, IsNonDecreasingBy, drop_more, get_or-map, length-map, map-append, slice_get_within, get_or_from_slice_get, All-permutation, IsPermutation-append_comm, sum_by-IsPermutation, All-nil, All-push, All-tail, All-weaker, recursion_from_All, total_by-IsPermutation, Entry, pair_number, IsPair, IsNonzero, weight_for, entry_in_front, sums_from, AreSummed, Shape, numbers_of, unpacked, coupler_of, listed, low_of, AreListed, IsFound, KeepsWeights, AreAscending, AreGathered}
 use Rattle.pair_sums.proofs.PairOrder.{Rises, ordered_from_rising}
-use Rattle.pair_sums.specs.declared.shape.Shape.{Shape}
-use Rattle.pair_sums.specs.declared.shape.Shape.TheVariants.{Few, Many, Most}
-use Rattle.pair_sums.specs.Codes.{numbers_of, unpacked, coupler_of, listed, low_of, AreListed, IsFound, KeepsWeights}
-use Rattle.pair_sums.specs.PairLists.{AreAscending, AreGathered}
 use Rattle.pair_sums.proofs.SummedPairs.{sums_from-other}
 
 -- ---- the order of their pairs
@@ -36,34 +21,13 @@ ordered-map entry n xs x up = λ i j d le in'.
 -- a greater code has no lesser pair
 pub codes-ordered : (shape : Shape) (c d : ℕ) (w v : ℤ) → c ≤ d
     → pair_number (coupler_of shape c w) ≤ pair_number (coupler_of shape d v)
-codes-ordered Few c d w v le =
-    let number : c / 2 ^ 28 ≤ d / 2 ^ 28 = omega arith in
-    go (c / 2 ^ 28) (d / 2 ^ 28) number
-  where
-    go : (n m : ℕ) → n ≤ m → n / 2 ^ 18 * 2 ^ 32 + n % 2 ^ 18 ≤ m / 2 ^ 18 * 2 ^ 32 + m % 2 ^ 18
-    go n m le = omega arith
-codes-ordered Many c d w v le =
-    let number : c / 2 ^ 24 ≤ d / 2 ^ 24 = omega arith in
-    go (c / 2 ^ 24) (d / 2 ^ 24) number
-  where
-    go : (n m : ℕ) → n ≤ m → n / 2 ^ 20 * 2 ^ 32 + n % 2 ^ 20 ≤ m / 2 ^ 20 * 2 ^ 32 + m % 2 ^ 20
-    go n m le = omega arith
-codes-ordered Most c d w v le =
-    let number : c / 2 ^ 22 ≤ d / 2 ^ 22 = omega arith in
-    go (c / 2 ^ 22) (d / 2 ^ 22) number
-  where
-    go : (n m : ℕ) → n ≤ m → n / 2 ^ 21 * 2 ^ 32 + n % 2 ^ 21 ≤ m / 2 ^ 21 * 2 ^ 32 + m % 2 ^ 21
-    go n m le = omega arith
+codes-ordered shape c d w v le = grind (arith, nat_tests, ints)
 
 -- the code of a weight counted from the least one on
 pub packed-code : (shape : Shape) (r : Option ℕ) (number : ℕ) (e : Entry)
     → IfSome r (λ c. coupler_of shape c e.weight ≡ e) → IfSome r (λ c. low_of shape c ≡ number)
     → pos number ≡ e.weight +ℤ pos (numbers_of shape / 2) → IfSome r (λ c. unpacked shape c ≡ e)
-packed-code shape None number e nodes low is = tt
-packed-code shape (Some c) number e nodes low is =
-    let weight : pos (low_of shape c) -ℤ pos (numbers_of shape / 2) ≡ e.weight =
-    omega (arith, ints, is, low) in
-    ap (coupler_of shape c) weight ∙ nodes
+packed-code shape r number e nodes low is = grind (arith, nat_tests, ints)
 
 -- ---- codes beside a list of weights
 
@@ -86,9 +50,7 @@ pub listed-push : (shape : Shape) (ws vs : List ℤ) (codes : List ℕ) (c : ℕ
     → coupler_of shape c e.weight ≡ e
     → map (listed shape vs) (codes ++ c ∷ []) ≡ map (listed shape ws) codes ++ e ∷ []
 listed-push shape ws vs codes c e kept all found nodes =
-    let one : listed shape vs c ≡ e = ap (coupler_of shape c) found.is ∙ nodes in
-    let rest = listed-kept shape ws vs codes kept all in
-    map-append (listed shape vs) codes (c ∷ []) ∙ (λ k. rest k ++ one k ∷ [])
+    grind (arith, nat_tests, ints, listed-kept, map-append)
 
 -- ---- neighbours of one pair
 
@@ -102,10 +64,7 @@ drop-one es n e at =
 -- the pending one is appended, and the next one is pending
 pub appended : (made new : List Entry) (p e : Entry) (es : List Entry) → pair_number p ≢ pair_number e
     → new ≡ made ++ entry_in_front p [] → new ++ sums_from e es ≡ made ++ sums_from p (e ∷ es)
-appended made new p e es other pushed =
-    ap (λ fs. fs ++ sums_from e es) pushed
-    ∙ append_assoc made (entry_in_front p []) (sums_from e es)
-    ∙ ap (λ fs. made ++ fs) (sym (sums_from-other p e es other))
+appended made new p e es other pushed = grind (arith, nat_tests, append_assoc, sums_from-other)
 
 -- ---- couplers that came in order
 
@@ -139,15 +98,7 @@ rises (e ∷ es) up =
 pub summed-ordered : (es : List Entry) (last : ℕ) (others : List Entry) → AreGathered es last
     → others ≡ [] → All (IsPair (2 ^ 32)) (es ++ others) → AreSummed (es ++ others) es
 summed-ordered es last others held none pairs =
-    let whole : es ++ others ≡ es = ap (λ fs. es ++ fs) none ∙ append-nil es in
-    let here : All (IsPair (2 ^ 32)) es = subst (All (IsPair (2 ^ 32))) whole pairs in
-    subst (λ fs. AreSummed fs es) (sym whole) (record {
-      ordered = ordered_from_rising es (recursion_from_All (IsPair (2 ^ 32)) es here) (rises es held.ascending);
-      nonzero = held.nonzero;
-      pairs = λ n all. all;
-      sums = λ i j. refl;
-      small = omega arith;
-    })
+    grind (arith, nat_tests, append-nil, ordered_from_rising, recursion_from_All, rises)
 
 -- both lists, in the other order
 pub joined-permuted : (es others all whole : List Entry) → es ++ others ≡ whole → all ≡ others ++ es

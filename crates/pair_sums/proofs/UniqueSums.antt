@@ -1,36 +1,12 @@
 -- Couplers in order, none of them 0, are told by the sum that they have for each pair.
-use Rattle.std.proofs.Common.{◌≡◌, inl, inr, ℕ, ◌<◌, Bool, true, false, ◌&&◌, eqb, pos, List, [], ◌∷◌, refl, sym, ap, ◌∙◌, arith}
-use Rattle.std.specs.List.{AllByRecursion}
-use Rattle.std.specs.Bool.{Decides}
-use Rattle.std.proofs.lemmas.Int.{ints}
-use Rattle.std.proofs.lemmas.Bool.Decides.{Decides-eqb}
-use Rattle.base.specs.Sums.{if_so}
-use Rattle.bits_model.specs.declared.output.Entry.{Entry}
-use Rattle.bits_model.specs.PairNumbers.{pair_number}
-use Rattle.pair_sums.specs.Pairs.{IsNonzero, weight_for, weight_at}
+use Rattle.pair_sums.proofs.Common.{nat_tests, ◌≡◌, inl, inr, ℕ, ◌<◌, pos, List, [], ◌∷◌, refl, sym, ap, ◌∙◌, arith, AllByRecursion, ints, Entry, pair_number, IsNonzero, weight_for, weight_at}
 use Rattle.pair_sums.proofs.PairOrder.{compared, ArePairs, Before, Rises, same_pair}
 
 pub weight_for-other : (e f : Entry) → pair_number e < pair_number f → weight_for e.first e.second f ≡ pos 0
-weight_for-other e f less =
-    go (eqb e.first f.first) (eqb e.second f.second) (Decides-eqb e.first f.first)
-    (Decides-eqb e.second f.second)
-  where
-    go : (a b : Bool) → Decides a (e.first ≡ f.first) → Decides b (e.second ≡ f.second)
-        → if_so (a && b) f.weight ≡ pos 0
-    go true true d g = absurd (omega (arith, d.0 refl, g.0 refl))
-    go true false d g = refl
-    go false b d g = refl
+weight_for-other e f less = grind (arith, nat_tests)
 
 weight_for-itself : (e : Entry) → weight_for e.first e.second e ≡ e.weight
-weight_for-itself e =
-    go (eqb e.first e.first) (eqb e.second e.second) (Decides-eqb e.first e.first)
-    (Decides-eqb e.second e.second)
-  where
-    go : (a b : Bool) → Decides a (e.first ≡ e.first) → Decides b (e.second ≡ e.second)
-        → if_so (a && b) e.weight ≡ e.weight
-    go true true d g = refl
-    go true false d g = absurd (let yes = g.1 refl in cc)
-    go false b d g = absurd (let yes = d.1 refl in cc)
+weight_for-itself e = grind (arith, nat_tests)
 
 weight_at-before : (e : Entry) (es : List Entry) → Before e es
     → weight_at e.first e.second es ≡ pos 0
@@ -54,8 +30,7 @@ none_below : (e f : Entry) (es fs : List Entry) → pair_number e < pair_number 
     → Before f fs → weight_at e.first e.second (e ∷ es) ≡ weight_at e.first e.second (f ∷ fs)
     → e.weight ≡ pos 0
 none_below e f es fs less up above same =
-    sym (weight_at-first e es up) ∙ same
-    ∙ weight_at-before e (f ∷ fs) (less, Before-further e f fs less above)
+    grind (arith, nat_tests, weight_at-first, weight_at-before, Before-further)
 
 pub same_entries : (es fs : List Entry) → ArePairs es → ArePairs fs → Rises es → Rises fs
     → AllByRecursion IsNonzero es → AllByRecursion IsNonzero fs
@@ -81,8 +56,7 @@ same_entries (e ∷ es) (f ∷ fs) p q a b m n same =
         λ k. weight_at (pair.0 k) (pair.1 k) (f ∷ fs) in
         let weight : e.weight ≡ f.weight =
         sym (weight_at-first e es a.0) ∙ same e.first e.second ∙ moved ∙ weight_at-first f fs b.0 in
-        let one : e ≡ f =
-        λ k. record { first = pair.0 k; second = pair.1 k; weight = weight k } in
+        let one : e ≡ f = λ k. record { first = pair.0 k; second = pair.1 k; weight = weight k } in
         let others =
         rest (λ i j. let here : weight_for i j e ≡ weight_for i j f = ap (weight_for i j) one in omega (arith, ints, same i j)) in
         λ k. one k ∷ others k

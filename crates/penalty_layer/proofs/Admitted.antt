@@ -1,34 +1,18 @@
 -- What the guard makes of a problem that it admits.
-use Rattle.std.proofs.Common.{◌≡◌, ◌+◌, ◌≤◌, ◌^◌, pos, unsigned_abs, ℤ, [], subst, sym, ap, ◌∙◌, arith}
-use Rattle.std.specs.Prelude.{None}
-use Rattle.form_steps.specs.declared.layer.BitsLink.{BitsLink}
-use Rattle.form_steps.specs.Relations.{Relaxes}
-use Rattle.form_steps.specs.Links.{first_bits}
+use Rattle.penalty_layer.proofs.Common.{nat_tests, ints, ◌≡◌, ◌+◌, ◌≤◌, ◌^◌, pos, unsigned_abs, ℤ, [], subst, sym, ap, arith, None, BitsLink, Relaxes, first_bits, ProblemContent, upper, limit_fault, terms_total, with_additions, TableContent, KeptTable, kept_at_once, table_size, Ascends-with_additions, Admits, contributions, node_count, image, Fits, penalty_relaxes}
 use Rattle.problem_form.specs.declared.limits.Normal.TheVariants as normals
-use Rattle.problem_form.specs.Problems.{ProblemContent}
 use Rattle.problem_form.specs.Problems as problems
-use Rattle.problem_form.specs.Limits.{upper, limit_fault}
-use Rattle.term_table.specs.Terms.{terms_total, with_additions}
-use Rattle.term_table.specs.Tables.{TableContent, KeptTable, kept_at_once, table_size}
 use Rattle.term_table.specs.Tables as tables
-use Rattle.term_table.proofs.KeptTerms.{Ascends-with_additions}
-use Rattle.penalty_layer.specs.Penalty.{Admits, contributions, node_count, image, Fits}
-use Rattle.penalty_layer.specs.laws.Relaxing.{penalty_relaxes}
 use Rattle.penalty_layer.proofs.Bounds.{within_limits, upper_within}
 use Rattle.penalty_layer.proofs.Sizes.{size_within}
 use Rattle.penalty_layer.proofs.Sums.{image-total}
 
 -- the additions, summed
 pub made_image : (p : ProblemContent) (gathered : TableContent) (table : KeptTable)
-    → gathered ≡ record { width = node_count p; terms = contributions p }
-    → table ≡ kept_at_once
+    → gathered ≡ record { width = node_count p; terms = contributions p } → table ≡ kept_at_once
     (record { width = gathered.width; terms = with_additions [] gathered.terms })
     → table ≡ kept_at_once (image p)
-made_image p gathered table added summed =
-    summed
-    ∙ ap
-    (λ (t : TableContent). kept_at_once
-    (record { width = t.width; terms = with_additions [] t.terms })) added
+made_image p gathered table added summed = grind (arith, nat_tests)
 
 pub made_total : (p : ProblemContent) (third : KeptTable) → limit_fault normals.Literal p ≡ None
     → third ≡ kept_at_once (image p) → terms_total third.content.terms + 1 ≤ 2 ^ 64
@@ -53,12 +37,9 @@ pub made_relaxes : (link : BitsLink) (p : ProblemContent) (third : KeptTable) (t
     → Relaxes (problems.form_of p) (tables.form_of third.content) (first_bits link) (pos 1)
     (record { scale = pos 1; offset = pos 0; threshold = threshold })
 made_relaxes link p third threshold fit made high =
-    let Q : KeptTable → ℤ → Type 0 =
-    λ t z. Relaxes (problems.form_of p) (tables.form_of t.content) (first_bits link) (pos 1) (record { scale = pos 1; offset = pos 0; threshold = z }) in
-    subst (λ t. Q t threshold) (sym made) (subst (λ z. Q (kept_at_once (image p)) z) (sym high) (penalty_relaxes link p fit))
+    grind (arith, nat_tests, ints, penalty_relaxes link p fit)
 
 pub threshold_within : (p : ProblemContent) (threshold : ℤ) → Admits p → threshold ≡ upper p
     → unsigned_abs threshold ≤ 2 ^ 64
 threshold_within p threshold admitted high =
-    let limits = within_limits p admitted.within in
-    omega (arith, ap unsigned_abs high, upper_within p admitted.normal (omega (arith, limits.weight)))
+    grind (arith, nat_tests, ints, within_limits, upper_within)

@@ -1,41 +1,14 @@
 -- What the limits of a problem say of its table.
-use Rattle.std.proofs.Common.{◌≡◌, ℕ, ◌+◌, ◌-◌, ◌*◌, ◌^◌, ◌≤◌, max, min, ℤ, int_lt, unsigned_abs, Bool, true, false, cond, ltb, Option, Some, None, unwrap_or, List, [], ◌∷◌, ◌++◌, length, map, fold, count_by, append_assoc, subst, refl, sym, ap, ◌∙◌, arith, inl, inr}
-use Rattle.std.specs.Prelude.{is_none, if◌then◌else◌}
-use Rattle.std.specs.List.{sum_by, AllByRecursion}
-use Rattle.std.proofs.lemmas.Int.{ints}
-use Rattle.std.proofs.lemmas.Bool.{cases_lt, lt-ltb}
-use Rattle.std.proofs.lemmas.List.Sums.{sum_by-cons}
-use Rattle.problem_form.specs.declared.limits.LimitFault.{LimitFault}
+use Rattle.penalty_layer.proofs.Common.{nat_tests, ◌≡◌, ℕ, ◌+◌, ◌-◌, ◌*◌, ◌^◌, ◌≤◌, max, unsigned_abs, cond, Option, Some, None, unwrap_or, List, [], ◌∷◌, ◌++◌, length, map, fold, count_by, append_assoc, subst, arith, is_none, sum_by, AllByRecursion, sum_by-cons, Product, Clause, ProblemContent, IsNormal, products_total, soft_weight, Counted, first_passed, limit_fault, degree, degrees, pairs, weight, penalty, reach, upper, most_degree, positive_total-le, clause_weights}
 use Rattle.problem_form.specs.declared.limits.LimitKind.TheVariants.{Variables, Degree, Negations, Pairs, Weight}
-use Rattle.problem_form.specs.declared.terms.Product.{Product}
-use Rattle.problem_form.specs.declared.terms.Clause.{Clause}
 use Rattle.problem_form.specs.declared.limits.Normal.TheVariants as normals
-use Rattle.problem_form.specs.Problems.{ProblemContent, IsNormal, products_total, soft_weight}
-use Rattle.problem_form.specs.Limits.{Counted, first_passed, limit_fault, degree, degrees, pairs, weight, penalty, reach, own_upper, lesser_of, upper, most_degree}
-use Rattle.problem_form.proofs.CountedNumbers.{positive_total-le}
-use Rattle.penalty_layer.specs.Weights.{clause_weights}
 
 -- ---- no limit is passed
 
 -- where no number passes its limit, the first does not, and no later one
 pub within_first : (c : Counted) (cs : List Counted) → first_passed (c ∷ cs) ≡ None
     → (c.number ≤ c.most) × (first_passed cs ≡ None)
-within_first c cs none =
-    elim (cases_lt c.most c.number) [
-      | inl over ↦ absurd (passed (lt-ltb c.most c.number over))
-      | inr within ↦ (within, rest (ltb c.most c.number) refl none)
-    ]
-  where
-    fault : LimitFault
-    fault = record { kind = c.kind; number = min c.number (2 ^ 128 - 1) }
-
-    passed : ltb c.most c.number ≡ true → ⊥
-    passed e = let some : Some fault ≡ None = sym (ap (λ b. cond b (Some fault) (first_passed cs)) e) ∙ none in cc
-
-    rest : (b : Bool) → ltb c.most c.number ≡ b → cond b (Some fault) (first_passed cs) ≡ None
-        → first_passed cs ≡ None
-    rest true e h = absurd cc
-    rest false e h = h
+within_first c cs none = grind (arith, nat_tests)
 
 -- the counted numbers are within their limits
 pub record IsWithin (p : ProblemContent) : Type 0 where
@@ -63,9 +36,7 @@ within_limits p none =
 -- no number is above the greatest of all
 pub most_of : (start : ℕ) (ns : List ℕ) → (start ≤ fold max start ns) × AllByRecursion (λ n. n ≤ fold max start ns) ns
 most_of start [] = (omega arith, tt)
-most_of start (n ∷ ns) =
-    let rest = most_of (max start n) ns in
-    (omega (arith, rest.0), (omega (arith, rest.0), rest.1))
+most_of start (n ∷ ns) = grind (arith, nat_tests, most_of (max start n) ns)
 
 abbrev pub AtMost : {X : Type 0} → (X → ℕ) → ℕ → List X → Type 0
 AtMost f most xs = AllByRecursion (λ x. f x ≤ most) xs
@@ -103,14 +74,7 @@ pub clause_weights_are : (n : ℕ) (cs : List Clause)
     → clause_weights n cs ≡ sum_by soft_weight cs + n * count_by (λ c. is_none c.weight) cs
 clause_weights_are n [] = omega arith
 clause_weights_are n (c ∷ cs) =
-    omega (
-      arith,
-      clause_weights_are n cs,
-      soft_or_penalty n c.weight,
-      sum_by-cons (λ (k : Clause). unwrap_or k.weight n) c cs,
-      sum_by-cons soft_weight c cs,
-      ap (λ m. n * m) (sum_by-cons (λ (k : Clause). cond (is_none k.weight) 1 0) c cs),
-    )
+    let rest0 = clause_weights_are n cs in simp sum_by-cons (grind (arith, nat_tests, soft_or_penalty))
 
 -- the sizes of what is added are within the counted weight
 pub weights_within : (p : ProblemContent)
@@ -120,21 +84,8 @@ weights_within p = omega (arith, clause_weights_are (penalty p) p.clauses)
 -- with the squares of the constraints they still are
 pub all_within : (p : ProblemContent)
     → unsigned_abs p.constant + products_total p.objective + clause_weights (penalty p) p.clauses
-    + sum_by (λ k. penalty p * reach k ^ 2) p.constraints
-    ≤ weight p
+    + sum_by (λ k. penalty p * reach k ^ 2) p.constraints ≤ weight p
 all_within p = omega (arith, clause_weights_are (penalty p) p.clauses)
 
--- the upper bound is as small as that without the most and the most are
-lesser-small : (n : ℕ) (most : Option ℤ) (u : ℤ) → unsigned_abs u ≤ n
-    → ((m : ℤ) → most ≡ Some m → unsigned_abs m ≤ n) → unsigned_abs (lesser_of most u) ≤ n
-lesser-small n None u small most_small = small
-lesser-small n (Some most) u small most_small = go (int_lt most u)
-  where
-    go : (less : Bool) → unsigned_abs (if less then most else u) ≤ n
-    go true = most_small most refl
-    go false = small
-
 pub upper_within : (p : ProblemContent) → IsNormal p → weight p ≤ 2 ^ 64 → unsigned_abs (upper p) ≤ 2 ^ 64
-upper_within p normal small =
-    lesser-small (2 ^ 64) p.most (own_upper p) (omega (arith, ints, positive_total-le p.objective))
-    (λ m is. omega (arith, normal.most m is))
+upper_within p normal small = grind (arith, nat_tests, positive_total-le p.objective)

@@ -1,3 +1,4 @@
+pub mod Common
 pub mod OppositeSets
 pub mod Bounds
 pub mod Sums

@@ -1,11 +1,5 @@
 -- There is room in a table for what a problem contributes.
-use Rattle.std.proofs.Common.{◌≡◌, List, [], arith}
-use Rattle.problem_form.specs.Problems.{ProblemContent}
-use Rattle.term_table.specs.Rooms.{HasRoomFor}
-use Rattle.term_table.specs.Terms.{Term}
-use Rattle.term_table.specs.Tables.{TableContent, AreAdditions, with_more}
-use Rattle.term_table.proofs.RoomForTerms.{room-additions}
-use Rattle.penalty_layer.specs.Penalty.{Admits, contributions, node_count}
+use Rattle.penalty_layer.proofs.Common.{◌≡◌, List, [], arith, ProblemContent, HasRoomFor, Term, TableContent, AreAdditions, with_more, room-additions, Admits, contributions, node_count}
 use Rattle.penalty_layer.proofs.Bounds.{within_limits}
 use Rattle.penalty_layer.proofs.Sets.{contribution_sets}
 use Rattle.penalty_layer.proofs.Sums.{contributions-total}

@@ -1,25 +1,6 @@
 -- The sets of all that a problem contributes are sets of its image's width.
-use Rattle.std.proofs.Common.{ℕ, suc, ◌+◌, ◌*◌, ◌≤◌, List, [], ◌∷◌, ◌++◌, length, map, get_or, pos, neg_ℤ, ◌*ℤ◌, All, arith}
-use Rattle.std.specs.List.{AllByRecursion, flat_map, sum_by}
-use Rattle.std.proofs.lemmas.List.Elements.{All-from_recursion, recursion_from_All, All-cons, All-append, All-map, All-nil}
-use Rattle.std.proofs.lemmas.List.Sums.{sum_by-cons}
-use Rattle.literal_lists.specs.declared.literal.Literal.{Literal}
-use Rattle.literal_lists.specs.Literals.{IsLiteralSet}
-use Rattle.problem_form.specs.declared.terms.Product.{Product}
-use Rattle.problem_form.specs.declared.terms.Constraint.{Constraint}
-use Rattle.problem_form.specs.Problems.{ProblemContent}
-use Rattle.problem_form.specs.Limits.{penalty, degree, degrees, slack_range, slack_bits}
-use Rattle.term_table.specs.Terms.{Term, IsTermSet}
-use Rattle.term_table.specs.Products.{scaled, products_with, IsFactor}
-use Rattle.term_table.proofs.KeptTerms.{OfSet}
-use Rattle.term_table.proofs.SmallSets.{IsTermSet-none, IsTermSet-one, IsTermSet-wider}
-use Rattle.term_table.proofs.TermProducts.{AreFactors, factor_set, products_with-sets}
-use Rattle.penalty_layer.specs.Sets.{IsSet}
-use Rattle.penalty_layer.specs.Penalty.{opposite, clause_term, plain_terms, contributions, node_count, Admits}
-use Rattle.penalty_layer.specs.Slack.{slack_weights}
-use Rattle.penalty_layer.specs.Squares.{product_term, square_terms, node, slack_terms, slack_form, constraint_terms}
-use Rattle.penalty_layer.specs.laws.SlackValues.{length-slack_weights}
-use Rattle.penalty_layer.proofs.Bounds.{within_limits, degrees_within, most_of}
+use Rattle.penalty_layer.proofs.Common.{nat_tests, ℕ, suc, ◌+◌, ◌*◌, ◌≤◌, List, [], ◌∷◌, ◌++◌, length, map, get_or, pos, neg_ℤ, ◌*ℤ◌, All, arith, AllByRecursion, flat_map, sum_by, All-from_recursion, recursion_from_All, All-cons, All-append, All-map, All-nil, sum_by-cons, Literal, IsLiteralSet, Product, Constraint, ProblemContent, penalty, degree, degrees, slack_range, slack_bits, Term, IsTermSet, scaled, products_with, IsFactor, OfSet, IsTermSet-none, IsTermSet-one, IsTermSet-wider, AreFactors, factor_set, products_with-sets, IsSet, opposite, clause_term, plain_terms, contributions, node_count, Admits, slack_weights, product_term, square_terms, node, slack_terms, slack_form, constraint_terms, length-slack_weights}
+use Rattle.penalty_layer.proofs.Bounds.{of_map, within_limits, degrees_within, most_of}
 use Rattle.penalty_layer.proofs.OppositeSets.{opposites_set, opposites_length}
 
 -- ---- sets of whatever width
@@ -56,19 +37,12 @@ by_right : (most : ℕ) (ms ns : List ℕ) → AllByRecursion (λ n. n ≤ most)
 by_right most [] ns h = h
 by_right most (m ∷ ms) ns h = by_right most ms ns h.1
 
-by_products : (most : ℕ) (ts : List Product) (ns : List ℕ)
-    → AllByRecursion (λ n. n ≤ most) (map (λ (t : Product). length t.literals) ts ++ ns)
-    → AllByRecursion (λ (t : Product). length t.literals ≤ most) ts
-    × AllByRecursion (λ n. n ≤ most) ns
-by_products most [] ns h = (tt, h)
-by_products most (t ∷ ts) ns h = let rest = by_products most ts ns h.1 in ((h.0, rest.0), rest.1)
-
 by_constraints : (most : ℕ) (ks : List Constraint)
     → AllByRecursion (λ n. n ≤ most) (flat_map (λ k. map (λ (t : Product). length t.literals) k.products) ks)
     → AllByRecursion (λ (k : Constraint). AllByRecursion (λ (t : Product). length t.literals ≤ most) k.products) ks
 by_constraints most [] h = tt
 by_constraints most (k ∷ ks) h =
-    let parts = by_products most k.products _ h in (parts.0, by_constraints most ks parts.1)
+    let parts = of_map (λ (t : Product). length t.literals) most k.products _ h in (parts.0, by_constraints most ks parts.1)
 
 -- the products of constraints can be joined with others
 pub constraint_sets : (p : ProblemContent) (width : ℕ) → Admits p → p.variables ≤ width
@@ -87,9 +61,7 @@ constraint_sets p width admitted wide k d h k' d' h' =
     }
 
 pub problem_sets : (p : ProblemContent) → Admits p → All (λ k. All (λ t. IsSet t.literals) k.products) p.constraints
-problem_sets p admitted k d h k' d' h' =
-    is_set p.variables (get_or (get_or p.constraints k d).products k' d').literals
-    (admitted.normal.constraints k d h k' d' h').set
+problem_sets p admitted k d h k' d' h' = grind (arith, nat_tests)
 
 -- ---- what is squared
 
@@ -150,8 +122,7 @@ constraint_terms-sets width n first (k ∷ ks) h within =
     let more = sum_by-cons slack_bits k ks in
     let factors = slack_form-factors width first k h.0 (omega (arith, within, more)) in
     All-append (OfSet (IsTermSet width)) (square_terms n (slack_form first k))
-    (constraint_terms n (first + slack_bits k) ks)
-    (square_terms-sets width n (slack_form first k)
+    (constraint_terms n (first + slack_bits k) ks) (square_terms-sets width n (slack_form first k)
     (recursion_from_All (λ (t : Term). IsFactor width t.0) (slack_form first k) factors))
     (constraint_terms-sets width n (first + slack_bits k) ks h.1 (omega (arith, within, more)))
 

@@ -1,12 +1,5 @@
 -- Slack bits, one by one.
-use Rattle.std.proofs.Common.{◌≡◌, ℕ, zero, suc, ◌+◌, ◌-◌, ◌*◌, ◌/◌, ◌%◌, ◌^◌, ◌<◌, ◌≤◌, nat_eq, Bool, sym, ap, ◌∙◌, subst, arith, List, [], ◌∷◌, ◌++◌, append_assoc, inl, inr, pos, neg_ℤ}
-use Rattle.std.proofs.lemmas.Bool.{cases_lt}
-use Rattle.std.proofs.Math.Nat.{pow-le-pow_right}
-use Rattle.problem_form.specs.Limits.{binary_digits}
-use Rattle.term_table.specs.Terms.{Term}
-use Rattle.penalty_layer.specs.Slack.{doubled, digit_bits}
-use Rattle.penalty_layer.specs.Squares.{node, slack_terms}
-use Rattle.penalty_layer.specs.laws.SlackValues.{HasDigits, HasDigits-binary_digits}
+use Rattle.penalty_layer.proofs.Common.{nat_tests, ◌≡◌, ℕ, zero, suc, ◌+◌, ◌-◌, ◌*◌, ◌/◌, ◌%◌, ◌^◌, ◌<◌, ◌≤◌, nat_eq, Bool, sym, ◌∙◌, subst, arith, List, [], ◌∷◌, ◌++◌, append_assoc, inl, inr, pos, neg_ℤ, cases_lt, pow-le-pow_right, binary_digits, Term, doubled, digit_bits, node, slack_terms, HasDigits, HasDigits-binary_digits}
 
 power_next : (m : ℕ) → 2 ^ suc m ≡ 2 * 2 ^ m
 power_next m = omega arith
@@ -37,15 +30,12 @@ few_digits r w e small = go w (subst (HasDigits r) (sym e) (HasDigits-binary_dig
 -- ---- steps of loops
 
 pub push_digit : (now new all : List Bool) (count i rest : ℕ) (last : Bool) → i < count
-    → new ≡ now ++ nat_eq (rest % 2) 1 ∷ []
-    → now ++ digit_bits (count - i) rest last ≡ all
+    → new ≡ now ++ nat_eq (rest % 2) 1 ∷ [] → now ++ digit_bits (count - i) rest last ≡ all
     → new ++ digit_bits (count - (i + 1)) (rest / 2) last ≡ all
 push_digit now new all count i rest last inside pushed whole =
     let e : count - i ≡ suc (count - (i + 1)) = omega arith in
     let before = rw e at whole in
-    ap (λ bs. bs ++ digit_bits (count - (i + 1)) (rest / 2) last) pushed
-    ∙ append_assoc now (nat_eq (rest % 2) 1 ∷ []) (digit_bits (count - (i + 1)) (rest / 2) last)
-    ∙ before
+    grind (arith, nat_tests, append_assoc)
 
 pub push_weight : (now new all : List Term) (count i number weight last : ℕ) → i < count
     → new ≡ now ++ (node number ∷ [], neg_ℤ (pos weight)) ∷ []
@@ -59,5 +49,4 @@ push_weight now new all count i number weight last inside pushed whole =
     let twice : weight * 2 ≡ 2 * weight = omega arith in
     let rest = slack_terms (suc number) (doubled (2 * weight) (count - (i + 1)) last) in
     (λ j. pushed j ++ slack_terms (place j) (doubled (twice j) (count - (i + 1)) last))
-    ∙ append_assoc now (part ∷ []) rest
-    ∙ before
+    ∙ append_assoc now (part ∷ []) rest ∙ before

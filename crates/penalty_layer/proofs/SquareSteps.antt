@@ -1,27 +1,11 @@
 -- Steps of the loops over the parts of a square.
-use Rattle.std.proofs.Common.{◌≡◌, ℕ, zero, suc, ◌+◌, ◌*◌, ◌^◌, ◌≤◌, unsigned_abs, ℤ, pos, ◌*ℤ◌, List, [], ◌∷◌, ◌++◌, append-nil, drop, All, Some, subst, ap, ◌∙◌, arith}
-use Rattle.std.specs.List.{slice_get}
-use Rattle.std.proofs.lemmas.Int.{unsigned_abs-mul}
-use Rattle.std.proofs.lemmas.Option.{slice_get_within, get_or_from_slice_get}
-use Rattle.std.proofs.lemmas.Nat.{mul-le}
-use Rattle.literal_lists.specs.declared.literal.Literal.{Literal}
-use Rattle.literal_lists.specs.Literals.{literal_set}
-use Rattle.literal_lists.proofs.LiteralSets.{literal_set-ascending}
-use Rattle.literal_lists.proofs.LentParts.{drop-at}
-use Rattle.term_table.specs.Terms.{Term, terms_total}
-use Rattle.term_table.specs.Products.{scaled, union_terms, product_terms, products_with}
-use Rattle.term_table.proofs.Additions.{terms_total-cons}
-use Rattle.term_table.proofs.PairUnions.{union_apart}
-use Rattle.penalty_layer.specs.Sets.{IsSet}
-use Rattle.penalty_layer.specs.Squares.{square_terms}
+use Rattle.penalty_layer.proofs.Common.{nat_tests, ◌≡◌, ℕ, ◌+◌, ◌*◌, ◌^◌, ◌≤◌, unsigned_abs, ℤ, pos, ◌*ℤ◌, List, [], ◌∷◌, ◌++◌, append-nil, drop, All, Some, ap, ◌∙◌, arith, slice_get, unsigned_abs-mul, slice_get_within, get_or_from_slice_get, mul-le, Literal, literal_set, literal_set-ascending, drop-at, Term, terms_total, scaled, union_terms, product_terms, products_with, terms_total-cons, union_apart, IsSet, square_terms}
 use Rattle.penalty_layer.proofs.Sums.{square_is}
 
 -- the part at a place has a set as all have
 pub part_at : (us : List Term) (i : ℕ) (u : Term) → slice_get us i ≡ Some u
     → All (λ t. IsSet t.0) us → IsSet u.0
-part_at us i u at sets =
-    subst (λ (t : Term). IsSet t.0) (get_or_from_slice_get us i u u at)
-    (sets i u (slice_get_within us i u at))
+part_at us i u at sets = grind (arith, nat_tests, get_or_from_slice_get, slice_get_within)
 
 -- what is left has the part at its place, and those after it
 total_left : (us : List Term) (i : ℕ) (u : Term) → slice_get us i ≡ Some u
@@ -58,11 +42,9 @@ square_step n us i u at = ap (square_terms n) (drop-at us i u at)
 
 -- its own square, its products with the parts after it, and their square fit
 pub square_small : (n : ℕ) (us : List Term) (i : ℕ) (u : Term) (most : ℕ) → slice_get us i ≡ Some u
-    → n * terms_total (drop i us) ^ 2 ≤ most
-    → n * (unsigned_abs u.1 * unsigned_abs u.1)
+    → n * terms_total (drop i us) ^ 2 ≤ most → n * (unsigned_abs u.1 * unsigned_abs u.1)
     + 2 * n * unsigned_abs u.1 * terms_total (drop (i + 1) us)
-    + n * terms_total (drop (i + 1) us) ^ 2
-    ≤ most
+    + n * terms_total (drop (i + 1) us) ^ 2 ≤ most
 square_small n us i u most at small =
     omega (
       arith,
@@ -73,11 +55,7 @@ square_small n us i u most at small =
 
 -- a factor of a square fits where the square does
 pub once_small : (n a : ℕ) → n * a ≤ n * (a * a)
-once_small n a = go a
-  where
-    go : (b : ℕ) → n * b ≤ n * (b * b)
-    go zero = omega arith
-    go (suc b) = omega (arith, mul-le n (suc b) n (suc b * suc b) (omega arith) (omega arith))
+once_small n a = grind (arith, nat_tests, mul-le)
 
 pub own_size : (n : ℕ) (a : ℤ) → unsigned_abs (pos n *ℤ (a *ℤ a)) ≡ n * (unsigned_abs a * unsigned_abs a)
 own_size n a = unsigned_abs-mul (pos n) (a *ℤ a) ∙ ap (λ m. n * m) (unsigned_abs-mul a a)

@@ -1,25 +1,6 @@
 -- The total of what the parts of a problem contribute is within the counted weight.
-use Rattle.std.proofs.Common.{◌≡◌, ℕ, zero, suc, ◌+◌, ◌*◌, ◌^◌, ◌≤◌, unsigned_abs, ℤ, pos, neg_ℤ, ◌*ℤ◌, List, [], ◌∷◌, ◌++◌, map, ap, sym, ◌∙◌, arith, unwrap_or}
-use Rattle.std.specs.Prelude.{None}
-use Rattle.std.specs.List.{sum_by}
-use Rattle.std.proofs.lemmas.Int.{ints, unsigned_abs-mul}
-use Rattle.std.proofs.lemmas.List.Sums.{sum_by-cons}
-use Rattle.std.proofs.Math.Nat.{pow-succ', pow-zero}
-use Rattle.problem_form.specs.declared.terms.Product.{Product}
-use Rattle.problem_form.specs.declared.terms.Clause.{Clause}
-use Rattle.problem_form.specs.declared.terms.Constraint.{Constraint}
+use Rattle.penalty_layer.proofs.Common.{◌≡◌, ℕ, zero, suc, ◌+◌, ◌*◌, ◌^◌, ◌≤◌, unsigned_abs, ℤ, pos, neg_ℤ, ◌*ℤ◌, List, [], ◌∷◌, ◌++◌, map, ap, sym, ◌∙◌, arith, None, sum_by, ints, unsigned_abs-mul, sum_by-cons, pow-succ', pow-zero, Product, Clause, Constraint, ProblemContent, products_total, binary_digits, penalty, weight, reach, slack_range, slack_bits, limit_fault, Term, terms_total, scaled, products_with, terms_total-cons, terms_total-append, terms_total-with_additions, products_with-total, clause_term, plain_terms, contributions, image, clause_weights, doubled, last_weight, weights_for, slack_weights, product_term, square_terms, node, slack_terms, slack_form, constraint_terms, HasDigits, HasDigits-binary_digits}
 use Rattle.problem_form.specs.declared.limits.Normal.TheVariants as normals
-use Rattle.problem_form.specs.Problems.{ProblemContent, products_total}
-use Rattle.problem_form.specs.Limits.{binary_digits, penalty, weight, reach, slack_range, slack_bits, limit_fault}
-use Rattle.term_table.specs.Terms.{Term, terms_total}
-use Rattle.term_table.specs.Products.{scaled, products_with}
-use Rattle.term_table.proofs.Additions.{terms_total-cons, terms_total-append, terms_total-with_additions}
-use Rattle.term_table.proofs.TermProducts.{products_with-total}
-use Rattle.penalty_layer.specs.Penalty.{clause_term, plain_terms, contributions, image}
-use Rattle.penalty_layer.specs.Weights.{clause_weights}
-use Rattle.penalty_layer.specs.Slack.{doubled, last_weight, weights_for, slack_weights}
-use Rattle.penalty_layer.specs.Squares.{product_term, square_terms, node, slack_terms, slack_form, constraint_terms}
-use Rattle.penalty_layer.specs.laws.SlackValues.{HasDigits, HasDigits-binary_digits}
 use Rattle.penalty_layer.proofs.Bounds.{within_limits, clause_weights_are}
 
 -- ---- a square
@@ -73,13 +54,7 @@ slack-total first r = go (binary_digits r) (HasDigits-binary_digits r)
 
 pub products_terms_total : (ts : List Product) → terms_total (map product_term ts) ≡ products_total ts
 products_terms_total [] = omega arith
-products_terms_total (t ∷ ts) =
-    omega (
-      arith,
-      products_terms_total ts,
-      terms_total-cons (product_term t) (map product_term ts),
-      sum_by-cons (λ (u : Product). unsigned_abs u.coefficient) t ts,
-    )
+products_terms_total (t ∷ ts) = omega (arith, products_terms_total ts, terms_total-cons, sum_by-cons)
 
 negated_size : (z : ℤ) → unsigned_abs (neg_ℤ z) ≡ unsigned_abs z
 negated_size z = omega (arith, ints)
@@ -87,23 +62,12 @@ negated_size z = omega (arith, ints)
 pub slack_form-total : (first : ℕ) (k : Constraint) → terms_total (slack_form first k) ≡ reach k
 slack_form-total first k =
     let slack = slack_terms first (slack_weights (slack_range k)) in
-    omega (
-      arith,
-      terms_total-append (map product_term k.products) (([], neg_ℤ k.bound) ∷ slack),
-      products_terms_total k.products,
-      terms_total-cons ([], neg_ℤ k.bound) slack,
-      negated_size k.bound,
-      slack-total first (slack_range k),
-    )
+    omega (arith, terms_total-append, products_terms_total, terms_total-cons, negated_size, slack-total)
 
 pub constraint-total : (n first : ℕ) (k : Constraint)
     → terms_total (square_terms n (slack_form first k)) ≤ n * reach k ^ 2
 constraint-total n first k =
-    omega (
-      arith,
-      square_terms-total n (slack_form first k),
-      ap (λ m. n * m ^ 2) (slack_form-total first k),
-    )
+    omega (arith, square_terms-total, ap (λ m. n * m ^ 2) (slack_form-total first k))
 
 pub constraint_terms-total : (n first : ℕ) (ks : List Constraint)
     → terms_total (constraint_terms n first ks) ≤ sum_by (λ k. n * reach k ^ 2) ks
@@ -123,44 +87,21 @@ pub clauses_terms_total : (n : ℕ) (cs : List Clause)
     → terms_total (map (clause_term n) cs) ≡ clause_weights n cs
 clauses_terms_total n [] = omega arith
 clauses_terms_total n (c ∷ cs) =
-    omega (
-      arith,
-      clauses_terms_total n cs,
-      terms_total-cons (clause_term n c) (map (clause_term n) cs),
-      sum_by-cons (λ (u : Clause). unwrap_or u.weight n) c cs,
-    )
+    omega (arith, clauses_terms_total n cs, terms_total-cons, sum_by-cons)
 
-plain-total : (p : ProblemContent)
-    → terms_total (plain_terms p)
+plain-total : (p : ProblemContent) → terms_total (plain_terms p)
     ≡ unsigned_abs p.constant + products_total p.objective + clause_weights (penalty p) p.clauses
 plain-total p =
     let products = map product_term p.objective in
     let clauses = map (clause_term (penalty p)) p.clauses in
-    omega (
-      arith,
-      terms_total-cons ([], p.constant) (products ++ clauses),
-      terms_total-append products clauses,
-      products_terms_total p.objective,
-      clauses_terms_total (penalty p) p.clauses,
-    )
+    omega (arith, terms_total-cons, terms_total-append, products_terms_total, clauses_terms_total)
 
 pub contributions-total : (p : ProblemContent) → terms_total (contributions p) ≤ weight p
 contributions-total p =
-    omega (
-      arith,
-      terms_total-append (plain_terms p) (constraint_terms (penalty p) p.variables p.constraints),
-      plain-total p,
-      clause_weights_are (penalty p) p.clauses,
-      constraint_terms-total (penalty p) p.variables p.constraints,
-    )
+    omega (arith, terms_total-append, plain-total, clause_weights_are, constraint_terms-total)
 
 -- an image's total fits 64 bits
 pub image-total : (p : ProblemContent) → limit_fault normals.Literal p ≡ None
     → terms_total (image p).terms + 1 ≤ 2 ^ 64
 image-total p none =
-    omega (
-      arith,
-      terms_total-with_additions (contributions p),
-      contributions-total p,
-      (within_limits p none).weight,
-    )
+    omega (arith, terms_total-with_additions, contributions-total, (within_limits p none).weight)

@@ -2,23 +2,7 @@
 --
 -- A union is the same whichever set stands first, and that of a set with itself is the set: so the
 -- whole product has each product of two terms twice, and each term's own square on its own set.
-use Rattle.std.proofs.Common.{◌≡◌, ℕ, ◌*◌, Bool, true, false, refl, sym, ap, ◌∙◌, arith, List, [], ◌∷◌, ℤ, pos, ◌+ℤ◌, ◌*ℤ◌}
-use Rattle.std.specs.Prelude.{if◌then◌else◌}
-use Rattle.std.specs.List.{flat_map, AllByRecursion}
-use Rattle.std.specs.Ordering.{is_eq}
-use Rattle.std.proofs.lemmas.Int.{ints}
-use Rattle.std.proofs.lemmas.List.Elements.{recursion_from_All}
-use Rattle.std.proofs.Math.IntN.{*ℤ_comm}
-use Rattle.base.specs.Sums.{total_by, if_so}
-use Rattle.base.proofs.Products.{multiply_out, integers, times_assoc}
-use Rattle.base.proofs.Totals.{total_by-append, total_by-flat_map, total_by-plus, total_by-same, total_by-times}
-use Rattle.literal_lists.specs.declared.literal.Literal.{Literal}
-use Rattle.literal_lists.specs.Literals.{has_clash, IsLiteralSet}
-use Rattle.literal_lists.proofs.LiteralSets.{literal_set-turned, literal_set-twice}
-use Rattle.term_table.specs.Terms.{Term, set_cmp, coefficient_of}
-use Rattle.term_table.specs.Products.{union, union_terms, scaled, product_terms, products_with}
-use Rattle.penalty_layer.specs.Squares.{square_terms}
-use Rattle.penalty_layer.specs.Stated.{SquaresAreProducts}
+use Rattle.penalty_layer.proofs.Common.{nat_tests, ◌≡◌, ℕ, ◌*◌, Bool, true, false, sym, ap, ◌∙◌, arith, List, [], ◌∷◌, ℤ, pos, ◌+ℤ◌, ◌*ℤ◌, if◌then◌else◌, flat_map, AllByRecursion, is_eq, ints, recursion_from_All, *ℤ_comm, total_by, if_so, multiply_out, integers, times_assoc, total_by-append, total_by-flat_map, total_by-plus, total_by-same, total_by-times, Literal, has_clash, IsLiteralSet, literal_set-turned, literal_set-twice, Term, set_cmp, coefficient_of, union, union_terms, scaled, product_terms, products_with, square_terms, SquaresAreProducts}
 
 module _ (ls : List Literal) where
   -- what a term adds to the coefficient of the set
@@ -31,13 +15,7 @@ module _ (ls : List Literal) where
 
   product-share : (ks ms : List Literal) (c : ℤ)
       → coefficient_of ls (union_terms ks ms c) ≡ if_so (met ks ms) c
-  product-share ks ms c = go (has_clash (union ks ms))
-    where
-      go : (clash : Bool)
-          → coefficient_of ls (if clash then [] else (union ks ms, c) ∷ [])
-          ≡ if_so (if clash then false else is_eq (set_cmp ls (union ks ms))) c
-      go true = refl
-      go false = omega (arith, ints)
+  product-share ks ms c = grind (arith, nat_tests, ints)
 
   met-turned : (ks ms : List Literal) → met ks ms ≡ met ms ks
   met-turned ks ms =
@@ -69,17 +47,7 @@ module _ (ls : List Literal) where
   -- a term with itself is its own square, on its own set
   own-share : (n width : ℕ) (t : Term) → IsLiteralSet width t.0
       → share (t.0, pos n *ℤ (t.1 *ℤ t.1)) ≡ pos n *ℤ share_of t t
-  own-share n width t set =
-      let same = literal_set-twice t.0 set.ordered in
-      let test : met t.0 t.0 ≡ is_eq (set_cmp ls t.0) =
-      ap (λ us. if has_clash us then false else is_eq (set_cmp ls us)) same
-      ∙ ap (λ (b : Bool). if b then false else is_eq (set_cmp ls t.0)) set.apart in
-      times_so (is_eq (set_cmp ls t.0)) (pos n) (t.1 *ℤ t.1)
-      ∙ ap (λ b. pos n *ℤ if_so b (t.1 *ℤ t.1)) (sym test)
-    where
-      times_so : (b : Bool) (m z : ℤ) → if_so b (m *ℤ z) ≡ m *ℤ if_so b z
-      times_so true m z = refl
-      times_so false m z = omega (arith, ints)
+  own-share n width t set = grind (arith, nat_tests, ints, literal_set-twice)
 
   -- the sums of the whole product
   abbrev all_shares : List Term → List Term → ℤ
@@ -94,8 +62,7 @@ module _ (ls : List Literal) where
       ∙ total_by-times (pos n) (λ t. total_by (share_of t) us) ts
 
   -- one term more on both sides
-  shares-cons : (t : Term) (ts : List Term)
-      → all_shares (t ∷ ts) (t ∷ ts)
+  shares-cons : (t : Term) (ts : List Term) → all_shares (t ∷ ts) (t ∷ ts)
       ≡ (share_of t t +ℤ total_by (share_of t) ts) +ℤ (total_by (share_of t) ts +ℤ all_shares ts ts)
   shares-cons t ts =
       ap (λ z. (share_of t t +ℤ total_by (share_of t) ts) +ℤ z)

@@ -1,17 +1,8 @@
 -- Sums over terms of what is additive in the coefficient: a table of sums has that of the additions.
 --
 -- What terms give a set, multiplied out, is such a sum.
-use Rattle.std.proofs.Common.{◌≡◌, Bool, true, false, cond, arith, sym, ap, refl, List, [], ◌∷◌, ℤ, pos, ◌+ℤ◌}
-use Rattle.std.specs.Ordering.{int_eq, match_ordering}
-use Rattle.std.specs.declared.cmp.Ordering.{Ordering}
+use Rattle.quad_form.proofs.Common.{nat_tests, ◌≡◌, arith, sym, ap, refl, List, [], ◌∷◌, ℤ, pos, ◌+ℤ◌, match_ordering, Ordering, ints, Decides-int_eq, total_by, Literal, Term, set_cmp, in_front, with_addition, with_additions, same_set}
 use Rattle.std.specs.declared.cmp.Ordering.TheVariants.{Less, Equal, Greater}
-use Rattle.std.specs.Bool.{Decides}
-use Rattle.std.proofs.lemmas.Int.{ints}
-use Rattle.std.proofs.lemmas.Bool.Decides.{Decides-int_eq}
-use Rattle.base.specs.Sums.{total_by}
-use Rattle.literal_lists.specs.declared.literal.Literal.{Literal}
-use Rattle.term_table.specs.Terms.{Term, set_cmp, in_front, with_addition, with_additions}
-use Rattle.term_table.proofs.SetOrder.{same_set}
 
 -- ---- what is additive in the coefficient
 
@@ -33,12 +24,9 @@ additive-zero f plus ls =
 
 given-in_front : (f : Amount) → IsAdditive f → (ls : List Literal) (c : ℤ) (ts : List Term)
     → given f (in_front ls c ts) ≡ f ls c +ℤ given f ts
-given-in_front f plus ls c ts = go (int_eq c (pos 0)) (Decides-int_eq c (pos 0))
-  where
-    go : (zero : Bool) → Decides zero (c ≡ pos 0)
-        → given f (cond zero ts ((ls, c) ∷ ts)) ≡ f ls c +ℤ given f ts
-    go true d = omega (arith, ints, ap (f ls) (d.0 refl), additive-zero f plus ls)
-    go false d = refl
+given-in_front f plus ls c ts =
+    let zero = additive-zero f plus ls in
+    grind (arith, ints, Decides-int_eq c (pos 0), zero)
 
 given-with_addition : (f : Amount) → IsAdditive f → (ts : List Term) (ls : List Literal) (c : ℤ)
     → given f (with_addition ts ls c) ≡ given f ts +ℤ f ls c
@@ -60,12 +48,7 @@ given-more : (f : Amount) → IsAdditive f → (table ts : List Term)
     → given f (with_additions table ts) ≡ given f table +ℤ given f ts
 given-more f plus table [] = omega (arith, ints)
 given-more f plus table (t ∷ ts) =
-    omega (
-      arith,
-      ints,
-      given-more f plus (with_addition table t.0 t.1) ts,
-      given-with_addition f plus table t.0 t.1,
-    )
+    grind (arith, nat_tests, ints, given-more f plus (with_addition table t.0 t.1) ts, given-with_addition)
 
 -- a table of sums has the sum of the additions
 pub given-with_additions : (f : Amount) → IsAdditive f → (ts : List Term)

@@ -1,15 +1,5 @@
 -- Common divisors of weights, and the greatest of them.
-use Rattle.std.proofs.Common.{◌≡◌, ◌⊎◌, inl, inr, ℕ, zero, suc, ◌*◌, ◌%◌, ◌≤◌, Bool, true, false, ℤ, pos, negsuc, neg_ℤ, ◌*ℤ◌, int_rem, unsigned_abs, List, [], ◌∷◌, ◌++◌, if◌then◌else◌, map, refl, sym, ap, ◌∙◌, subst, arith}
-use Rattle.std.specs.Int.{◌∣◌, IsGcd}
-use Rattle.std.specs.List.{AllByRecursion, list_all, sum_by}
-use Rattle.std.proofs.Math.Nat.{one-dvd, eq-zero_of_zero-dvd, dvd_trans, dvd_refl}
-use Rattle.std.proofs.lemmas.Bool.{eq-eqb, eqb-true, and_parts, and_from}
-use Rattle.std.proofs.lemmas.Int.{ints, quot-rem, unsigned_abs-mul}
-use Rattle.std.proofs.lemmas.List.Sums.{sum_by-cons}
-use Rattle.std.proofs.lemmas.List.Elements.{recursion_from_All, All-from_recursion, All-append, All-nil}
-use Rattle.std.proofs.lemmas.Nat.Gcd.{IsGcd-from_zero, IsGcd-from_mod, IsGcd-swap, dvd-zero, le_of_dvd, dvd_of_mod-eq-zero, mod-eq-zero_of_dvd}
-use Rattle.bits_model.specs.declared.output.Entry.{Entry}
-use Rattle.quad_form.specs.Units.{is_multiple, greatest_within, unit_of, counted_in, entry_in, IsCommonDivisor}
+use Rattle.quad_form.proofs.Common.{nat_tests, ◌≡◌, ◌⊎◌, inl, inr, ℕ, zero, suc, ◌*◌, ◌%◌, ◌≤◌, true, ℤ, pos, ◌*ℤ◌, int_rem, unsigned_abs, List, [], ◌∷◌, ◌++◌, map, refl, ap, subst, arith, ◌∣◌, IsGcd, AllByRecursion, list_all, sum_by, one-dvd, eq-zero_of_zero-dvd, dvd_trans, dvd_refl, eq-eqb, eqb-true, and_parts, and_from, ints, quot-rem, unsigned_abs-mul, sum_by-cons, recursion_from_All, All-from_recursion, All-append, All-nil, IsGcd-from_zero, IsGcd-from_mod, IsGcd-swap, dvd-zero, le_of_dvd, dvd_of_mod-eq-zero, mod-eq-zero_of_dvd, Entry, is_multiple, greatest_within, unit_of, counted_in, entry_in, IsCommonDivisor}
 
 -- d divides the size of each weight
 abbrev pub Divides : ℕ → List ℤ → Type 0
@@ -38,56 +28,27 @@ one_divides (w ∷ ws) = (one-dvd (unsigned_abs w), one_divides ws)
 pub greatest_divides : (n : ℕ) (ws : List ℤ) → Divides (greatest_within n ws) ws
 greatest_divides zero ws = one_divides ws
 greatest_divides (suc n) ws =
-    go (list_all (is_multiple (suc n)) ws) refl (greatest_divides n ws)
-  where
-    go : (b : Bool) → list_all (is_multiple (suc n)) ws ≡ b → Divides (greatest_within n ws) ws
-        → Divides (if b then suc n else greatest_within n ws) ws
-    go true h rest = Divides-from_test (suc n) ws h
-    go false h rest = rest
+    grind (arith, nat_tests, ints, greatest_divides n ws, Divides-from_test)
 
 pub one_le_greatest : (n : ℕ) (ws : List ℤ) → 1 ≤ greatest_within n ws
 one_le_greatest zero ws = omega arith
-one_le_greatest (suc n) ws = go (list_all (is_multiple (suc n)) ws) (one_le_greatest n ws)
-  where
-    go : (b : Bool) → 1 ≤ greatest_within n ws → 1 ≤ (if b then suc n else greatest_within n ws)
-    go true rest = omega arith
-    go false rest = rest
+one_le_greatest (suc n) ws = grind (arith, nat_tests, ints, one_le_greatest n ws)
 
 pub greatest_above : (n d : ℕ) (ws : List ℤ) → 1 ≤ d → d ≤ n → Divides d ws
     → d ≤ greatest_within n ws
 greatest_above zero d ws one low h = absurd (omega arith)
 greatest_above (suc n) d ws one low h =
-    go (list_all (is_multiple (suc n)) ws) refl (cases d n low)
-    (λ less. greatest_above n d ws one less h)
-  where
-    cases : (d n : ℕ) → d ≤ suc n → (d ≡ suc n) ⊎ (d ≤ n)
-    cases d n low = grind arith
-
-    go : (b : Bool) → list_all (is_multiple (suc n)) ws ≡ b → (d ≡ suc n) ⊎ (d ≤ n)
-        → (d ≤ n → d ≤ greatest_within n ws)
-        → d ≤ (if b then suc n else greatest_within n ws)
-    go true is or rest = low
-    go false is (inr less) rest = rest less
-    go false is (inl same) rest =
-        let all : Divides (suc n) ws = subst (λ k. Divides k ws) same h in
-        let clash : true ≡ false = sym (test-from_Divides (suc n) ws all) ∙ is in
-        cc
+    let rest : d ≤ n → d ≤ greatest_within n ws = λ less. greatest_above n d ws one less h in
+    let all : d ≡ suc n → list_all (is_multiple (suc n)) ws ≡ true = λ same. test-from_Divides (suc n) ws (rw same at h) in
+    grind (arith, rest, all)
 
 -- ---- where all are 0
 
 pub none_or_within : (d : ℕ) (ws : List ℤ) → Divides d ws
     → (sum_by unsigned_abs ws ≡ 0) ⊎ (d ≤ sum_by unsigned_abs ws)
 none_or_within d [] h = inl refl
-none_or_within d (w ∷ ws) h = go (unsigned_abs w) refl (none_or_within d ws h.1)
-  where
-    go : (n : ℕ) → unsigned_abs w ≡ n
-        → (sum_by unsigned_abs ws ≡ 0) ⊎ (d ≤ sum_by unsigned_abs ws)
-        → (sum_by unsigned_abs (w ∷ ws) ≡ 0) ⊎ (d ≤ sum_by unsigned_abs (w ∷ ws))
-    go zero is (inl none) = inl (omega (arith, sum_by-cons unsigned_abs w ws))
-    go zero is (inr low) = inr (omega (arith, sum_by-cons unsigned_abs w ws))
-    go (suc n) is rest =
-        let low : d ≤ unsigned_abs w = le_of_dvd (omega arith) h.0 in
-        inr (omega (arith, sum_by-cons unsigned_abs w ws))
+none_or_within d (w ∷ ws) h =
+    let rest0 = none_or_within d ws h.1 in simp sum_by-cons (grind (arith, nat_tests, ints, le_of_dvd))
 
 all_divide : (k : ℕ) (ws : List ℤ) → sum_by unsigned_abs ws ≡ 0 → Divides k ws
 all_divide k [] h = tt
@@ -111,37 +72,26 @@ unit_from_zero ws c = unit_of_nothing ws (zero_divides ws (recursion_from_All _ 
 
 pub unit_from_divisor : (ws : List ℤ) (d : ℕ) → 1 ≤ d → IsCommonDivisor 0 ws d → unit_of ws ≡ pos d
 unit_from_divisor ws d one c =
+    let n = sum_by unsigned_abs ws in
+    let all : Divides d ws = recursion_from_All _ ws c.weights in
+    let most : (k : ℕ) → Divides k ws → k ≤ d =
+    λ k h. le_of_dvd one (c.greatest k (dvd-zero k) (All-from_recursion _ ws h)) in
     elim (none_or_within d ws all) [
-      | inl none ↦ absurd (too_great none)
-      | inr low ↦ ap pos (same low)
+      | inl none ↦ let more : suc d ≤ d = most (suc d) (all_divide (suc d) ws none) in absurd (omega (arith, more))
+      | inr low ↦
+          let same : greatest_within n ws ≡ d = omega (arith, greatest_above n d ws one low all, most _ (greatest_divides n ws)) in
+          ap pos same
     ]
-  where
-    all : Divides d ws
-    all = recursion_from_All _ ws c.weights
-
-    most : (k : ℕ) → Divides k ws → k ≤ d
-    most k h = le_of_dvd one (c.greatest k (dvd-zero k) (All-from_recursion _ ws h))
-
-    too_great : sum_by unsigned_abs ws ≡ 0 → ⊥
-    too_great none =
-        let more : suc d ≤ d = most (suc d) (all_divide (suc d) ws none) in
-        omega arith
-
-    same : d ≤ sum_by unsigned_abs ws → greatest_within (sum_by unsigned_abs ws) ws ≡ d
-    same low =
-        let n = sum_by unsigned_abs ws in
-        omega (arith, greatest_above n d ws one low all, most _ (greatest_divides n ws))
 
 -- a common divisor is within the sum of the sizes
 pub divisor_within : (ws : List ℤ) (d : ℕ) → IsCommonDivisor 0 ws d → d ≤ sum_by unsigned_abs ws
 divisor_within ws d c =
     elim (none_or_within d ws (recursion_from_All _ ws c.weights)) [
-      | inl none ↦ all_zero (c.greatest 0 (dvd-zero 0) (All-from_recursion _ ws (all_divide 0 ws none)))
+      | inl none ↦
+          let zero = eq-zero_of_zero-dvd (c.greatest 0 (dvd-zero 0) (All-from_recursion _ ws (all_divide 0 ws none))) in
+          omega (arith, zero)
       | inr low ↦ low
     ]
-  where
-    all_zero : 0 ∣ d → d ≤ sum_by unsigned_abs ws
-    all_zero h = omega (arith, eq-zero_of_zero-dvd h)
 
 -- ---- weight by weight
 
@@ -160,8 +110,7 @@ Divides-push d (v ∷ ws) w all this = (all.0, Divides-push d ws w all.1 this)
 Divides-pushed : (d : ℕ) (ws : List ℤ) (w : ℤ) → Divides d (ws ++ w ∷ [])
     → Divides d ws × (d ∣ unsigned_abs w)
 Divides-pushed d [] w all = (tt, all.0)
-Divides-pushed d (v ∷ ws) w all =
-    let rest = Divides-pushed d ws w all.1 in ((all.0, rest.0), rest.1)
+Divides-pushed d (v ∷ ws) w all = grind (arith, nat_tests, ints, Divides-pushed d ws w all.1)
 
 pub Divides-divisor : (d e : ℕ) (ws : List ℤ) → e ∣ d → Divides d ws → Divides e ws
 Divides-divisor d e [] h all = tt
@@ -234,16 +183,14 @@ gcd_of_multiple d n rest = IsGcd-swap n d d (IsGcd-from_mod n d d (IsGcd-from_ze
 -- ---- exact quotients
 
 no_rest : (u : ℕ) (w : ℤ) → u ∣ unsigned_abs w → int_rem w (pos u) ≡ pos 0
-no_rest u (pos n) h = ap pos (mod-eq-zero_of_dvd u h)
-no_rest u (negsuc n) h = ap (λ k. neg_ℤ (pos k)) (mod-eq-zero_of_dvd u h)
+no_rest u w h = grind (arith, nat_tests, ints, mod-eq-zero_of_dvd)
 
 pub exact : (u : ℕ) (w : ℤ) → u ∣ unsigned_abs w → pos u *ℤ counted_in (pos u) w ≡ w
 exact u w h = omega (arith, ints, quot-rem w (pos u), no_rest u w h)
 
 pub size-exact : (u : ℕ) (w : ℤ) → u ∣ unsigned_abs w
     → u * unsigned_abs (counted_in (pos u) w) ≡ unsigned_abs w
-size-exact u w h =
-    sym (unsigned_abs-mul (pos u) (counted_in (pos u) w)) ∙ ap unsigned_abs (exact u w h)
+size-exact u w h = grind (arith, nat_tests, ints, unsigned_abs-mul, exact)
 
 -- ---- the unit 1
 

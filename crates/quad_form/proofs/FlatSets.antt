@@ -1,9 +1,5 @@
 -- Sets of at most two variables in order are term sets.
-use Rattle.std.proofs.Common.{ℕ, List, [], ◌∷◌}
-use Rattle.literal_lists.specs.declared.literal.Literal.{Literal}
-use Rattle.term_table.specs.Terms.{IsTermSet}
-use Rattle.term_table.proofs.SmallSets.{IsTermSet-none, IsTermSet-one, IsTermSet-two}
-use Rattle.quad_form.specs.Flat.{IsFlat}
+use Rattle.quad_form.proofs.Common.{ℕ, List, [], ◌∷◌, Literal, IsTermSet, IsTermSet-none, IsTermSet-one, IsTermSet-two, IsFlat}
 
 pub IsTermSet-flat : (width : ℕ) (ls : List Literal) → IsFlat width ls → IsTermSet width ls
 IsTermSet-flat width [] flat = IsTermSet-none width

@@ -1,51 +1,19 @@
 -- Sums of what terms of at most two literals give: one addition more, and more nodes.
-use Rattle.std.proofs.Common.{◌≡◌, ℕ, zero, suc, ◌+◌, ◌-◌, ◌*◌, ◌<◌, ◌≤◌, ◌^◌, inl, inr, arith, refl, sym, subst, ap, ◌∙◌, List, [], ◌∷◌, ◌++◌, length, length-append, replicate, get_or, ℤ, pos, ◌+ℤ◌, unsigned_abs}
-use Rattle.std.specs.Prelude.{All, Result, Ok, Err}
-use Rattle.std.specs.List.{flat_map, slice_index_or}
-use Rattle.std.specs.Result.{OnOk}
-use Rattle.std.proofs.lemmas.Int.{ints}
-use Rattle.std.proofs.lemmas.Bool.{cases_lt}
-use Rattle.std.proofs.lemmas.List.{flat_map_more, get_or-append_right, get_or_append_left, get_or_past, length-replicate, length-set}
-use Rattle.std.proofs.lemmas.List.Elements.{All-append, All-from_recursion, All-push, All-tail, All-weaker, recursion_from_All}
-use Rattle.std.proofs.lemmas.List.Sums.{sum_by-append, sum_by-set}
-use Rattle.base.proofs.Totals.{size-plus, total_by_push}
-use Rattle.bits_model.specs.declared.output.Entry.{Entry}
-use Rattle.bits_model.specs.Output.{weight_total}
-use Rattle.bits_model.proofs.Energies.{weights-append}
-use Rattle.literal_lists.specs.declared.literal.Literal.{Literal}
-use Rattle.term_table.specs.Terms.{Term, terms_total, IsTermSet}
-use Rattle.term_table.specs.Rooms.{HasRoomFor}
-use Rattle.term_table.specs.Tables.{TableContent, IsLow, IsTable, with_appended}
-use Rattle.term_table.proofs.Additions.{terms_total-append, terms_total-cons}
-use Rattle.term_table.proofs.Filling.{room_own}
-use Rattle.term_table.proofs.SmallSets.{IsLiteralSet-ascends, IsTermSet-wider}
-use Rattle.pair_sums.specs.Pairs.{IsPair}
-use Rattle.quad_form.specs.Short.{Share, share_at, short_constant, short_couplers, short_shares}
-use Rattle.quad_form.specs.Sums.{SumsContent, AreSummed, Gain, HasRoom, IsSums, size_of, widened, with_weight}
+use Rattle.quad_form.proofs.Common.{get_or-replicate, nat_tests, ◌≡◌, ℕ, zero, suc, ◌+◌, ◌*◌, ◌<◌, ◌≤◌, ◌^◌, arith, refl, sym, subst, ap, ◌∙◌, List, [], ◌∷◌, ◌++◌, length, length-append, replicate, get_or, ℤ, pos, ◌+ℤ◌, unsigned_abs, All, Result, Ok, Err, flat_map, OnOk, ints, flat_map_more, get_or-append_right, get_or_append_left, get_or_past, length-replicate, length-set, All-append, All-from_recursion, All-push, All-tail, All-weaker, recursion_from_All, sum_by-append, sum_by-set, size-plus, total_by_push, Entry, weight_total, weights-append, Literal, Term, terms_total, IsTermSet, HasRoomFor, TableContent, IsLow, IsTable, with_appended, terms_total-append, terms_total-cons, room_own, IsLiteralSet-ascends, IsTermSet-wider, IsPair, Share, share_at, short_constant, short_couplers, short_shares, SumsContent, AreSummed, Gain, HasRoom, IsSums, size_of, widened, with_weight}
 use Rattle.quad_form.proofs.ShortTerms.{share_at-append, short_constant-size, short_couplers-few, short_couplers-pairs, short_couplers-size}
 use Rattle.quad_form.proofs.UniqueForms.{grown}
 
 -- ---- shares added
 
-size-with_weight : (sums : List ℤ) (j : ℕ) (c : ℤ) → j < length sums
+pub size-with_weight : (sums : List ℤ) (j : ℕ) (c : ℤ) → j < length sums
     → size_of (with_weight sums j c) ≤ size_of sums + unsigned_abs c
-size-with_weight sums j c in' =
-    omega (
-      arith,
-      sum_by-set unsigned_abs sums j (get_or sums j (pos 0) +ℤ c) (pos 0) in',
-      size-plus (get_or sums j (pos 0)) c,
-    )
+size-with_weight sums j c in' = grind (arith, nat_tests, ints, sum_by-set, size-plus)
 
 -- one share, added to the weight of its node
 pub gain-one : (ws new : List ℤ) (i most : ℕ) (c z : ℤ) → i < length ws → z ≡ c
     → unsigned_abs c ≤ most → new ≡ with_weight ws i z → Gain ((i, c) ∷ []) most ws new
 gain-one ws new i most c z in' is low made =
-    subst (λ us. Gain ((i, c) ∷ []) most ws us) (sym (made ∙ ap (with_weight ws i) is))
-    (record {
-      width = length-set ws i (get_or ws i (pos 0) +ℤ c);
-      weights = λ k. omega (arith, ints, grown ws k i c in');
-      small = omega (arith, size-with_weight ws i c in', low);
-    })
+    grind (arith, nat_tests, ints, length-set, grown, size-with_weight)
 
 -- first some, and then others
 pub gain-both : (s u : List Share) (m k : ℕ) (a b c : List ℤ) → Gain s m a b → Gain u k b c
@@ -75,24 +43,14 @@ module _ (s k : SumsContent) (ls : List Literal) (z : ℤ) (set : IsTermSet (len
       subst (λ w. AreSummed (with_appended t ls w) k) is
       (record {
         width = added.gain.width ∙ held.width;
-        sets = All-push (λ (u : Term). IsTermSet t.width u.0) t.terms (ls, z) held.sets
-            (subst (λ n. IsTermSet n ls) held.width set);
+        sets = All-push (λ (u : Term). IsTermSet t.width u.0) t.terms (ls, z) held.sets (rw held.width at set);
         low = All-push (λ (u : Term). length u.0 ≤ 2) t.terms (ls, z) held.low low;
         total = omega (arith, added.total, held.total, terms_total-append t.terms one, terms_total-cons (ls, z) []);
         constant = omega (arith, ints, added.constant, held.constant, total_by_push short_constant t.terms (ls, z));
         weights = λ i.
-            omega (
-              arith,
-              ints,
-              added.gain.weights i,
-              held.weights i,
-              ap (share_at i) shares,
-              share_at-append i (flat_map short_shares t.terms) (short_shares (ls, z)),
-            );
-        pairs =
-            added.pairs
-            ∙ ap (λ es. es ++ short_couplers (ls, z)) held.pairs
-            ∙ flat_map_more short_couplers [] t.terms (ls, z);
+            let both = share_at-append i (flat_map short_shares t.terms) (short_shares (ls, z)) in
+            omega (arith, ints, added.gain.weights i, held.weights i, ap (share_at i) shares, both);
+        pairs = rw (added.pairs, held.pairs) (flat_map_more short_couplers [] t.terms (ls, z));
       })
 
   -- and it fits
@@ -107,36 +65,14 @@ module _ (s k : SumsContent) (ls : List Literal) (z : ℤ) (set : IsTermSet (len
       record {
         narrow = omega (arith, added.gain.width, fits.narrow);
         total = omega (arith, added.total, low);
-        constant = omega (
-          arith,
-          ap unsigned_abs added.constant,
-          size-plus s.constant (short_constant (ls, z)),
-          added.total,
-          fits.constant,
-          short_constant-size (ls, z),
-        );
+        constant = omega (arith, ap unsigned_abs added.constant, size-plus, short_constant-size);
         weights = omega (arith, added.gain.small, fits.weights, added.total);
-        pairs =
-            subst (λ m. All (IsPair m) k.pairs) (sym added.gain.width)
-            (subst (All (IsPair n)) (sym added.pairs) both);
-        pairs_total = omega (
-          arith,
-          ap weight_total added.pairs,
-          weights-append s.pairs (short_couplers (ls, z)),
-          short_couplers-size (ls, z),
-          fits.pairs_total,
-          added.total,
-        );
+        pairs = rw (added.gain.width, added.pairs) both;
+        pairs_total = omega (arith, ap weight_total added.pairs, weights-append, short_couplers-size);
       }
 
   pub few-more : length ls ≤ 2 → 4 * length k.pairs ≤ 4 * length s.pairs + length ls ^ 2
-  few-more low =
-      omega (
-        arith,
-        ap length added.pairs,
-        length-append s.pairs (short_couplers (ls, z)),
-        short_couplers-few ls z low,
-      )
+  few-more low = grind (arith, nat_tests, length-append, short_couplers-few)
 
 -- ---- room for terms
 
@@ -145,9 +81,7 @@ room-next : (s k : SumsContent) (ls : List Literal) (z c : ℤ) (more : List Ter
     → HasRoom s ((ls, c) ∷ more) → length k.weights ≡ length s.weights
     → k.total ≡ s.total + unsigned_abs z → HasRoom k more
 room-next s k ls z c more is room width total = record {
-  sets =
-      subst (λ (n : ℕ). All (λ (u : Term). IsTermSet n u.0) more) (sym width)
-      (All-tail (λ (u : Term). IsTermSet (length s.weights) u.0) (ls, c) more room.sets);
+  sets = rw width (All-tail (λ (u : Term). IsTermSet (length s.weights) u.0) (ls, c) more room.sets);
   low = All-tail (λ (u : Term). length u.0 ≤ 2) (ls, c) more room.low;
   total = omega (arith, room.total, total, ap unsigned_abs is, terms_total-cons (ls, c) more);
 }
@@ -171,38 +105,25 @@ room-table t s table low small none =
 
 -- ---- more nodes
 
-size-zeros : (n : ℕ) → size_of (replicate n (pos 0)) ≡ 0
+pub size-zeros : (n : ℕ) → size_of (replicate n (pos 0)) ≡ 0
 size-zeros zero = refl
 size-zeros (suc n) = size-zeros n
 
+pub length-widened : (nodes : ℕ) (ws : List ℤ) → length ws ≤ nodes → length (widened nodes ws) ≡ nodes
+length-widened nodes ws le = grind (arith, nat_tests, ints, length-append, length-replicate)
+
+pub size-widened : (nodes : ℕ) (ws : List ℤ) → size_of (widened nodes ws) ≡ size_of ws
+size-widened nodes ws = grind (arith, nat_tests, ints, sum_by-append, size-zeros)
+
 -- each weight is as it was, and 0 past the last one
-value-widened : (nodes : ℕ) (ws : List ℤ) (i : ℕ)
+pub value-widened : (nodes : ℕ) (ws : List ℤ) (i : ℕ)
     → get_or (widened nodes ws) i (pos 0) ≡ get_or ws i (pos 0)
 value-widened nodes ws i =
-    let zeros = replicate (nodes - length ws) (pos 0) in
-    elim (cases_lt i (length ws)) [
-      | inl here ↦ get_or_append_left ws zeros (pos 0) i here
-      | inr past ↦
-          get_or-append_right ws zeros (length ws) i (pos 0) refl past
-          ∙ value-zeros (nodes - length ws) (i - length ws)
-          ∙ sym (get_or_past ws i (pos 0) past)
-    ]
-  where
-    value-zeros : (n j : ℕ) → get_or (replicate n (pos 0)) j (pos 0) ≡ pos 0
-    value-zeros zero j = refl
-    value-zeros (suc n) zero = refl
-    value-zeros (suc n) (suc j) = value-zeros n j
+    grind (arith, get_or_append_left, get_or-append_right, get_or_past, get_or-replicate, length-append, length-replicate)
 
 module _ (s k : SumsContent) (nodes : ℕ) (wider : length s.weights ≤ nodes) (total : k.total ≡ s.total) (constant : k.constant ≡ s.constant) (weights : k.weights ≡ widened nodes s.weights) (pairs : k.pairs ≡ s.pairs) where
   wide : length k.weights ≡ nodes
-  wide =
-      omega (
-        arith,
-        ap length weights,
-        length-append s.weights (replicate (nodes - length s.weights) (pos 0)),
-        length-replicate (nodes - length s.weights) (pos 0),
-        wider,
-      )
+  wide = ap length weights ∙ length-widened nodes s.weights wider
 
   -- the additions are held over them
   pub held-wider : (t : TableContent) → AreSummed t s → AreSummed (record t { width = nodes }) k
@@ -214,10 +135,7 @@ module _ (s k : SumsContent) (nodes : ℕ) (wider : length s.weights ≤ nodes) 
     low = held.low;
     total = total ∙ held.total;
     constant = constant ∙ held.constant;
-    weights = λ i.
-        ap (λ ws. slice_index_or ws i (pos 0)) weights
-        ∙ value-widened nodes s.weights i
-        ∙ held.weights i;
+    weights = λ i. rw weights (value-widened nodes s.weights i ∙ held.weights i);
     pairs = pairs ∙ held.pairs;
   }
 
@@ -225,7 +143,6 @@ module _ (s k : SumsContent) (nodes : ℕ) (wider : length s.weights ≤ nodes) 
   pub fits-wider : nodes < 2 ^ 32 → IsSums s → IsSums k
   fits-wider narrow fits =
       let n = length s.weights in
-      let zeros = replicate (nodes - n) (pos 0) in
       let more : All (IsPair nodes) s.pairs =
       All-weaker (IsPair n) (IsPair nodes)
       (λ (e : Entry) p. record { upward = p.upward; within = omega (arith, p.within, wider) }) s.pairs fits.pairs in
@@ -233,14 +150,7 @@ module _ (s k : SumsContent) (nodes : ℕ) (wider : length s.weights ≤ nodes) 
         narrow = omega (arith, wide, narrow);
         total = omega (arith, total, fits.total);
         constant = omega (arith, ap unsigned_abs constant, total, fits.constant);
-        weights = omega (
-          arith,
-          ap size_of weights,
-          sum_by-append unsigned_abs s.weights zeros,
-          size-zeros (nodes - n),
-          total,
-          fits.weights,
-        );
-        pairs = subst (λ m. All (IsPair m) k.pairs) (sym wide) (subst (All (IsPair nodes)) (sym pairs) more);
+        weights = omega (arith, ap size_of weights, size-widened nodes s.weights, total, fits.weights);
+        pairs = rw (wide, pairs) more;
         pairs_total = omega (arith, ap weight_total pairs, total, fits.pairs_total);
       }

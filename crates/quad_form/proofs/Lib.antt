@@ -1,3 +1,4 @@
+pub mod Common
 pub mod NodeEntries
 pub mod NodeEnergies
 pub mod WrittenModels

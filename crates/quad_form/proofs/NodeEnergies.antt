@@ -1,13 +1,5 @@
 -- The energy of nodes that are numbered one after another.
-use Rattle.std.proofs.Common.{◌≡◌, ℕ, zero, suc, ◌+◌, ◌<◌, ◌≤◌, Bool, true, false, ◌&&◌, ℤ, ◌+ℤ◌, unsigned_abs, List, [], ◌∷◌, length, take, get_or, refl, ap, ◌∙◌, arith}
-use Rattle.std.proofs.lemmas.Int.{ints}
-use Rattle.std.proofs.lemmas.List.Sums.{sum_by_push, sum_by-cons}
-use Rattle.base.specs.Sums.{total_by, if_so}
-use Rattle.base.proofs.Totals.{total_by_push, size-plus}
-use Rattle.bits_model.specs.declared.output.Entry.{Entry}
-use Rattle.bits_model.specs.Output.{bit_at, bits_energy, weight_total}
-use Rattle.bits_model.proofs.Energies.{size-if_so}
-use Rattle.quad_form.specs.Quads.{node_entries}
+use Rattle.quad_form.proofs.Common.{nat_tests, ◌≡◌, ℕ, zero, suc, ◌+◌, ◌<◌, ◌≤◌, Bool, ◌&&◌, ℤ, ◌+ℤ◌, unsigned_abs, List, [], ◌∷◌, length, take, get_or, ap, ◌∙◌, arith, ints, sum_by_push, sum_by-cons, total_by, if_so, total_by_push, size-plus, Entry, bit_at, bits_energy, weight_total, size-if_so, node_entries}
 use Rattle.quad_form.proofs.NodeEntries.{node_entries_more}
 
 abbrev size : Entry → ℕ
@@ -28,12 +20,7 @@ weights_from n zero ws = omega arith
 weights_from n (suc i) [] = omega arith
 weights_from n (suc i) (w ∷ ws) =
     let entry : Entry = record { first = n; second = n; weight = w } in
-    omega (
-      arith,
-      weights_from (suc n) i ws,
-      sum_by-cons size entry (node_entries (suc n) (take i ws)),
-      sum_by-cons size entry (node_entries (suc n) ws),
-    )
+    omega (arith, weights_from (suc n) i ws, sum_by-cons)
 
 pub weights_within : (ws : List ℤ) (i : ℕ) (d : ℤ) → i < length ws
     → weight_total (node_entries 0 (take i ws)) + unsigned_abs (get_or ws i d)
@@ -41,8 +28,7 @@ pub weights_within : (ws : List ℤ) (i : ℕ) (d : ℤ) → i < length ws
 weights_within ws i d h = omega (arith, weights_more ws i d h, weights_from 0 (i + 1) ws)
 
 one_bit : (b : Bool) (w : ℤ) → if_so (b && b) w ≡ if_so b w
-one_bit true w = refl
-one_bit false w = refl
+one_bit b w = grind (arith, nat_tests, ints)
 
 energy_of_node : (y : List Bool) (ws : List ℤ) (i : ℕ) (d : ℤ) → i < length ws
     → total_by (bits_energy y) (node_entries 0 (take (i + 1) ws))
@@ -66,11 +52,4 @@ pub size_more : (y : List Bool) (ws : List ℤ) (i : ℕ) (d so_far : ℤ) → i
     → unsigned_abs so_far ≤ weight_total (node_entries 0 (take i ws))
     → unsigned_abs (so_far +ℤ if_so (bit_at y i) (get_or ws i d))
     ≤ weight_total (node_entries 0 (take (i + 1) ws))
-size_more y ws i d so_far h small =
-    omega (
-      arith,
-      small,
-      size-plus so_far (if_so (bit_at y i) (get_or ws i d)),
-      size-if_so (bit_at y i) (get_or ws i d),
-      weights_more ws i d h,
-    )
+size_more y ws i d so_far h small = omega (arith, small, size-plus, size-if_so, weights_more)

@@ -2,20 +2,8 @@
 --
 -- What the weights keep is the same for bits and for spins, whose energies are both linear in the
 -- weights.
-use Rattle.std.proofs.Common.{◌≡◌, ℕ, ◌+◌, ◌*◌, ◌<◌, ◌≤◌, Bool, true, false, ℤ, pos, neg_ℤ, ◌+ℤ◌, ◌*ℤ◌, ◌≤ℤ◌, unsigned_abs, ◌&&◌, List, length, map, All, refl, sym, ap, ◌∙◌, subst, arith}
-use Rattle.std.specs.Int.{◌∣◌}
-use Rattle.std.proofs.Math.Nat.{mul-le-mul_right}
-use Rattle.std.proofs.lemmas.Int.{ints}
-use Rattle.std.proofs.lemmas.List.{length-map}
-use Rattle.base.specs.Costs.{Form}
-use Rattle.base.specs.Sums.{total_by, if_so}
+use Rattle.quad_form.proofs.Common.{nat_tests, ◌≡◌, ℕ, ◌+◌, ◌*◌, ◌<◌, ◌≤◌, Bool, ℤ, pos, neg_ℤ, ◌+ℤ◌, ◌*ℤ◌, ◌≤ℤ◌, unsigned_abs, List, length, map, All, ap, ◌∙◌, subst, arith, ◌∣◌, mul-le-mul_right, ints, length-map, Form, total_by, Entry, Reduces, IsMultiple, bits_energy, weight_total, QuadContent, IsQuad, entries_of, node_entries, quad_total, form_of, unit_of, weights_of, counted_in, entry_in, quad_unit, reduced, IsReducedAsWritten}
 use Rattle.base.specs.declared.costs.Cost.TheVariants.{Whole}
-use Rattle.bits_model.specs.declared.output.Entry.{Entry}
-use Rattle.form_steps.specs.Relations.{Reduces}
-use Rattle.bits_model.specs.Units.{IsMultiple}
-use Rattle.bits_model.specs.Output.{bit_at, bits_energy, weight_total}
-use Rattle.quad_form.specs.Quads.{QuadContent, IsQuad, IsCoupler, entries_of, node_entries, quad_total, form_of}
-use Rattle.quad_form.specs.Units.{unit_of, weights_of, counted_in, entry_in, quad_unit, reduced, IsReducedAsWritten}
 use Rattle.quad_form.proofs.Divisors.{exact}
 use Rattle.quad_form.proofs.UnitEntries.{DividesEach, unit_in, unit_divides, one_le_unit, weights-entries, entries-in, total-in, energy-in, ordered-in, couplers-in, quotients_coprime, unit_of_zeros, each_of_rest}
 
@@ -42,10 +30,7 @@ entries_counted : (unit : ℤ) (q : QuadContent)
 entries_counted unit q = entries-in unit q.diagonal q.couplers
 
 pub one_le_quad_unit : (q : QuadContent) → pos 1 ≤ℤ quad_unit q
-one_le_quad_unit q =
-    let one = one_le_unit (entries_of q) in
-    let low : pos 1 ≤ℤ pos (unit_number q) = omega (arith, ints, one) in
-    subst (λ u. pos 1 ≤ℤ u) (unit_is q) low
+one_le_quad_unit q = grind (arith, nat_tests, ints, one_le_unit (entries_of q), unit_is q)
 
 -- ---- its total
 
@@ -62,9 +47,7 @@ total_counted q =
 
 pub total_reduced : (q : QuadContent)
     → unsigned_abs (quad_unit q) * quad_total (reduced q) ≤ quad_total q
-total_reduced q =
-    subst (λ u. unsigned_abs u * quad_total (counted_form u q) ≤ quad_total q)
-    (unit_is q) (total_counted q)
+total_reduced q = grind (arith, nat_tests, unit_is q, total_counted q)
 
 -- ---- what it keeps
 
@@ -73,18 +56,14 @@ reduced_is_quad q quad =
     let u = unit_number q in
     let width = length-map q.diagonal (counted_in (pos u)) in
     let each : DividesEach u q.couplers = each_of_rest u (node_entries 0 q.diagonal) q.couplers (unit_divides (entries_of q)) in
-    let couplers = couplers-in u (length q.diagonal) q.couplers each quad.couplers in
-    let P : ℕ → Type 0 = λ n. All (IsCoupler n) (map (entry_in (pos u)) q.couplers) in
+    let less = mul-le-mul_right (quad_total (counted_form (pos u) q)) (one_le_unit (entries_of q)) in
     let kept : IsQuad (counted_form (pos u) q) = record {
       ordered = ordered-in (pos u) q.couplers quad.ordered;
-      couplers = subst P (sym width) couplers;
+      couplers = rw width (couplers-in u (length q.diagonal) q.couplers each quad.couplers);
       narrow = omega (arith, width, quad.narrow);
-      small = lesser u (quad_total (counted_form (pos u) q)) (quad_total q) _ (one_le_unit (entries_of q)) (total_counted q) quad.small;
+      small = omega (arith, less, total_counted q, quad.small);
     } in
     subst IsQuad (form_is q) kept
-  where
-    lesser : (u a b c : ℕ) → 1 ≤ u → u * a ≤ b → b ≤ c → a ≤ c
-    lesser u a b c one h k = omega (arith, mul-le-mul_right a one)
 
 -- ---- its energies
 
@@ -100,11 +79,7 @@ form_by f q = record {
 }
 
 pub bits_linear : (y : List Bool) → IsLinear (bits_energy y)
-bits_linear y u e = go (bit_at y e.first && bit_at y e.second)
-  where
-    go : (b : Bool) → u *ℤ if_so b e.weight ≡ if_so b (u *ℤ e.weight)
-    go true = refl
-    go false = omega (arith, ints)
+bits_linear y u e = grind (arith, nat_tests)
 
 energy_each : (f : Entry → ℤ) → IsLinear f → (u : ℕ) (e : Entry) → u ∣ unsigned_abs e.weight
     → pos u *ℤ f (entry_in (pos u) e) ≡ f e
@@ -151,15 +126,12 @@ pub record IsCoprime (es : List Entry) (unit : ℤ) : Type 0 where
 
 pub counted_coprime : (q : QuadContent) → IsCoprime (entries_of (reduced q)) (quad_unit q)
 counted_coprime q =
-    subst (λ u. IsCoprime (entries_of (counted_form u q)) u) (unit_is q)
-    (subst (λ es. IsCoprime es (pos (unit_number q)))
-    (sym (entries_counted (pos (unit_number q)) q)) counted)
-  where
-    counted : IsCoprime (map (entry_in (pos (unit_number q))) (entries_of q)) (pos (unit_number q))
-    counted = record {
+    let u = unit_number q in
+    let counted : IsCoprime (map (entry_in (pos u)) (entries_of q)) (pos u) = record {
       coprime = λ d more all. quotients_coprime (entries_of q) d more all;
       zero = λ all. unit_of_zeros (entries_of q) all;
-    }
+    } in
+    subst (λ u. IsCoprime (entries_of (counted_form u q)) u) (unit_is q) (rw (entries_counted (pos u) q) counted)
 
 pub reduced_is_reduced : (q : QuadContent) → IsReducedAsWritten (reduced q) (quad_unit q)
 reduced_is_reduced q variables figures = record {
@@ -184,8 +156,7 @@ made_of_weights constant ws cs nodes couplers of_nodes of_couplers = λ i. recor
 pub made_reduces : (f : List Bool → Entry → ℤ) → ((y : List Bool) → IsLinear (f y))
     → (q r : QuadContent) (unit offset : ℤ) → r ≡ reduced q → unit ≡ quad_unit q
     → offset ≡ neg_ℤ q.constant → Reduces (form_by f q) (form_by f r) unit offset
-made_reduces f linear q r unit offset is same moved =
-    rw (is, same, moved) (forms_reduce f linear q)
+made_reduces f linear q r unit offset is same moved = rw (is, same, moved) (forms_reduce f linear q)
 
 pub made_total : (q r : QuadContent) (unit : ℤ) → r ≡ reduced q → unit ≡ quad_unit q
     → unsigned_abs unit * quad_total r ≤ quad_total q

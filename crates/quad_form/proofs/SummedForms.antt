@@ -3,30 +3,8 @@
 -- What a term of at most two literals gives is additive in its coefficient: the additions give what
 -- their table does, and the table gives what it is multiplied out to. A form is told by its
 -- constant, its weights of nodes and the sums of its pairs.
-use Rattle.std.proofs.Common.{◌≡◌, ℕ, ◌≤◌, ◌<◌, ◌^◌, eqb, arith, sym, ap, ◌∙◌, refl, subst, List, [], ◌∷◌, append-nil, length, get_or, ℤ, pos}
-use Rattle.std.specs.List.{AllByRecursion}
-use Rattle.std.specs.Ordering.{is_eq}
-use Rattle.std.proofs.lemmas.Int.{ints}
-use Rattle.std.proofs.lemmas.List.{same_lists, get_or_default, get_or-replicate, length-replicate}
-use Rattle.std.proofs.lemmas.List.Elements.{All-from_recursion, recursion_from_All}
-use Rattle.base.specs.Sums.{if_so}
-use Rattle.base.proofs.Totals.{total_by-flat_map}
-use Rattle.literal_lists.specs.declared.literal.Literal.{Literal}
-use Rattle.term_table.specs.Terms.{Term, coefficient_of, set_cmp, terms_total, with_additions}
-use Rattle.term_table.specs.Tables.{TableContent, IsLow, IsTable}
-use Rattle.term_table.specs.MultipliedOut.{plain_terms, contributions}
-use Rattle.term_table.proofs.Additions.{coefficient_of-with_additions, terms_total-with_additions}
-use Rattle.term_table.proofs.KeptTerms.{OfSet, All-with_additions, AreTerms-with_additions}
-use Rattle.term_table.proofs.UniqueTerms.{same_tables}
-use Rattle.bits_model.specs.declared.output.Entry.{Entry}
-use Rattle.bits_model.proofs.Energies.{weights-append}
-use Rattle.pair_sums.specs.Pairs.{weight_at, weight_for, IsNonzero, IsPair}
+use Rattle.quad_form.proofs.Common.{nat_tests, ◌≡◌, ℕ, ◌≤◌, ◌<◌, ◌^◌, eqb, arith, sym, ap, ◌∙◌, refl, subst, List, [], ◌∷◌, append-nil, length, get_or, ℤ, pos, AllByRecursion, is_eq, ints, same_lists, get_or_default, get_or-replicate, length-replicate, All-from_recursion, recursion_from_All, if_so, total_by-flat_map, Literal, Term, coefficient_of, set_cmp, terms_total, with_additions, TableContent, IsLow, IsTable, plain_terms, contributions, coefficient_of-with_additions, terms_total-with_additions, OfSet, All-with_additions, AreTerms-with_additions, same_tables, Entry, weights-append, weight_at, weight_for, IsNonzero, IsPair, QuadContent, node_entries, IsCoupler, IsQuad, image, zero_quad, IsFlat, Share, share_at, short_constant, short_couplers, short_shares, SumsContent, AreSummed, IsSums, size_of, flat_sets, length-image}
 use Rattle.pair_sums.specs.Pairs as pairs
-use Rattle.quad_form.specs.Quads.{QuadContent, node_entries, IsCoupler, IsQuad}
-use Rattle.quad_form.specs.Flat.{image, zero_quad, IsFlat}
-use Rattle.quad_form.specs.Short.{Share, share_at, short_constant, short_couplers, short_shares}
-use Rattle.quad_form.specs.Sums.{SumsContent, AreSummed, IsSums, size_of}
-use Rattle.quad_form.specs.laws.Flattened.{flat_sets, length-image}
 use Rattle.quad_form.proofs.Additive.{Amount, IsAdditive, given, given-with_additions}
 use Rattle.quad_form.proofs.ShortTerms.{given_to, constant-additive, couplers-additive, shares-additive, short_constant-is, short_couplers-are, short_shares-are}
 use Rattle.quad_form.proofs.UniqueForms.{node, constant-fold, node-fold, pair-fold, same_couplers, IsQuad-image}
@@ -44,8 +22,7 @@ AreShort ts = AllByRecursion (λ (t : Term). length t.0 ≤ 2) ts
 over_short : (f g : Amount) (ts : List Term)
     → ((t : Term) → length t.0 ≤ 2 → f t.0 t.1 ≡ g t.0 t.1) → AreShort ts → given f ts ≡ given g ts
 over_short f g [] same short = refl
-over_short f g (t ∷ ts) same short =
-    omega (arith, ints, same t short.0, over_short f g ts same short.1)
+over_short f g (t ∷ ts) same short = grind (arith, nat_tests, over_short f g ts same short.1)
 
 -- what their table is multiplied out to gives a set what they give it
 table-gives : (ls : List Literal) (g : Amount) (ts : List Term) → IsAdditive g
@@ -86,47 +63,28 @@ module _ (t : TableContent) (s : SumsContent) (fits : IsSums s) (held : AreSumme
   -- the constant of the image
   constant : (image u).constant ≡ s.constant
   constant =
-      let ts = with_additions [] (contributions u.terms) in
-      omega (
-        arith,
-        ints,
-        constant-fold (zero_quad u.width) ts,
-        table-gives [] (λ ls c. short_constant (ls, c)) t.terms constant-additive short_constant-is short,
-        held.constant,
-      )
+      let folded = constant-fold (zero_quad u.width) (with_additions [] (contributions u.terms)) in
+      let gives = table-gives [] (λ ls c. short_constant (ls, c)) t.terms constant-additive short_constant-is short in
+      omega (arith, ints, folded, gives, held.constant)
 
   -- its weights of nodes
   weight : (i : ℕ) → i < t.width → get_or (image u).diagonal i (pos 0) ≡ get_or s.weights i (pos 0)
   weight i within =
-      let ts = with_additions [] (contributions u.terms) in
-      let none : get_or (zero_quad u.width).diagonal i (pos 0) ≡ pos 0 =
-      get_or-replicate u.width i (pos 0) (pos 0) within in
+      let none = get_or-replicate u.width i (pos 0) (pos 0) within in
       let sets = recursion_from_All (OfSet (IsFlat t.width)) _ (flat_sets u table low) in
-      omega (
-        arith,
-        ints,
-        node-fold (zero_quad u.width) u.width i ts (length-replicate u.width (pos 0)) sets,
-        none,
-        table-gives (node i ∷ []) (λ ls c. share_at i (short_shares (ls, c))) t.terms (shares-additive i)
-            (short_shares-are i) short,
-        total_by-flat_map (λ (x : Share). if_so (eqb i x.0) x.1) short_shares t.terms,
-        held.weights i,
-      )
+      let folded = node-fold (zero_quad u.width) u.width i (with_additions [] (contributions u.terms)) (length-replicate u.width (pos 0)) sets in
+      let gives = table-gives (node i ∷ []) (λ ls c. share_at i (short_shares (ls, c))) t.terms (shares-additive i) (short_shares-are i) short in
+      let flat = total_by-flat_map (λ (x : Share). if_so (eqb i x.0) x.1) short_shares t.terms in
+      omega (arith, ints, folded, none, gives, flat, held.weights i)
 
   -- and the sum of each pair
   pair : (i j : ℕ) → weight_at i j (image u).couplers ≡ weight_at i j s.pairs
   pair i j =
-      let ts = with_additions [] (contributions u.terms) in
       let sets = recursion_from_All (OfSet (IsFlat t.width)) _ (flat_sets u table low) in
-      omega (
-        arith,
-        ints,
-        pair-fold (zero_quad u.width) i j u.width ts sets,
-        table-gives (node i ∷ node j ∷ []) (λ ls c. weight_at i j (short_couplers (ls, c))) t.terms
-            (couplers-additive i j) (short_couplers-are i j) short,
-        total_by-flat_map (weight_for i j) short_couplers t.terms,
-        ap (weight_at i j) held.pairs,
-      )
+      let folded = pair-fold (zero_quad u.width) i j u.width (with_additions [] (contributions u.terms)) sets in
+      let gives = table-gives (node i ∷ node j ∷ []) (λ ls c. weight_at i j (short_couplers (ls, c))) t.terms (couplers-additive i j) (short_couplers-are i j) short in
+      let flat = total_by-flat_map (weight_for i j) short_couplers t.terms in
+      omega (arith, ints, folded, gives, flat, ap (weight_at i j) held.pairs)
 
   -- a form with these sums is the image
   pub sums_are_image : (q : QuadContent) → IsQuad q → q.constant ≡ s.constant → q.diagonal ≡ s.weights
@@ -164,17 +122,10 @@ IsQuad-sums s constant diagonal couplers fits same nodes summed =
           (couplers_from_pairs n couplers (recursion_from_All _ _ (summed.pairs n fits.pairs)) (recursion_from_All _ _ summed.nonzero));
       narrow = fits.narrow;
       small =
-          omega (
-            arith,
-            summed.small,
-            weights-append (node_entries 0 s.weights) couplers,
-            sizes_of_weights s.weights [],
-            ap size_of (append-nil s.weights),
-            fits.constant,
-            fits.weights,
-            fits.pairs_total,
-            fits.total,
-          );
+          let weights = weights-append (node_entries 0 s.weights) couplers in
+          let sizes = sizes_of_weights s.weights [] in
+          let whole = ap size_of (append-nil s.weights) in
+          omega (arith, summed.small, weights, sizes, whole, fits.constant, fits.weights, fits.pairs_total, fits.total);
     })
 
 -- ---- a table

@@ -1,79 +1,32 @@
 -- A quadratic form is told by its constant, its weights of nodes and the sum that it has for each
 -- pair, and for terms over variables these are the sums of the coefficients of a set.
-use Rattle.std.proofs.Common.{◌≡◌, ℕ, ◌*◌, ◌<◌, ◌≤◌, ◌^◌, Bool, true, false, ◌&&◌, eqb, ℤ, pos, ◌+ℤ◌, List, [], ◌∷◌, length, get_or, fold, refl, sym, ap, subst, ◌∙◌, arith}
-use Rattle.std.specs.Prelude.{slice_set}
-use Rattle.std.specs.List.{AllByRecursion, slice_index_or}
-use Rattle.std.specs.Ordering.{nat_cmp, ordering_then, is_eq}
-use Rattle.std.specs.Bool.{Decides}
-use Rattle.std.specs.declared.cmp.Ordering.{Ordering}
-use Rattle.std.specs.declared.cmp.Ordering.TheVariants.{Less, Equal, Greater}
-use Rattle.std.proofs.lemmas.Int.{ints}
-use Rattle.std.proofs.lemmas.Bool.Decides.{nat_tests, Decides-eqb}
-use Rattle.std.proofs.lemmas.List.{get_or-set_same, get_or-set_other}
-use Rattle.std.proofs.lemmas.List.Elements.{All-weaker, recursion_from_All}
-use Rattle.base.specs.Sums.{if_so}
-use Rattle.base.proofs.Totals.{total_by_push}
-use Rattle.bits_model.specs.declared.output.Entry.{Entry}
-use Rattle.literal_lists.specs.declared.literal.Literal.{Literal}
-use Rattle.literal_lists.specs.Literals.{literal_cmp}
-use Rattle.term_table.specs.Terms.{Term, set_cmp, coefficient_of, with_additions, terms_total}
-use Rattle.term_table.specs.Tables.{TableContent, IsTable, IsLow}
-use Rattle.term_table.specs.MultipliedOut.{contributions}
-use Rattle.term_table.proofs.Additions.{terms_total-with_additions}
-use Rattle.term_table.proofs.KeptTerms.{OfSet, AreTerms-with_additions}
-use Rattle.quad_form.specs.Quads.{QuadContent, IsCoupler, IsQuad}
-use Rattle.quad_form.specs.Flat.{pair_entry, with_term, image, IsFlat}
-use Rattle.quad_form.specs.laws.Flattened.{length-with_term, flat_sets, flat_contributions}
-use Rattle.pair_sums.specs.Pairs.{IsNonzero, weight_for, weight_at}
+use Rattle.quad_form.proofs.Common.{◌≡◌, ℕ, ◌*◌, ◌<◌, ◌≤◌, ◌^◌, false, ◌&&◌, eqb, ℤ, pos, ◌+ℤ◌, List, [], ◌∷◌, length, get_or, fold, sym, subst, ◌∙◌, arith, slice_set, AllByRecursion, slice_index_or, ordering_then, is_eq, Ordering, ints, nat_tests, get_or-set_same, get_or-set_other, All-weaker, recursion_from_All, if_so, total_by_push, Entry, Literal, Term, set_cmp, coefficient_of, with_additions, terms_total, TableContent, IsTable, IsLow, contributions, terms_total-with_additions, OfSet, AreTerms-with_additions, QuadContent, IsCoupler, IsQuad, with_term, image, IsFlat, length-with_term, flat_sets, flat_contributions, IsNonzero, weight_at, same_entries, ArePairs, rising_from_ordered}
+use Rattle.std.specs.declared.cmp.Ordering.TheVariants.{Less, Greater}
 use Rattle.quad_form.proofs.FlatForms.{IsQuad-of}
 use Rattle.quad_form.proofs.FlatSets.{IsTermSet-flat}
 use Rattle.quad_form.proofs.FlatSums.{terms_total-contributions}
-use Rattle.pair_sums.proofs.UniqueSums.{same_entries}
-use Rattle.pair_sums.proofs.PairOrder.{ArePairs, rising_from_ordered}
 
 -- ---- the sets of a constant, a node and a pair
 
 abbrev pub node : ℕ → Literal
 node i = record { variable = i; negated = false }
 
-equal_numbers : (a b : ℕ) → is_eq (nat_cmp a b) ≡ eqb a b
-equal_numbers a b = grind (arith, nat_tests)
-
-then_equal : (o : Ordering) → ordering_then o Equal ≡ o
-then_equal Less = refl
-then_equal Equal = refl
-then_equal Greater = refl
-
 pub then_less : (o : Ordering) → is_eq (ordering_then o Less) ≡ false
-then_less Less = refl
-then_less Equal = refl
-then_less Greater = refl
+then_less o = grind (arith, nat_tests)
 
 pub then_greater : (o : Ordering) → is_eq (ordering_then o Greater) ≡ false
-then_greater Less = refl
-then_greater Equal = refl
-then_greater Greater = refl
+then_greater o = grind (arith, nat_tests)
 
 pub then_both : (o p : Ordering) → is_eq (ordering_then o p) ≡ (is_eq o && is_eq p)
-then_both Less p = refl
-then_both Equal p = refl
-then_both Greater p = refl
-
-literal_is : (i : ℕ) (l : Literal) → l.negated ≡ false → literal_cmp (node i) l ≡ nat_cmp i l.variable
-literal_is i l e = rw e (then_equal (nat_cmp i l.variable))
+then_both o p = grind (arith, nat_tests)
 
 pub one_is : (i : ℕ) (l : Literal) → l.negated ≡ false
     → is_eq (set_cmp (node i ∷ []) (l ∷ [])) ≡ eqb i l.variable
-one_is i l e =
-    ap is_eq (then_equal (literal_cmp (node i) l) ∙ literal_is i l e)
-    ∙ equal_numbers i l.variable
+one_is i l e = grind (arith, nat_tests)
 
 pub two_are : (i j : ℕ) (l k : Literal) → l.negated ≡ false → k.negated ≡ false
     → is_eq (set_cmp (node i ∷ node j ∷ []) (l ∷ k ∷ [])) ≡ (eqb i l.variable && eqb j k.variable)
-two_are i j l k e f =
-    then_both (literal_cmp (node i) l) (set_cmp (node j ∷ []) (k ∷ []))
-    ∙ (λ n. is_eq (literal_is i l e n) && one_is j k f n)
-    ∙ ap (λ b. b && eqb j k.variable) (equal_numbers i l.variable)
+two_are i j l k e f = grind (arith, nat_tests)
 
 -- ---- what terms over variables place
 
@@ -92,25 +45,12 @@ constant-fold q ((l ∷ k ∷ ls, c) ∷ ts) =
 pub grown : (ws : List ℤ) (i n : ℕ) (c : ℤ) → n < length ws
     → get_or (slice_set ws n (slice_index_or ws n (pos 0) +ℤ c)) i (pos 0)
     ≡ get_or ws i (pos 0) +ℤ if_so (eqb i n) c
-grown ws i n c in' = go (eqb i n) (Decides-eqb i n)
-  where
-    go : (same : Bool) → Decides same (i ≡ n)
-        → get_or (slice_set ws n (slice_index_or ws n (pos 0) +ℤ c)) i (pos 0)
-        ≡ get_or ws i (pos 0) +ℤ if_so same c
-    go true d =
-        rw (d.0 refl) (get_or-set_same ws n (slice_index_or ws n (pos 0) +ℤ c) (pos 0) in')
-    go false d =
-        let kept = get_or-set_other ws n i (slice_index_or ws n (pos 0) +ℤ c) (pos 0) (λ e. let yes = d.1 e in cc) in
-        omega (arith, ints, kept)
+grown ws i n c in' = grind (arith, nat_tests, ints, get_or-set_same, get_or-set_other)
 
 node-with_term : (q : QuadContent) (i : ℕ) (ls : List Literal) (c : ℤ) → IsFlat (length q.diagonal) ls
     → get_or (with_term q (ls, c)).diagonal i (pos 0)
     ≡ get_or q.diagonal i (pos 0) +ℤ if_so (is_eq (set_cmp (node i ∷ []) ls)) c
-node-with_term q i [] c flat = omega (arith, ints)
-node-with_term q i (l ∷ []) c flat =
-    rw (one_is i l flat.plain) (grown q.diagonal i l.variable c flat.within)
-node-with_term q i (l ∷ k ∷ ls) c flat =
-    rw (then_less (literal_cmp (node i) l)) (omega (arith, ints))
+node-with_term q i ls c flat = grind (arith, nat_tests, ints, one_is, grown, then_less)
 
 pub node-fold : (q : QuadContent) (width i : ℕ) (ts : List Term) → length q.diagonal ≡ width
     → AreFlat width ts
@@ -129,13 +69,8 @@ node-fold q width i (t ∷ ts) same flat =
 pair-with_term : (q : QuadContent) (i j width : ℕ) (ls : List Literal) (c : ℤ) → IsFlat width ls
     → weight_at i j (with_term q (ls, c)).couplers
     ≡ weight_at i j q.couplers +ℤ if_so (is_eq (set_cmp (node i ∷ node j ∷ []) ls)) c
-pair-with_term q i j width [] c flat = omega (arith, ints)
-pair-with_term q i j width (l ∷ []) c flat =
-    rw (then_greater (literal_cmp (node i) l)) (omega (arith, ints))
-pair-with_term q i j width (l ∷ k ∷ []) c flat =
-    rw (two_are i j l k flat.0.plain flat.1.plain)
-    (total_by_push (weight_for i j) q.couplers (pair_entry l k c))
-pair-with_term q i j width (l ∷ k ∷ m ∷ ls) c flat = absurd flat
+pair-with_term q i j width ls c flat =
+    grind (arith, nat_tests, ints, then_greater, two_are, total_by_push)
 
 pub pair-fold : (q : QuadContent) (i j width : ℕ) (ts : List Term) → AreFlat width ts
     → weight_at i j (fold with_term q ts).couplers
@@ -154,8 +89,7 @@ pair-fold q i j width (t ∷ ts) flat =
 pub couplers_are_pairs : (n : ℕ) (es : List Entry) → n < 2 ^ 32 → AllByRecursion (IsCoupler n) es → ArePairs es
 couplers_are_pairs n [] narrow all = tt
 couplers_are_pairs n (e ∷ es) narrow all =
-    let in' = all.0.within in
-    (record { upward = all.0.upward; within = omega arith }, couplers_are_pairs n es narrow all.1)
+    grind (arith, nat_tests, couplers_are_pairs n es narrow all.1)
 
 pub nonzero_couplers : (n : ℕ) (es : List Entry) → AllByRecursion (IsCoupler n) es
     → AllByRecursion IsNonzero es

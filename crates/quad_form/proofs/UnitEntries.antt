@@ -1,21 +1,6 @@
 -- Entries whose weights are counted in a unit that divides them.
-use Rattle.std.proofs.Common.{◌≡◌, ◌≢◌, inl, inr, ℕ, zero, suc, ◌+◌, ◌*◌, ◌<◌, ◌≤◌, ℤ, pos, ◌+ℤ◌, ◌*ℤ◌, unsigned_abs, List, [], ◌∷◌, ◌++◌, All, map, refl, sym, ap, ◌∙◌, subst, arith}
-use Rattle.std.specs.Int.{◌∣◌}
-use Rattle.std.specs.List.{AllByRecursion, sum_by}
-use Rattle.std.specs.List.Sorted.{IsStrictlySortedBy}
+use Rattle.quad_form.proofs.Common.{nat_tests, ◌≡◌, ◌≢◌, inl, inr, ℕ, suc, ◌+◌, ◌*◌, ◌<◌, ◌≤◌, ℤ, pos, ◌+ℤ◌, ◌*ℤ◌, unsigned_abs, List, [], ◌∷◌, ◌++◌, All, map, refl, sym, ap, ◌∙◌, subst, arith, ◌∣◌, AllByRecursion, sum_by, IsStrictlySortedBy, mul-le-mul_left, dvd-mul_right, mul-dvd-mul_left, ints, unsigned_abs-mul, map-append, sum_by-cons, sum_by-append, recursion_from_All, All-from_recursion, total_by, times-plus, Entry, IsMultiple, entry_cmp, weight_total, node_entries, IsCoupler, greatest_within, IsCommonDivisor, weight_of, weights_of, counted_in, entry_in}
 use Rattle.std.specs.declared.cmp.Ordering.TheVariants.{Less}
-use Rattle.std.proofs.Math.Nat.{mul-le-mul_left, dvd-mul_right, mul-dvd-mul_left}
-use Rattle.std.proofs.lemmas.Int.{ints, unsigned_abs-mul}
-use Rattle.std.proofs.lemmas.List.{map-append}
-use Rattle.std.proofs.lemmas.List.Sums.{sum_by-cons, sum_by-append}
-use Rattle.std.proofs.lemmas.List.Elements.{recursion_from_All, All-from_recursion}
-use Rattle.base.specs.Sums.{total_by}
-use Rattle.base.proofs.Products.{times-plus}
-use Rattle.bits_model.specs.declared.output.Entry.{Entry}
-use Rattle.bits_model.specs.Units.{IsMultiple}
-use Rattle.bits_model.specs.Output.{entry_cmp, weight_total}
-use Rattle.quad_form.specs.Quads.{node_entries, IsCoupler}
-use Rattle.quad_form.specs.Units.{greatest_within, IsCommonDivisor, weight_of, weights_of, counted_in, entry_in}
 use Rattle.quad_form.proofs.Divisors.{Divides, greatest_divides, one_le_greatest, greatest_above, none_or_within, unit_of_nothing, divisor_of_both, divisor_within, exact, size-exact}
 
 -- d divides the size of each entry's weight
@@ -38,18 +23,11 @@ weights-nodes n (w ∷ ws) = ap (λ vs. w ∷ vs) (weights-nodes (suc n) ws)
 
 pub weights-entries : (ws : List ℤ) (cs : List Entry)
     → map weight_of (node_entries 0 ws ++ cs) ≡ weights_of ws cs
-weights-entries ws cs =
-    map-append weight_of (node_entries 0 ws) cs ∙ ap (λ vs. vs ++ map weight_of cs) (weights-nodes 0 ws)
+weights-entries ws cs = grind (arith, nat_tests, ints, map-append, weights-nodes)
 
 sizes-entries : (es : List Entry) → sum_by unsigned_abs (map weight_of es) ≡ weight_total es
 sizes-entries [] = refl
-sizes-entries (e ∷ es) =
-    omega (
-      arith,
-      sizes-entries es,
-      sum_by-cons unsigned_abs e.weight (map weight_of es),
-      sum_by-cons (λ (e : Entry). unsigned_abs e.weight) e es,
-    )
+sizes-entries (e ∷ es) = omega (arith, sizes-entries es, sum_by-cons)
 
 -- the sizes of all weights
 pub sizes_of_weights : (ws : List ℤ) (cs : List Entry)
@@ -73,16 +51,13 @@ divisor_low ws cs e high c small =
 nodes-in : (unit : ℤ) (n : ℕ) (ws : List ℤ)
     → node_entries n (map (counted_in unit) ws) ≡ map (entry_in unit) (node_entries n ws)
 nodes-in unit n [] = refl
-nodes-in unit n (w ∷ ws) =
-    ap (λ es. record { first = n; second = n; weight = counted_in unit w } ∷ es) (nodes-in unit (suc n) ws)
+nodes-in unit n (w ∷ ws) = grind (arith, nat_tests, ints, nodes-in unit (suc n) ws)
 
 -- the entries of weights that are counted in a unit
 pub entries-in : (unit : ℤ) (ws : List ℤ) (cs : List Entry)
     → node_entries 0 (map (counted_in unit) ws) ++ map (entry_in unit) cs
     ≡ map (entry_in unit) (node_entries 0 ws ++ cs)
-entries-in unit ws cs =
-    ap (λ es. es ++ map (entry_in unit) cs) (nodes-in unit 0 ws)
-    ∙ sym (map-append (entry_in unit) (node_entries 0 ws) cs)
+entries-in unit ws cs = grind (arith, nat_tests, ints, nodes-in, map-append)
 
 -- ---- sums
 
@@ -91,15 +66,8 @@ pub total-in : (u : ℕ) (es : List Entry) → DividesEach u es
     → u * weight_total (map (entry_in (pos u)) es) ≡ weight_total es
 total-in u [] h = omega arith
 total-in u (e ∷ es) h =
-    let size : Entry → ℕ = λ (e : Entry). unsigned_abs e.weight in
-    let this = unsigned_abs (counted_in (pos u) e.weight) in
-    let rest = weight_total (map (entry_in (pos u)) es) in
-    ap (λ n. u * n) (sum_by-cons size (entry_in (pos u) e) (map (entry_in (pos u)) es))
-    ∙ product u this rest (size-exact u e.weight h.0) (total-in u es h.1)
-    ∙ sym (sum_by-cons size e es)
-  where
-    product : (u a b : ℕ) {m n : ℕ} → u * a ≡ m → u * b ≡ n → u * (a + b) ≡ m + n
-    product u a b p q = omega (arith, p, q)
+    let own = size-exact u e.weight h.0 in
+    simp sum_by-cons (omega (arith, own, total-in u es h.1))
 
 -- an energy of entries is divided by the unit, where it is of each entry
 pub energy-in : (f : Entry → ℤ) (u : ℕ) (es : List Entry) → DividesEach u es
@@ -125,20 +93,13 @@ ordered-in unit [] h = tt
 ordered-in unit (e ∷ es) h = (before-in unit e es h.0, ordered-in unit es h.1)
 
 nonzero-in : (u : ℕ) (w : ℤ) → u ∣ unsigned_abs w → w ≢ pos 0 → counted_in (pos u) w ≢ pos 0
-nonzero-in u w h some none =
-    some (sym (exact u w h) ∙ ap (λ z. pos u *ℤ z) none ∙ omega (arith, ints))
+nonzero-in u w h some none = grind (arith, nat_tests, ints, exact)
 
 couplers-by-recursion : (u n : ℕ) (es : List Entry) → DividesEach u es
     → AllByRecursion (IsCoupler n) es → AllByRecursion (IsCoupler n) (map (entry_in (pos u)) es)
 couplers-by-recursion u n [] h all = tt
-couplers-by-recursion u n (e ∷ es) h all = (
-  record {
-    upward = all.0.upward;
-    within = all.0.within;
-    nonzero = nonzero-in u e.weight h.0 all.0.nonzero;
-  },
-  couplers-by-recursion u n es h.1 all.1,
-)
+couplers-by-recursion u n (e ∷ es) h all =
+    grind (arith, nat_tests, couplers-by-recursion u n es h.1 all.1, nonzero-in)
 
 pub couplers-in : (u n : ℕ) (es : List Entry) → DividesEach u es → All (IsCoupler n) es
     → All (IsCoupler n) (map (entry_in (pos u)) es)
@@ -155,9 +116,7 @@ abbrev pub unit_in : List Entry → ℕ
 unit_in es = greatest_within (sum_by unsigned_abs (map weight_of es)) (map weight_of es)
 
 pub unit_divides : (es : List Entry) → DividesEach (unit_in es) es
-unit_divides es =
-    each_from_weights (unit_in es) es
-    (greatest_divides (sum_by unsigned_abs (map weight_of es)) (map weight_of es))
+unit_divides es = grind (arith, nat_tests, each_from_weights, greatest_divides)
 
 pub one_le_unit : (es : List Entry) → 1 ≤ unit_in es
 one_le_unit es = one_le_greatest (sum_by unsigned_abs (map weight_of es)) (map weight_of es)
@@ -186,11 +145,7 @@ zero_if_none u [] h one none = tt
 zero_if_none u (e ∷ es) h one none =
     let sum = sum_by-cons unsigned_abs e.weight (map weight_of es) in
     let size : u * unsigned_abs (counted_in (pos u) e.weight) ≡ 0 = omega (arith, sum, size-exact u e.weight h.0) in
-    (none_of u (counted_in (pos u) e.weight) one size, zero_if_none u es h.1 one (omega (arith, sum)))
-  where
-    none_of : (u : ℕ) (z : ℤ) → 1 ≤ u → u * unsigned_abs z ≡ 0 → z ≡ pos 0
-    none_of zero z one h = absurd (omega arith)
-    none_of (suc u) z one h = omega (arith, ints)
+    grind (arith, nat_tests, zero_if_none u es h.1 one (omega (arith, sum)))
 
 none_if_zero : (u : ℕ) (es : List Entry) → DividesEach u es
     → AllByRecursion IsZero (map (entry_in (pos u)) es)
@@ -199,43 +154,26 @@ none_if_zero u [] h all = refl
 none_if_zero u (e ∷ es) h all =
     let none : unsigned_abs (counted_in (pos u) e.weight) ≡ 0 = ap unsigned_abs all.0 in
     let size : u * unsigned_abs (counted_in (pos u) e.weight) ≡ 0 = ap (λ n. u * n) none ∙ omega arith in
-    omega (
-      arith,
-      sum_by-cons unsigned_abs e.weight (map weight_of es),
-      size-exact u e.weight h.0,
-      size,
-      none_if_zero u es h.1 all.1,
-    )
+    omega (arith, sum_by-cons, size-exact, size, none_if_zero u es h.1 all.1)
 
 -- no whole number above 1 divides all quotients, unless all are 0
 pub quotients_coprime : (es : List Entry) (d : ℕ) → 1 < d
     → All (λ e. IsMultiple d e.weight) (map (entry_in (pos (unit_in es))) es)
     → All IsZero (map (entry_in (pos (unit_in es))) es)
 quotients_coprime es d more all =
+    let ws = map weight_of es in
+    let u = unit_in es in
+    let one = one_le_unit es in
+    let divides = product_divides u d es (unit_divides es) (recursion_from_All _ _ all) in
+    let two : 2 ≤ d = omega (arith, more) in
+    let grown : u < u * d = omega (arith, mul-le-mul_left u two, one) in
     All-from_recursion _ _
     (elim (none_or_within (u * d) ws divides) [
-      | inl none ↦ zero_if_none u es (unit_divides es) (one_le_unit es) none
-      | inr low ↦ absurd (clash low)
+      | inl none ↦ zero_if_none u es (unit_divides es) one none
+      | inr low ↦
+          let most = greatest_above (sum_by unsigned_abs ws) (u * d) ws (omega (arith, grown)) low divides in
+          absurd (omega (arith, most, grown))
     ])
-  where
-    ws : List ℤ
-    ws = map weight_of es
-
-    u : ℕ
-    u = unit_in es
-
-    divides : Divides (u * d) ws
-    divides = product_divides u d es (unit_divides es) (recursion_from_All _ _ all)
-
-    grown : (u d : ℕ) → 1 ≤ u → 1 < d → u < u * d
-    grown u zero one more = absurd (omega arith)
-    grown u (suc d) one more =
-        let some : 1 ≤ d = omega arith in omega (arith, mul-le-mul_left u some)
-
-    clash : u * d ≤ sum_by unsigned_abs ws → ⊥
-    clash low =
-        let most = greatest_above (sum_by unsigned_abs ws) (u * d) ws (omega (arith, grown u d (one_le_unit es) more)) low divides in
-        omega (arith, most, grown u d (one_le_unit es) more)
 
 -- where all are 0 the unit is 1
 pub unit_of_zeros : (es : List Entry) → All IsZero (map (entry_in (pos (unit_in es))) es)

@@ -1,17 +1,7 @@
 -- The model of a quadratic form: it is well formed, and has the form's energies but for the
 -- constant.
-use Rattle.std.proofs.Common.{◌≡◌, ℕ, ◌≤◌, ◌⊎◌, inl, inr, ℤ, pos, neg_ℤ, ◌+ℤ◌, ◌*ℤ◌, ◌≤ℤ◌, ◌<ℤ◌, Bool, List, length, take, refl, sym, ap, ◌∙◌, arith}
-use Rattle.std.proofs.lemmas.Int.{ints}
-use Rattle.std.proofs.lemmas.List.Elements.{recursion_from_All}
-use Rattle.base.specs.Sums.{total_by}
-use Rattle.base.specs.declared.costs.Figures.{Figures}
+use Rattle.quad_form.proofs.Common.{nat_tests, ◌≡◌, ℕ, ◌≤◌, ◌⊎◌, ℤ, pos, neg_ℤ, ◌+ℤ◌, ◌*ℤ◌, ◌≤ℤ◌, ◌<ℤ◌, Bool, List, length, take, refl, sym, ap, ◌∙◌, arith, ints, recursion_from_All, total_by, Figures, Form, figures_moved, Decoding, Relaxes, IsWellFormed, bits_energy, decoding_of, QuadContent, IsQuad, form_of, written_of, entries_of, RelaxesAsWritten}
 use Rattle.base.specs.declared.costs.Cost.TheVariants.{Whole}
-use Rattle.base.specs.Costs.{Form}
-use Rattle.base.specs.Figures.{figures_moved}
-use Rattle.form_steps.specs.Relations.{Decoding, Relaxes}
-use Rattle.bits_model.specs.Output.{IsWellFormed, bits_energy, decoding_of}
-use Rattle.quad_form.specs.Quads.{QuadContent, IsQuad, form_of, written_of, entries_of}
-use Rattle.quad_form.specs.Stated.{RelaxesAsWritten}
 use Rattle.quad_form.proofs.NodeEntries.{nodes_ordered, couplers_up, all_placed, has_each_node, all_nonzero}
 
 pub written_is_well_formed : (q : QuadContent) (variables : ℕ) (figures : Figures) (unit : ℤ)
@@ -34,10 +24,7 @@ written_is_well_formed q variables figures unit quad enough scale one = record {
 
 -- in a unit that is 1, or without a constant, the constant is counted once
 counted_once : (u c e : ℤ) → (u ≡ pos 1) ⊎ (c ≡ pos 0) → u *ℤ (c +ℤ e) ≡ c +ℤ u *ℤ e
-counted_once u c e (inl one) = rw one (omega (arith, ints))
-counted_once u c e (inr none) =
-    let sum : pos 0 +ℤ e ≡ e = omega (arith, ints) in
-    rw none (ap (λ z. u *ℤ z) sum ∙ omega (arith, ints))
+counted_once u c e is = grind (arith, nat_tests, ints)
 
 -- the constant c is moved from the energies, which count u each, to the figures
 moved_bound : (s v b c u e : ℤ) → u *ℤ (c +ℤ e) ≡ c +ℤ u *ℤ e
@@ -52,8 +39,7 @@ moved_reach : (s v b c u e : ℤ) → u *ℤ (c +ℤ e) ≡ c +ℤ u *ℤ e
     → u *ℤ (c +ℤ e) ≡ s *ℤ v +ℤ b → u *ℤ e ≡ s *ℤ v +ℤ (b +ℤ neg_ℤ c)
 moved_reach s v b c u e once h = omega (arith, ints)
 
-moved_below : (s v b c t : ℤ) → (s *ℤ v +ℤ b) ≤ℤ t
-    → (s *ℤ v +ℤ (b +ℤ neg_ℤ c)) ≤ℤ (t +ℤ neg_ℤ c)
+moved_below : (s v b c t : ℤ) → (s *ℤ v +ℤ b) ≤ℤ t → (s *ℤ v +ℤ (b +ℤ neg_ℤ c)) ≤ℤ (t +ℤ neg_ℤ c)
 moved_below s v b c t h = omega (arith, ints)
 
 -- where a form relaxes a source, the energies without its constant do, which is taken off the

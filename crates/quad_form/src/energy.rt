@@ -1,4 +1,6 @@
 //! The cost of a quadratic form.
+//!
+//! No run of the program comes here: it asks for energies of the written model.
 ghost use Rattle.std.specs.Prelude.{◌≡◌, ◌≤◌, ◌^◌};
 ghost use Rattle.base.specs.Sums.{if_so, total_by};
 ghost use Rattle.bits_model.specs.Output.{bits_energy, weight_total};

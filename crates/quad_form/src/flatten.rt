@@ -1,6 +1,8 @@
 //! The layer that makes a quadratic form of a table of low terms.
 //!
 //! Its terms are added to sums, and the form is made of these.
+//!
+//! No run of the program comes here: what it has gathered goes into the same sums (`QuadSums`).
 ghost use Rattle.std.specs.Prelude.{◌≤◌, ◌<◌, ◌^◌, IfOk, OnOk};
 ghost use Rattle.term_table.specs.Terms.{terms_total};
 ghost use Rattle.term_table.specs.Tables.{IsTable, IsLow};

@@ -15,3 +15,4 @@ pub use laws::written_stands_for_its_form;
 pub use quad::{NumberList, Quad};
 pub use sums::QuadSums;
 pub use units::{CountedWeights, counted_weights};
+pub use weights::{add_weight, signed, widened};

@@ -8,7 +8,7 @@ ghost use Rattle.std.specs.Prelude.{◌≡◌, ◌+◌, ◌*◌, ◌≤◌, ◌<
 ghost use Rattle.term_table.specs.Terms.{IsTermSet, with_additions};
 ghost use Rattle.term_table.specs.Tables.{TableContent, with_appended};
 ghost use Rattle.quad_form.specs.Flat.{image};
-ghost use Rattle.quad_form.specs.Sums.{AreSummed, HasRoom};
+ghost use Rattle.quad_form.specs.Sums.{AreSummed, HasRoom, IsSums};
 
 use crate::quad::{NumberList, Quad};
 use crate::short::{add_short_shares, constant_of, push_short};
@@ -128,10 +128,12 @@ impl QuadSums {
         })
     }
 
-    /// The quadratic form of the additions: that of the table in which they are summed.
-    pub fn into_quad(self) -> Result<Quad, NoMemory>
-        ensures { (t : TableContent) → AreSummed t self → IfOk result (λ quad.
-            quad ≡ image (record t { terms = with_additions [] t.terms })) }
+    /// The constant, the weights of nodes and the pairs, whose numbers fit their fields.
+    pub fn into_parts(self) -> (i128, Vec<i128>, GatheredPairs)
+        ensures constant { result.0 ≡ self.constant }
+        ensures weights { result.1.items ≡ self.weights }
+        ensures pairs { result.2 ≡ self.pairs }
+        ensures fits { IsSums self }
     {
         let QuadSums {
             total: _total,
@@ -139,6 +141,15 @@ impl QuadSums {
             weights,
             pairs,
         } = self;
+        (constant, weights, pairs)
+    }
+
+    /// The quadratic form of the additions: that of the table in which they are summed.
+    pub fn into_quad(self) -> Result<Quad, NoMemory>
+        ensures { (t : TableContent) → AreSummed t self → IfOk result (λ quad.
+            quad ≡ image (record t { terms = with_additions [] t.terms })) }
+    {
+        let (constant, weights, pairs) = self.into_parts();
         let couplers = pairs.summed()?;
         Ok(Quad {
             constant,

@@ -8,7 +8,7 @@ use literal_lists::Literal;
 
 /// A weight, whose sign a complement turns.
 #[inline(always)]
-pub(crate) fn signed(literal: Literal, weight: i128) -> i128
+pub fn signed(literal: Literal, weight: i128) -> i128
     requires { unsigned_abs weight ≤ 2 ^ 126 }
     ensures { result ≡ signed literal weight }
 {
@@ -17,7 +17,7 @@ pub(crate) fn signed(literal: Literal, weight: i128) -> i128
 
 /// Adds to the weight of a node.
 #[inline(always)]
-pub(crate) fn add_weight(weights: &mut [i128], node: usize, weight: i128)
+pub fn add_weight(weights: &mut [i128], node: usize, weight: i128)
     requires within { node < length weights.old }
     requires small { size_of weights.old + unsigned_abs weight ≤ 2 ^ 126 }
     ensures { weights.new ≡ with_weight weights.old node weight }
@@ -26,7 +26,7 @@ pub(crate) fn add_weight(weights: &mut [i128], node: usize, weight: i128)
 }
 
 /// The weights of more nodes: those after the last one weigh 0.
-pub(crate) fn widened(mut weights: Vec<i128>, nodes: usize) -> Result<Vec<i128>, NoMemory>
+pub fn widened(mut weights: Vec<i128>, nodes: usize) -> Result<Vec<i128>, NoMemory>
     requires { length weights.items ≤ nodes }
     ensures { IfOk result (λ wide. wide.items ≡ widened nodes weights.items) }
 {

@@ -2,34 +2,12 @@
 --
 -- Two lists have the same terms where each number of a term has the same sum over both. So filters
 -- and maps of the one and of the other have the same terms too.
-use Rattle.std.proofs.Common.{◌≡◌, ◌≢◌, ℕ, suc, ◌+◌, ◌≤◌, Bool, true, false, not, ◌||◌, cond, arith, refl, sym, ap, ◌∙◌, subst, List, [], ◌∷◌, ◌++◌, map, ℤ, pos, negsuc, ◌+ℤ◌, neg_ℤ, Some, None, ◌^◌, sum_by, unsigned_abs}
-use Rattle.std.specs.Bool.{Decides}
-use Rattle.std.specs.List.{AllByRecursion, filter}
-use Rattle.std.specs.List.Sorted.{IsPermutation, IsStrictlySortedBy}
-use Rattle.std.specs.Ordering.{int_eq, is_lt, match_ordering}
-use Rattle.std.specs.declared.cmp.Ordering.{Ordering}
+use Rattle.rosenberg_layer.proofs.Common.{nat_tests, ◌≡◌, ◌≢◌, ℕ, suc, ◌+◌, ◌≤◌, Bool, true, false, not, ◌||◌, cond, arith, refl, sym, ap, ◌∙◌, subst, List, [], ◌∷◌, ◌++◌, map, ℤ, pos, negsuc, ◌+ℤ◌, neg_ℤ, Some, None, ◌^◌, sum_by, unsigned_abs, Decides, AllByRecursion, filter, IsPermutation, IsStrictlySortedBy, int_eq, is_lt, match_ordering, Ordering, Decides-int_eq, ints, append-nil, All-from_recursion, recursion_from_All, filter-append, All-permutation, sum_by-IsPermutation, sum_by-append, sum_by-cons, total_by, Literal, Term, set_cmp, in_front, terms_total, with_addition, with_additions, Ascends, IsTermSet, TableContent, IsTable, OfSet, same_set, with_additions-append, node, Pair, is_long, new_term, tie_terms, with_pair, front_pair, next_pair, found_in, pair_differs, new_terms-sets, begins, first_begins, front_term, is_short, pair_cmp, pair_of, Begin, Follow, IsStep, weights, weight_of, AllLong, AreParts, NoneLong}
 use Rattle.std.specs.declared.cmp.Ordering.TheVariants.{Less, Equal, Greater}
-use Rattle.std.proofs.lemmas.Bool.Decides.{Decides-int_eq}
-use Rattle.std.proofs.lemmas.Int.{ints}
-use Rattle.std.proofs.lemmas.List.{append-nil}
-use Rattle.std.proofs.lemmas.List.Elements.{All-from_recursion, recursion_from_All, filter-append}
-use Rattle.std.proofs.lemmas.List.Sorted.{All-permutation, sum_by-IsPermutation}
-use Rattle.std.proofs.lemmas.List.Sums.{sum_by-append, sum_by-cons}
-use Rattle.base.specs.Sums.{total_by}
-use Rattle.literal_lists.specs.declared.literal.Literal.{Literal}
-use Rattle.term_table.specs.Terms.{Term, set_cmp, in_front, terms_total, with_addition, with_additions, Ascends, IsTermSet}
-use Rattle.term_table.specs.Tables.{TableContent, IsTable}
-use Rattle.term_table.proofs.KeptTerms.{OfSet}
-use Rattle.term_table.proofs.SetOrder.{same_set}
-use Rattle.term_table.proofs.Steps.{with_additions-append}
-use Rattle.rosenberg_layer.specs.Rosenberg.{node, Pair, is_long, new_term, tie_terms, with_pair, front_pair, next_pair}
-use Rattle.rosenberg_layer.specs.laws.Sets.{has_own_pair, found_in, pair_differs, new_terms-sets}
-use Rattle.rosenberg_layer.specs.Steps.{begins, first_begins, front_term, is_short, pair_cmp, pair_of, Begin, Follow, IsStep}
-use Rattle.rosenberg_layer.specs.Parts.{weights, weight_of, AllLong, AreParts, NoneLong}
 use Rattle.rosenberg_layer.proofs.PairTerms.{begins-is, new_terms-split, AsBegins, NoneBegin}
-use Rattle.rosenberg_layer.proofs.GoBack.{all-append, all-left, all-right, back_left, can_go_back, filter-first, CanGoBack}
+use Rattle.rosenberg_layer.proofs.GoBack.{all-append, all-left, all-right, back_left, can_go_back, CanGoBack}
 use Rattle.rosenberg_layer.proofs.Parts.{all-filtered, filter-all, filter-none, filter-yes, long-is, long-sets, parts-start, parts-step, short-none_long, wider-all, IsSortedStep}
-use Rattle.rosenberg_layer.proofs.PairOrder.{all-follow, pair-begins, pair_itself}
+use Rattle.rosenberg_layer.proofs.PairOrder.{all-follow}
 
 -- ---- lists with the same terms
 
@@ -43,27 +21,14 @@ sum_by-filter : (f : Term → ℕ) (test : Term → Bool) (ts : List Term)
     → sum_by f (filter test ts) ≡ sum_by (λ t. cond (test t) (f t) 0) ts
 sum_by-filter f test [] = refl
 sum_by-filter f test (t ∷ ts) =
-    let given : Term → ℕ = λ u. cond (test u) (f u) 0 in
-    go (test t) (sum_by-filter f test ts) ∙ sym (sum_by-cons given t ts)
-  where
-    all : ℕ
-    all = sum_by (λ u. cond (test u) (f u) 0) ts
-
-    go : (b : Bool) → sum_by f (filter test ts) ≡ all
-        → sum_by f (cond b (t ∷ filter test ts) (filter test ts)) ≡ cond b (f t) 0 + all
-    go true rest = omega (arith, rest, sum_by-cons f t (filter test ts))
-    go false rest = omega (arith, rest)
+    let rest = sum_by-filter f test ts in
+    let first = sum_by-cons f t (filter test ts) in
+    simp sum_by-cons (grind (arith, nat_tests))
 
 sum_by-map : (f : Term → ℕ) (g : Term → Term) (ts : List Term)
     → sum_by f (map g ts) ≡ sum_by (λ t. f (g t)) ts
 sum_by-map f g [] = refl
-sum_by-map f g (t ∷ ts) =
-    omega (
-      arith,
-      sum_by-map f g ts,
-      sum_by-cons f (g t) (map g ts),
-      sum_by-cons (λ (u : Term). f (g u)) t ts,
-    )
+sum_by-map f g (t ∷ ts) = omega (arith, sum_by-map f g ts, sum_by-cons)
 
 same-filter : (test : Term → Bool) (ts us : List Term) → SameTerms ts us
     → SameTerms (filter test ts) (filter test us)
@@ -86,26 +51,14 @@ failed test ts = sum_by (λ t. cond (test t) 0 1) ts
 none-failed : (test : Term → Bool) (ts : List Term) → AllByRecursion (λ t. test t ≡ true) ts
     → failed test ts ≡ 0
 none-failed test [] all = refl
-none-failed test (t ∷ ts) all =
-    omega (
-      arith,
-      sum_by-cons (λ (u : Term). cond (test u) 0 1) t ts,
-      ap {B = ℕ} (λ b. cond b 0 1) all.0,
-      none-failed test ts all.1,
-    )
+none-failed test (t ∷ ts) all = grind (arith, nat_tests, none-failed test ts all.1)
 
 all-passed : (test : Term → Bool) (ts : List Term) → failed test ts ≡ 0
     → AllByRecursion (λ t. test t ≡ true) ts
 all-passed test [] none = tt
 all-passed test (t ∷ ts) none =
-    go (test t) refl (sym (sum_by-cons (λ u. cond (test u) 0 1) t ts) ∙ none)
-    (all-passed test ts)
-  where
-    go : (b : Bool) → test t ≡ b → cond b 0 1 + failed test ts ≡ 0
-        → (failed test ts ≡ 0 → AllByRecursion (λ t. test t ≡ true) ts)
-        → AllByRecursion (λ t. test t ≡ true) (t ∷ ts)
-    go true e zero rest = (e, rest (omega (arith, zero)))
-    go false e zero rest = absurd (omega (arith, zero))
+    let zero = sym (sum_by-cons (λ u. cond (test u) 0 1) t ts) ∙ none in
+    grind (arith, nat_tests, all-passed test ts)
 
 all-same : (test : Term → Bool) (ts us : List Term) → SameTerms ts us
     → AllByRecursion (λ t. test t ≡ true) us → AllByRecursion (λ t. test t ≡ true) ts
@@ -125,30 +78,16 @@ up-down : (z : ℤ) → z ≡ pos (up z) +ℤ neg_ℤ (pos (down z))
 up-down (pos n) = omega (arith, ints)
 up-down (negsuc n) = omega (arith, ints)
 
+-- a total is what is above 0 less what is below
 total_by-parts : (g : Term → ℤ) (ts : List Term)
     → total_by g ts
     ≡ pos (sum_by (λ t. up (g t)) ts) +ℤ neg_ℤ (pos (sum_by (λ t. down (g t)) ts))
 total_by-parts g [] = omega (arith, ints)
-total_by-parts g (t ∷ ts) =
-    omega (
-      arith,
-      ints,
-      total_by-parts g ts,
-      up-down (g t),
-      sum_by-cons (λ (u : Term). up (g u)) t ts,
-      sum_by-cons (λ (u : Term). down (g u)) t ts,
-    )
+total_by-parts g (t ∷ ts) = omega (arith, ints, total_by-parts g ts, up-down, sum_by-cons)
 
+-- terms in another order have the same total
 same-total : (g : Term → ℤ) (ts us : List Term) → SameTerms ts us → total_by g ts ≡ total_by g us
-same-total g ts us same =
-    omega (
-      arith,
-      ints,
-      total_by-parts g ts,
-      total_by-parts g us,
-      same (λ t. up (g t)),
-      same (λ t. down (g t)),
-    )
+same-total g ts us same = grind (arith, nat_tests, ints, total_by-parts)
 
 -- ---- additions of sets that are not there
 
@@ -177,13 +116,7 @@ sum-fresh f ts ls c nonzero fresh = go ts fresh
             ≡ f (ls, c) + sum_by f (u ∷ us)
         by_order Less e rest = first (u ∷ us)
         by_order Equal e rest = absurd (all.0 (sym (same_set ls u.0 e)))
-        by_order Greater e rest =
-            omega (
-              arith,
-              rest,
-              sum_by-cons f u (with_addition us ls c),
-              sum_by-cons f u us,
-            )
+        by_order Greater e rest = omega (arith, rest, sum_by-cons)
 
 -- the terms that go back
 sum-back : (f : Term → ℕ) (w : Literal) (rest ts : List Term) → CanGoBack w rest ts
@@ -193,45 +126,17 @@ sum-back f w rest [] back = omega arith
 sum-back f w rest (t ∷ ts) back =
     let new = front_term w t in
     let first = filter is_long (new ∷ []) in
-    let others = filter is_long (map (front_term w) ts) in
-    let next = with_additions rest first in
-    let split = filter-first is_long new (map (front_term w) ts) in
-    let more = sum-back f w next ts (back_left w rest next t (t ∷ ts) ts refl refl back) in
-    omega (
-      arith,
-      ap (λ us. sum_by f (with_additions rest us)) split,
-      ap (sum_by f) split,
-      ap (sum_by f) (with_additions-append rest first others),
-      more,
-      one (is_long new),
-      sum_by-append f first others,
-    )
-  where
-    one : (b : Bool)
-        → sum_by f (with_additions rest (cond b (front_term w t ∷ []) []))
-        ≡ sum_by f rest + sum_by f (cond b (front_term w t ∷ []) [])
-    one true =
-        let new = front_term w t in
-        omega (
-          arith,
-          sum-fresh f rest new.0 t.1 back.nonzero.0
-              (recursion_from_All (λ (u : Term). u.0 ≢ new.0) rest back.fresh.0),
-          sum_by-cons f new [],
-        )
-    one false = omega arith
+    let more = sum-back f w (with_additions rest first) ts (back_left w rest _ t (t ∷ ts) ts refl refl back) in
+    let one = sum-fresh f rest new.0 t.1 back.nonzero.0
+    (recursion_from_All (λ (u : Term). u.0 ≢ new.0) rest back.fresh.0) in
+    grind (arith, nat_tests, sum_by-cons, with_additions-append, more)
 
 -- ---- terms in order, of which those that begin with the first pair are taken
 
 -- no term that follows the pair begins with it
 none-begins : (a : Pair) (ts : List Term) → Follow a ts → NoneBegin a ts
 none-begins a [] follow = tt
-none-begins a (t ∷ ts) follow = (go (begins a t.0) refl, none-begins a ts follow.1)
-  where
-    go : (b : Bool) → begins a t.0 ≡ b → b ≡ false
-    go true e =
-        let no : Equal ≡ Less =
-        sym (pair_itself a) ∙ ap (pair_cmp a) (sym (pair-begins a t.0 e)) ∙ follow.0 in absurd cc
-    go false e = refl
+none-begins a (t ∷ ts) follow = grind (arith, nat_tests, none-begins a ts follow.1)
 
 abbrev with_it : Pair → Term → Bool
 with_it a t = begins a t.0
@@ -246,22 +151,15 @@ is_from a t = begins a t.0 || is_lt (pair_cmp a (pair_of t.0))
 from-begin : (a : Pair) (ts : List Term) → Begin a ts
     → AllByRecursion (λ t. is_from a t ≡ true) ts
 from-begin a [] begin = tt
-from-begin a (t ∷ ts) begin =
-    (ap (λ b. b || is_lt (pair_cmp a (pair_of t.0))) begin.0, from-begin a ts begin.1)
+from-begin a (t ∷ ts) begin = grind (arith, nat_tests, from-begin a ts begin.1)
 
 from-follow : (a : Pair) (ts : List Term) → Follow a ts
     → AllByRecursion (λ t. is_from a t ≡ true) ts
 from-follow a [] follow = tt
-from-follow a (t ∷ ts) follow = (go (begins a t.0), from-follow a ts follow.1)
-  where
-    go : (b : Bool) → (b || is_lt (pair_cmp a (pair_of t.0))) ≡ true
-    go true = refl
-    go false = ap is_lt follow.0
+from-follow a (t ∷ ts) follow = grind (arith, nat_tests, from-follow a ts follow.1)
 
 is-less : (o : Ordering) → is_lt o ≡ true → o ≡ Less
-is-less Less e = refl
-is-less Equal e = absurd cc
-is-less Greater e = absurd cc
+is-less o e = grind (arith, nat_tests)
 
 not-all : (a : Pair) (ts : List Term) → NoneBegin a ts
     → AllByRecursion (λ t. without_it a t ≡ true) ts
@@ -271,11 +169,7 @@ not-all a (t ∷ ts) none = (ap not none.0, not-all a ts none.1)
 not-none : (a : Pair) (ts : List Term) → AllByRecursion (λ t. without_it a t ≡ true) ts
     → NoneBegin a ts
 not-none a [] all = tt
-not-none a (t ∷ ts) all = (go (begins a t.0) all.0, not-none a ts all.1)
-  where
-    go : (b : Bool) → not b ≡ true → b ≡ false
-    go true e = absurd cc
-    go false e = refl
+not-none a (t ∷ ts) all = grind (arith, nat_tests, not-none a ts all.1)
 
 begin-none : (a : Pair) (ts : List Term) → Begin a ts
     → AllByRecursion (λ t. without_it a t ≡ false) ts
@@ -289,19 +183,11 @@ split-sorted : (a : Pair) (ts : List Term) → Ascends ts → AllLong ts
 unfolding IsStrictlySortedBy
 split-sorted a [] ascends long from = refl
 split-sorted a (t ∷ ts) ascends long from =
-    go (begins a t.0) from.0 (split-sorted a ts ascends.1 long.1 from.1)
-  where
-    go : (b : Bool) → (b || is_lt (pair_cmp a (pair_of t.0))) ≡ true
-        → filter (with_it a) ts ++ filter (without_it a) ts ≡ ts
-        → cond b (t ∷ filter (with_it a) ts) (filter (with_it a) ts)
-        ++ cond (not b) (t ∷ filter (without_it a) ts) (filter (without_it a) ts)
-        ≡ t ∷ ts
-    go true e rest = ap (λ us. t ∷ us) rest
-    go false e rest =
-        let follow = all-follow a t ts ascends.0 long (is-less (pair_cmp a (pair_of t.0)) e) in
-        let none = none-begins a ts follow in
-        λ i. filter-none (with_it a) ts none i
-        ++ t ∷ filter-all (without_it a) ts (not-all a ts none) i
+    let rest = split-sorted a ts ascends.1 long.1 from.1 in
+    let less =
+    λ (e : is_lt (pair_cmp a (pair_of t.0)) ≡ true). none-begins a ts
+    (all-follow a t ts ascends.0 long (is-less _ e)) in
+    grind (arith, nat_tests, filter-none (with_it a) ts, filter-all (without_it a) ts, not-all a ts)
 
 front-begins : (a : Pair) (ts us : List Term) → ts ≢ [] → Begin a ts
     → front_pair (ts ++ us) ≡ Some a
@@ -310,8 +196,7 @@ front-begins a (t ∷ ts) us some begin =
     ap (λ ls. front_pair ((ls, t.1) ∷ ts ++ us)) (begins-is a.0 a.1 t.0 begin.0).1
 
 first-other : (a : Pair) (ts : List Term) → NoneBegin a ts → first_begins a ts ≡ false
-first-other a [] none = refl
-first-other a (t ∷ ts) none = none.0
+first-other a ts none = grind (arith, nat_tests)
 
 not-empty-same : (ts us : List Term) → SameTerms ts us → us ≢ [] → ts ≢ []
 not-empty-same ts [] same some e = some refl
@@ -321,11 +206,7 @@ not-empty-same ts (u ∷ us) same some e =
 
 as-begins : (a : Pair) (ts : List Term) → AllLong ts → Begin a ts → AllByRecursion (AsBegins a) ts
 as-begins a [] long begin = tt
-as-begins a (t ∷ ts) long begin =
-    let is = begins-is a.0 a.1 t.0 begin.0 in (
-      has_own_pair a.0 a.1 is.0 t is.1 long.0 ∙ sym begin.0,
-      as-begins a ts long.1 begin.1,
-    )
+as-begins a (t ∷ ts) long begin = grind (arith, nat_tests, as-begins a ts long.1 begin.1)
 
 moved-all : (P : Term → Type 0) (ts us : List Term) → IsPermutation ts us → AllByRecursion P ts
     → AllByRecursion P us
@@ -369,101 +250,48 @@ pub held-step : (t : TableContent) (a : Pair) (adds adds' low bag low' bag' : Li
     → IsPermutation ((adds ++ filter is_short (map (front_term (node t.width)) step.touched))
     ++ tie_terms a (node t.width) m) adds'
     → AreHeld (with_pair a t) adds' bag' bound × (next_pair t.terms ≡ Some a)
-held-step t a adds adds' low bag low' bag' m bound held long step moved = (
-  record {
-    parts = parts-new;
-    same = same-new;
-    sets = sets-new;
-  },
-  e,
-)
-  where
-    n : ℕ
-    n = t.width
-
-    w : Literal
-    w = node n
-
-    sorted : List Term
-    sorted = filter is_long t.terms
-
-    touched : List Term
-    touched = step.touched
-
-    rest : List Term
-    rest = step.rest
-
-    parts : AreParts t adds sorted bound
-    parts = held.parts
-
-    both : SameTerms sorted (touched ++ rest)
-    both = λ f. held.same f ∙ same-moved bag (touched ++ rest) step.taken.whole f
-
-    from : AllByRecursion (λ u. is_from a u ≡ true) sorted
-    from =
-        all-same (is_from a) sorted (touched ++ rest) both
-        (all-append (λ u. is_from a u ≡ true) touched rest
-        (from-begin a touched step.taken.begin) (from-follow a rest step.taken.others))
-
-    none : NoneBegin a rest
-    none = none-begins a rest step.taken.others
-
-    first : List Term
-    first = filter (with_it a) sorted
-
-    others : List Term
-    others = filter (without_it a) sorted
-
-    whole : first ++ others ≡ sorted
-    whole = split-sorted a sorted parts.ordered parts.high from
-
-    same_first : SameTerms first touched
-    same_first =
-        subst (SameTerms first)
-        (filter-append (with_it a) touched rest
-        ∙ (λ i. filter-all (with_it a) touched step.taken.begin i ++ filter-none (with_it a) rest none i)
-        ∙ append-nil touched)
-        (same-filter (with_it a) sorted (touched ++ rest) both)
-
-    same_others : SameTerms others rest
-    same_others =
-        subst (SameTerms others)
-        (filter-append (without_it a) touched rest
-        ∙ (λ i. filter-none (without_it a) touched (begin-none a touched step.taken.begin) i
-        ++ filter-all (without_it a) rest (not-all a rest none) i))
-        (same-filter (without_it a) sorted (touched ++ rest) both)
-
-    begin : Begin a first
-    begin = filter-yes (with_it a) sorted
-
-    e : next_pair t.terms ≡ Some a
-    e =
-        ap front_pair (sym whole)
-        ∙ front-begins a first others (not-empty-same first touched same_first step.taken.some) begin
-
-    up_first : List Term
-    up_first = filter is_long (map (front_term w) first)
-
-    up_touched : List Term
-    up_touched = filter is_long (map (front_term w) touched)
-
-    down_first : List Term
-    down_first = filter is_short (map (front_term w) first)
-
-    down_touched : List Term
-    down_touched = filter is_short (map (front_term w) touched)
-
-    same_front : SameTerms (map (front_term w) first) (map (front_term w) touched)
-    same_front = same-map (front_term w) first touched same_first
-
-    low_new : List Term
-    low_new = (adds ++ down_first) ++ tie_terms a w (terms_total first)
-
-    long_new : List Term
-    long_new = with_additions others up_first
-
-    sorted_step : IsSortedStep a w sorted adds long_new low_new
-    sorted_step = record {
+held-step t a adds adds' low bag low' bag' m bound held long step moved =
+    let n = t.width in
+    let w = node n in
+    let sorted = filter is_long t.terms in
+    let touched = step.touched in
+    let rest = step.rest in
+    let parts : AreParts t adds sorted bound = held.parts in
+    let both : SameTerms sorted (touched ++ rest) =
+    λ f. held.same f ∙ same-moved bag (touched ++ rest) step.taken.whole f in
+    let from : AllByRecursion (λ u. is_from a u ≡ true) sorted =
+    all-same (is_from a) sorted (touched ++ rest) both
+    (all-append (λ u. is_from a u ≡ true) touched rest
+    (from-begin a touched step.taken.begin) (from-follow a rest step.taken.others)) in
+    let none : NoneBegin a rest = none-begins a rest step.taken.others in
+    let first = filter (with_it a) sorted in
+    let others = filter (without_it a) sorted in
+    let whole : first ++ others ≡ sorted = split-sorted a sorted parts.ordered parts.high from in
+    let same_first : SameTerms first touched =
+    subst (SameTerms first)
+    (filter-append (with_it a) touched rest
+    ∙ (λ i. filter-all (with_it a) touched step.taken.begin i ++ filter-none (with_it a) rest none i)
+    ∙ append-nil touched)
+    (same-filter (with_it a) sorted (touched ++ rest) both) in
+    let same_others : SameTerms others rest =
+    subst (SameTerms others)
+    (filter-append (without_it a) touched rest
+    ∙ (λ i. filter-none (without_it a) touched (begin-none a touched step.taken.begin) i
+    ++ filter-all (without_it a) rest (not-all a rest none) i))
+    (same-filter (without_it a) sorted (touched ++ rest) both) in
+    let begin : Begin a first = filter-yes (with_it a) sorted in
+    let e : next_pair t.terms ≡ Some a =
+    ap front_pair (sym whole)
+    ∙ front-begins a first others (not-empty-same first touched same_first step.taken.some) begin in
+    let up_first = filter is_long (map (front_term w) first) in
+    let up_touched = filter is_long (map (front_term w) touched) in
+    let down_first = filter is_short (map (front_term w) first) in
+    let down_touched = filter is_short (map (front_term w) touched) in
+    let same_front = same-map (front_term w) first touched same_first in
+    let low_new : List Term = (adds ++ down_first) ++ tie_terms a w (terms_total first) in
+    let long_new = with_additions others up_first in
+    let sorted_step : IsSortedStep a w sorted adds long_new low_new =
+    record {
       touched = first;
       rest = others;
       whole = whole;
@@ -471,95 +299,78 @@ held-step t a adds adds' low bag low' bag' m bound held long step moved = (
       others = first-other a others (not-none a others (filter-yes (without_it a) sorted));
       put_back = refl;
       put_down = refl;
-    }
-
-    next : AreParts (with_pair a t) low_new long_new bound
-    next = parts-step t a [] adds sorted low_new long_new bound parts e sorted_step
-
-    table : filter is_long (with_pair a t).terms ≡ long_new
-    table = long-is (with_pair a t) low_new long_new bound next
-
-    back : CanGoBack w others first
-    back =
-        can_go_back n a first others sorted whole (long-sets t adds sorted bound parts)
-        parts.nonzero begin
-
-    same-new : SameTerms (filter is_long (with_pair a t).terms) bag'
-    same-new f =
-        ap (sum_by f) table
-        ∙ omega (
-          arith,
-          sum-back f w others first back,
-          same_others f,
-          same-filter is_long (map (front_term w) first) (map (front_term w) touched) same_front f,
-          sum_by-append f rest up_touched,
-          same-moved (rest ++ up_touched) bag' step.put_back f,
-        )
-
+    } in
+    let next = parts-step t a [] adds sorted low_new long_new bound parts e sorted_step in
+    let table = long-is (with_pair a t) low_new long_new bound next in
+    let back : CanGoBack w others first =
+    can_go_back n a first others sorted whole (long-sets t adds sorted bound parts)
+    parts.nonzero begin in
+    let same-new : SameTerms (filter is_long (with_pair a t).terms) bag' =
+    λ f.
+    ap (sum_by f) table
+    ∙ omega (
+      arith,
+      sum-back f w others first back,
+      same_others f,
+      same-filter is_long (map (front_term w) first) (map (front_term w) touched) same_front f,
+      sum_by-append f rest up_touched,
+      same-moved (rest ++ up_touched) bag' step.put_back f,
+    ) in
     -- the sets
-    all_sets : AllByRecursion (OfSet (IsTermSet n)) (touched ++ rest)
-    all_sets = moved-all (OfSet (IsTermSet n)) bag (touched ++ rest) step.taken.whole held.sets
-
-    all_long : AllLong (touched ++ rest)
-    all_long = moved-all (λ u. is_long u ≡ true) bag (touched ++ rest) step.taken.whole long
-
-    touched_sets : AllByRecursion (OfSet (IsTermSet n)) touched
-    touched_sets = all-left (OfSet (IsTermSet n)) touched rest all_sets
-
-    front_sets : AllByRecursion (OfSet (IsTermSet (n + 1))) (map (front_term w) touched)
-    front_sets =
-        let pair = (found_in t a parts.sound e).is_pair in
-        let facts =
-        as-begins a touched (all-left (λ u. is_long u ≡ true) touched rest all_long) step.taken.begin in
-        let none = append-nil touched in
-        let split =
-        sym (ap (map (new_term a w)) none)
-        ∙ new_terms-split n a w touched [] (subst (AllByRecursion (AsBegins a)) (sym none) facts)
-        (subst (AllByRecursion (OfSet (IsTermSet n))) (sym none) touched_sets) step.taken.begin tt
-        ∙ append-nil (map (front_term w) touched) in
-        subst (AllByRecursion (OfSet (IsTermSet (n + 1)))) split
-        (new_terms-sets n a touched (pair_differs n a pair) touched_sets)
-
-    sets-new : AllByRecursion (OfSet (IsTermSet (n + 1))) bag'
-    sets-new =
-        moved-all (OfSet (IsTermSet (n + 1))) (rest ++ up_touched) bag' step.put_back
-        (all-append (OfSet (IsTermSet (n + 1))) rest up_touched
-        (wider-all n rest (all-right (OfSet (IsTermSet n)) touched rest all_sets))
-        (all-filtered (OfSet (IsTermSet (n + 1))) is_long (map (front_term w) touched) front_sets))
-
+    let all_sets : AllByRecursion (OfSet (IsTermSet n)) (touched ++ rest) =
+    moved-all (OfSet (IsTermSet n)) bag (touched ++ rest) step.taken.whole held.sets in
+    let all_long : AllLong (touched ++ rest) =
+    moved-all (λ u. is_long u ≡ true) bag (touched ++ rest) step.taken.whole long in
+    let touched_sets = all-left (OfSet (IsTermSet n)) touched rest all_sets in
+    let front_sets : AllByRecursion (OfSet (IsTermSet (n + 1))) (map (front_term w) touched) =
+    let pair = (found_in t a parts.sound e).is_pair in
+    let facts =
+    as-begins a touched (all-left (λ u. is_long u ≡ true) touched rest all_long) step.taken.begin in
+    let none = append-nil touched in
+    let split =
+    sym (ap (map (new_term a w)) none)
+    ∙ new_terms-split n a w touched [] (subst (AllByRecursion (AsBegins a)) (sym none) facts)
+    (subst (AllByRecursion (OfSet (IsTermSet n))) (sym none) touched_sets) step.taken.begin tt
+    ∙ append-nil (map (front_term w) touched) in
+    subst (AllByRecursion (OfSet (IsTermSet (n + 1)))) split
+    (new_terms-sets n a touched (pair_differs n a pair) touched_sets) in
+    let sets-new : AllByRecursion (OfSet (IsTermSet (n + 1))) bag' =
+    moved-all (OfSet (IsTermSet (n + 1))) (rest ++ up_touched) bag' step.put_back
+    (all-append (OfSet (IsTermSet (n + 1))) rest up_touched
+    (wider-all n rest (all-right (OfSet (IsTermSet n)) touched rest all_sets))
+    (all-filtered (OfSet (IsTermSet (n + 1))) is_long (map (front_term w) touched) front_sets)) in
     -- the additions
-    ties : List Term
-    ties = tie_terms a w m
-
-    low_is : low_new ≡ (adds ++ down_first) ++ ties
-    low_is =
-        ap (λ k. (adds ++ down_first) ++ tie_terms a w k)
-        (same_first (λ u. unsigned_abs u.1) ∙ sym step.weight)
-
-    same_low : SameTerms low_new adds'
-    same_low f =
-        ap (sum_by f) low_is
-        ∙ same-append (adds ++ down_first) (adds ++ down_touched) ties ties
-        (same-append adds adds down_first down_touched (λ g. refl)
-        (same-filter is_short (map (front_term w) first) (map (front_term w) touched) same_front))
-        (λ g. refl) f
-        ∙ same-moved ((adds ++ down_touched) ++ ties) adds' moved f
-
-    low_sets : AllByRecursion (OfSet (IsTermSet (n + 1))) adds'
-    low_sets =
-        let wide = OfSet (IsTermSet (n + 1)) in
-        let split = subst (AllByRecursion wide) low_is next.sets in
-        moved-all wide ((adds ++ down_touched) ++ ties) adds' moved
-        (all-append wide (adds ++ down_touched) ties
-        (all-append wide adds down_touched
-        (all-left wide adds down_first (all-left wide (adds ++ down_first) ties split))
-        (all-filtered wide is_short (map (front_term w) touched) front_sets))
-        (all-right wide (adds ++ down_first) ties split))
-
-    parts-new : AreParts (with_pair a t) adds' (filter is_long (with_pair a t).terms) bound
-    parts-new =
-        subst (λ us. AreParts (with_pair a t) adds' us bound) (sym table)
-        (parts-alike (with_pair a t) low_new adds' long_new bound next same_low low_sets)
+    let ties = tie_terms a w m in
+    let low_is : low_new ≡ (adds ++ down_first) ++ ties =
+    ap (λ k. (adds ++ down_first) ++ tie_terms a w k)
+    (same_first (λ u. unsigned_abs u.1) ∙ sym step.weight) in
+    let same_low : SameTerms low_new adds' =
+    λ f.
+    ap (sum_by f) low_is
+    ∙ same-append (adds ++ down_first) (adds ++ down_touched) ties ties
+    (same-append adds adds down_first down_touched (λ g. refl)
+    (same-filter is_short (map (front_term w) first) (map (front_term w) touched) same_front))
+    (λ g. refl) f
+    ∙ same-moved ((adds ++ down_touched) ++ ties) adds' moved f in
+    let low_sets : AllByRecursion (OfSet (IsTermSet (n + 1))) adds' =
+    let wide = OfSet (IsTermSet (n + 1)) in
+    let split = subst (AllByRecursion wide) low_is next.sets in
+    moved-all wide ((adds ++ down_touched) ++ ties) adds' moved
+    (all-append wide (adds ++ down_touched) ties
+    (all-append wide adds down_touched
+    (all-left wide adds down_first (all-left wide (adds ++ down_first) ties split))
+    (all-filtered wide is_short (map (front_term w) touched) front_sets))
+    (all-right wide (adds ++ down_first) ties split)) in
+    let parts-new : AreParts (with_pair a t) adds' (filter is_long (with_pair a t).terms) bound =
+    subst (λ us. AreParts (with_pair a t) adds' us bound) (sym table)
+    (parts-alike (with_pair a t) low_new adds' long_new bound next same_low low_sets) in (
+      record {
+        parts = parts-new;
+        same = same-new;
+        sets = sets-new;
+      },
+      e,
+    )
 
 -- ---- what a step asks of the terms that are taken and put back
 
@@ -586,8 +397,5 @@ pub held-start : (t : TableContent) (bag : List Term) → IsTable t → bag ≡ 
 held-start t bag table e = record {
   parts = parts-start t (weights t.terms) table.terms (omega arith) table.small;
   same = λ f. ap (sum_by f) (sym e);
-  sets =
-      subst (AllByRecursion (OfSet (IsTermSet t.width))) (sym e)
-      (all-filtered (OfSet (IsTermSet t.width)) is_long t.terms
-      (recursion_from_All (OfSet (IsTermSet t.width)) t.terms table.terms.sets));
+  sets = rw e (all-filtered _ is_long t.terms (recursion_from_All _ t.terms table.terms.sets));
 }

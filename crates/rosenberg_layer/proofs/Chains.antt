@@ -1,37 +1,21 @@
 -- Lists of terms, each of which tells the next one.
-use Rattle.std.proofs.Common.{◌≡◌, ◌≢◌, ℕ, zero, suc, ◌+◌, ◌-◌, ◌<◌, ◌≤◌, List, [], ◌∷◌, ◌++◌, length, map, get_or, set, replicate, refl, sym, ap, ◌∙◌, subst, arith, add-one, append_assoc}
-use Rattle.std.specs.Prelude.{All}
-use Rattle.std.specs.List.{AllByRecursion}
-use Rattle.std.proofs.lemmas.List.{map-set, get_or-set_same, get_or-set_other, length-map}
-use Rattle.std.proofs.lemmas.List.Sums.{sum_by_more_le}
-use Rattle.std.proofs.lemmas.List.Elements.{All-cons, All-get_or, All-set, All-tail, All-head, recursion_from_All}
-use Rattle.rosenberg_layer.specs.declared.buckets.Head.{Head}
-use Rattle.rosenberg_layer.specs.Buckets.{chain, list_of, list_at, listed_count, IsApart}
+use Rattle.rosenberg_layer.proofs.Common.{nat_tests, elements, ◌≡◌, ◌≢◌, ℕ, zero, suc, ◌+◌, ◌-◌, ◌<◌, ◌≤◌, List, [], ◌∷◌, ◌++◌, length, map, get_or, set, replicate, refl, sym, ap, subst, arith, append_assoc, All, AllByRecursion, map-set, get_or-set_same, get_or-set_other, length-map, sum_by_more_le, All-tail, recursion_from_All, Head, chain, list_of, list_at, listed_count, IsApart}
 
 -- the next term, and those after it
 pub chain-next : (nexts : List ℕ) (n i at : ℕ) → i < n
     → chain nexts (n - i) at ≡ at ∷ chain nexts (n - (i + 1)) (get_or nexts at 0)
-chain-next nexts n i at more =
-    let count : n - i ≡ suc (n - (i + 1)) = omega (arith, more) in
-    ap (λ k. chain nexts k at) count
+chain-next nexts n i at more = let count : n - i ≡ suc (n - (i + 1)) = omega arith in rw count refl
 
 -- .. which is appended to those before
 pub chain_appended : (nexts : List ℕ) (n i at : ℕ) (now after whole : List ℕ) → i < n
     → after ≡ now ++ at ∷ [] → now ++ chain nexts (n - i) at ≡ whole
     → after ++ chain nexts (n - (i + 1)) (get_or nexts at 0) ≡ whole
 chain_appended nexts n i at now after whole more new so_far =
-    let rest = chain nexts (n - (i + 1)) (get_or nexts at 0) in
-    ap (λ xs. xs ++ rest) new
-    ∙ append_assoc now (at ∷ []) rest
-    ∙ ap (λ xs. now ++ xs) (sym (chain-next nexts n i at more))
-    ∙ so_far
+    grind (arith, nat_tests, append_assoc, chain-next)
 
 pub chain_first : (nexts : List ℕ) (n i at : ℕ) → i < n
     → All (λ t. t < length nexts) (chain nexts (n - i) at) → at < length nexts
-chain_first nexts n i at more all =
-    let rest = chain nexts (n - (i + 1)) (get_or nexts at 0) in
-    All-head (λ t. t < length nexts) at rest
-    (subst (All (λ t. t < length nexts)) (chain-next nexts n i at more) all)
+chain_first nexts n i at more all = grind (arith, nat_tests, chain-next)
 
 pub chain_rest : (nexts : List ℕ) (n i at : ℕ) → i < n
     → All (λ t. t < length nexts) (chain nexts (n - i) at)
@@ -47,8 +31,7 @@ chain-other : (nexts : List ℕ) (t v n at : ℕ) → AllByRecursion (λ x. x �
     → chain (set nexts t v) n at ≡ chain nexts n at
 chain-other nexts t v zero at apart = refl
 chain-other nexts t v (suc n) at apart =
-    ap (λ next. at ∷ chain (set nexts t v) n next) (get_or-set_other nexts t at v 0 apart.0)
-    ∙ ap (λ xs. at ∷ xs) (chain-other nexts t v n (get_or nexts at 0) apart.1)
+    cc (get_or-set_other nexts t at v 0 apart.0, chain-other nexts t v n (get_or nexts at 0) apart.1)
 
 lists-other : (nexts : List ℕ) (t v : ℕ) (heads : List Head)
     → AllByRecursion (λ xs. All (λ x. x ≢ t) xs) (map (list_of nexts) heads)
@@ -56,9 +39,7 @@ lists-other : (nexts : List ℕ) (t v : ℕ) (heads : List Head)
 lists-other nexts t v [] apart = refl
 lists-other nexts t v (head ∷ heads) apart =
     let own = recursion_from_All (λ x. x ≢ t) (list_of nexts head) apart.0 in
-    let first = chain-other nexts t v head.count head.first own in
-    let rest = lists-other nexts t v heads apart.1 in
-    λ i. first i ∷ rest i
+    cc (chain-other nexts t v head.count head.first own, lists-other nexts t v heads apart.1)
 
 pub list_at-map : (f : Head → List ℕ) (heads : List Head) (b : ℕ) (head : Head) → b < length heads
     → head ≡ get_or heads b head → list_at (map f heads) b ≡ f head
@@ -76,51 +57,29 @@ pub put_lists : (nexts nexts' : List ℕ) (heads heads' : List Head) (b t count 
     → map (list_of nexts') heads'
     ≡ set (map (list_of nexts) heads) b (t ∷ list_at (map (list_of nexts) heads) b)
 put_lists nexts nexts' heads heads' b t count old within inside apart at next more new =
-    (λ i. map (list_of (next i)) (new i))
-    ∙ map-set (list_of after) heads b head
-    ∙ (λ i. set (same i) b (longer i))
-  where
-    after : List ℕ
-    after = set nexts t old.first
-
-    head : Head
-    head = record { first = t; count = count }
-
-    lists : List (List ℕ)
-    lists = map (list_of nexts) heads
-
-    same : map (list_of after) heads ≡ lists
-    same =
-        lists-other nexts t old.first heads
-        (recursion_from_All (λ xs. All (λ x. x ≢ t) xs) lists apart)
-
-    longer : list_of after head ≡ t ∷ list_at lists b
-    longer =
-        let one : count ≡ suc old.count = more ∙ add-one old.count in
-        ap (λ n. chain after n t) one
-        ∙ ap (λ k. t ∷ chain after old.count k) (get_or-set_same nexts t old.first 0 inside)
-        ∙ ap (λ xs. t ∷ xs)
-        (sym (list_at-map (list_of after) heads b old within at)
-        ∙ ap (λ ls. list_at ls b) same)
+    let after = set nexts t old.first in
+    let head : Head = record { first = t; count = count } in
+    let lists = map (list_of nexts) heads in
+    let same = lists-other nexts t old.first heads (recursion_from_All (λ xs. All (λ x. x ≢ t) xs) lists apart) in
+    let one : count ≡ suc old.count = omega arith in
+    let first = get_or-set_same nexts t old.first 0 inside in
+    let here = list_at-map (list_of after) heads b old within at in
+    let longer : list_of after head ≡ t ∷ list_at lists b = rw one (cc) in
+    let put = map-set (list_of after) heads b head in
+    cc
 
 -- every term lies in the room
 pub put_room : (lists lists' : List (List ℕ)) (b t room room' : ℕ) → b < length lists → t < room
     → All (λ xs. All (λ x. x < room) xs) lists → lists' ≡ set lists b (t ∷ list_at lists b)
     → room' ≡ room → All (λ xs. All (λ x. x < room') xs) lists'
-put_room lists lists' b t room room' within inside all new same =
-    subst (λ (n : ℕ). All (λ xs. All (λ x. x < n) xs) lists') (sym same)
-    (subst (All (λ xs. All (λ x. x < room) xs)) (sym new)
-    (All-set (λ xs. All (λ x. x < room) xs) lists b (t ∷ list_at lists b)
-    (All-cons (λ x. x < room) t (list_at lists b) inside
-    (All-get_or (λ xs. All (λ x. x < room) xs) lists b [] within all)) all))
+put_room lists lists' b t room room' within inside all new same = grind (arith, nat_tests, elements)
 
 -- ---- a list is taken
 
 pub take_lists : (nexts : List ℕ) (heads heads' : List Head) (b : ℕ)
     → heads' ≡ set heads b (record { first = 0; count = 0 })
     → map (list_of nexts) heads' ≡ set (map (list_of nexts) heads) b []
-take_lists nexts heads heads' b new =
-    ap (map (list_of nexts)) new ∙ map-set (list_of nexts) heads b (record { first = 0; count = 0 })
+take_lists nexts heads heads' b new = rw new (map-set (list_of nexts) heads b (record { first = 0; count = 0 }))
 
 -- ---- lists without terms
 
@@ -153,14 +112,9 @@ pub list_room : (nexts : List ℕ) (heads : List Head) (b room : ℕ) (head : He
     → head ≡ get_or heads b head → All (λ xs. All (λ x. x < room) xs) (map (list_of nexts) heads)
     → All (λ x. x < room) (chain nexts head.count head.first)
 list_room nexts heads b room head within at all =
-    let lists = map (list_of nexts) heads in
-    let inside : b < length lists = omega (arith, within, length-map heads (list_of nexts)) in
-    subst (All (λ x. x < room)) (list_at-map (list_of nexts) heads b head within at)
-    (All-get_or (λ xs. All (λ x. x < room) xs) lists b [] inside all)
+    grind (arith, nat_tests, length-map heads (list_of nexts), list_at-map (list_of nexts) heads b head within at)
 
 pub take_room : (lists lists' : List (List ℕ)) (b room : ℕ)
     → All (λ xs. All (λ x. x < room) xs) lists → lists' ≡ set lists b []
     → All (λ xs. All (λ x. x < room) xs) lists'
-take_room lists lists' b room all new =
-    subst (All (λ xs. All (λ x. x < room) xs)) (sym new)
-    (All-set (λ xs. All (λ x. x < room) xs) lists b [] (λ k d inside. absurd (omega (arith, inside))) all)
+take_room lists lists' b room all new = grind (arith, nat_tests, elements)

@@ -1,14 +1,5 @@
 -- The run ends: the sum of d - 2 over the terms of degree 3 or more falls with each substitution.
-use Rattle.std.proofs.Common.{◌≡◌, ℕ, zero, suc, ◌+◌, ◌-◌, ◌≤◌, Bool, true, false, cond, arith, refl, sym, ap, ◌∙◌, List, [], ◌∷◌, map, length, Option, Some, None}
-use Rattle.std.specs.List.{AllByRecursion, filter}
-use Rattle.std.proofs.lemmas.Bool.Decides.{nat_tests}
-use Rattle.std.proofs.lemmas.List.Elements.{All-from_recursion, recursion_from_All}
-use Rattle.std.proofs.lemmas.List.Sums.{sum_by-append}
-use Rattle.term_table.specs.Terms.{Term}
-use Rattle.term_table.specs.Tables.{TableContent, IsLow}
-use Rattle.term_table.proofs.Additions.{sets_sum-with_additions}
-use Rattle.rosenberg_layer.specs.Rosenberg.{node, Pair, is_long, new_term, pair_total, tie_terms, replaced, with_pair, front_pair, next_pair, with_next, substituted, run, excess, image}
-use Rattle.rosenberg_layer.specs.laws.Sets.{IsSound, IsSound-substituted, found_in, pair_differs}
+use Rattle.rosenberg_layer.proofs.Common.{◌≡◌, ℕ, zero, suc, ◌+◌, ◌-◌, ◌≤◌, arith, refl, sym, ap, ◌∙◌, List, [], ◌∷◌, length, Option, Some, None, AllByRecursion, filter, nat_tests, All-from_recursion, recursion_from_All, sum_by-append, Term, TableContent, IsLow, sets_sum-with_additions, node, Pair, is_long, with_pair, front_pair, next_pair, with_next, substituted, run, excess, image, IsSound, IsSound-substituted, found_in, pair_differs}
 use Rattle.rosenberg_layer.proofs.Falls.{sum-falls, excess-falls}
 
 -- ---- where no pair is left
@@ -16,31 +7,13 @@ use Rattle.rosenberg_layer.proofs.Falls.{sum-falls, excess-falls}
 abbrev IsShort : Term → Type 0
 IsShort t = length t.0 ≤ 2
 
--- a term of degree 3 or more has a pair
-front-none : (t : Term) (us : List Term) → 3 ≤ length t.0 → front_pair (t ∷ us) ≡ None → ⊥
-front-none ([], c) us high e = absurd (omega arith)
-front-none (p ∷ [], c) us high e = absurd (omega arith)
-front-none (p ∷ q ∷ ls, c) us high e = cc
-
 none-short : (ts : List Term) → next_pair ts ≡ None → AllByRecursion IsShort ts
 none-short [] e = tt
-none-short (t ∷ ts) e = go (is_long t) refl e (none-short ts)
-  where
-    go : (b : Bool) → is_long t ≡ b
-        → front_pair (cond b (t ∷ filter is_long ts) (filter is_long ts)) ≡ None
-        → (next_pair ts ≡ None → AllByRecursion IsShort ts)
-        → AllByRecursion IsShort (t ∷ ts)
-    go true long e rest = absurd (front-none t (filter is_long ts) (grind (arith, nat_tests)) e)
-    go false short e rest = (grind (arith, nat_tests), rest e)
+none-short (t ∷ ts) e = grind (arith, nat_tests, none-short ts)
 
 pub short-none : (ts : List Term) → AllByRecursion IsShort ts → filter is_long ts ≡ []
 short-none [] low = refl
-short-none (t ∷ ts) low = go (is_long t) refl (short-none ts low.1)
-  where
-    go : (b : Bool) → is_long t ≡ b → filter is_long ts ≡ []
-        → cond b (t ∷ filter is_long ts) (filter is_long ts) ≡ []
-    go true long rest = let short = low.0 in absurd (grind (arith, nat_tests))
-    go false short rest = rest
+short-none (t ∷ ts) low = grind (arith, nat_tests, short-none ts low.1)
 
 pub low-none : (t : TableContent) → IsLow t → next_pair t.terms ≡ None
 low-none t low =
@@ -63,31 +36,21 @@ with_pair-falls : (t : TableContent) (pair : Pair) → IsSound t → next_pair t
     → excess (with_pair pair t).terms + 1 ≤ excess t.terms
 with_pair-falls t pair sound e =
     let found = found_in t pair sound e in
-    let differ = pair_differs t.width pair found.is_pair in
     let w = node t.width in
-    let ties = tie_terms pair w (pair_total pair t.terms) in
-    omega (
-      arith,
-      sets_sum-with_additions (λ ls. length ls - 2) (replaced pair w t.terms),
-      sum_by-append (λ (u : Term). length u.0 - 2) (map (new_term pair w) t.terms) ties,
-      sum-falls (λ ls. length ls - 2) 1 pair w t.terms (excess-falls pair w differ) found.some,
-    )
+    let falls = excess-falls pair w (pair_differs t.width pair found.is_pair) in
+    let sums = sum-falls (λ ls. length ls - 2) 1 pair w t.terms falls found.some in
+    omega (arith, sums, sets_sum-with_additions (λ ls. length ls - 2), sum_by-append (λ (u : Term). length u.0 - 2))
 
 -- each substitution takes from it
 pub substituted-takes : (t : TableContent) → IsSound t → (pair : Pair)
     → next_pair t.terms ≡ Some pair → excess (substituted t).terms + 1 ≤ excess t.terms
-substituted-takes t sound pair e =
-    let same = ap (λ next. excess (with_next next t).terms) e in
-    omega (arith, same, with_pair-falls t pair sound e)
+substituted-takes t sound pair e = let falls = with_pair-falls t pair sound e in grind (arith, nat_tests)
 
 pub substituted-falls : (t : TableContent) → IsSound t
     → excess (substituted t).terms ≤ excess t.terms
-substituted-falls t sound = go (next_pair t.terms) refl
-  where
-    go : (next : Option Pair) → next_pair t.terms ≡ next
-        → excess (with_next next t).terms ≤ excess t.terms
-    go None e = omega arith
-    go (Some pair) e = omega (arith, with_pair-falls t pair sound e)
+substituted-falls t sound =
+    let falls = with_pair-falls t in
+    grind (arith, nat_tests)
 
 -- ---- the end
 
@@ -146,16 +109,9 @@ pub run-nodes : (k : ℕ) (t : TableContent) → IsSound t
     → (run k t).width + excess (run k t).terms ≤ t.width + excess t.terms
 run-nodes zero t sound = omega arith
 run-nodes (suc k) t sound =
-    go (next_pair t.terms) refl (IsSound-substituted t sound) (run-nodes k)
-  where
-    go : (next : Option Pair) → next_pair t.terms ≡ next → IsSound (with_next next t)
-        → ((u : TableContent) → IsSound u
-        → (run k u).width + excess (run k u).terms ≤ u.width + excess u.terms)
-        → (run k (with_next next t)).width + excess (run k (with_next next t)).terms
-        ≤ t.width + excess t.terms
-    go None e after rest = rest t sound
-    go (Some pair) e after rest =
-        omega (arith, rest (with_pair pair t) after, with_pair-falls t pair sound e)
+    let falls = with_pair-falls t in
+    let after = IsSound-substituted t sound in
+    grind (arith, nat_tests, run-nodes k)
 
 pub nodes-few : (t : TableContent) → IsSound t → (image t).width ≤ t.width + excess t.terms
 nodes-few t sound = omega (arith, run-nodes (excess t.terms) t sound)

@@ -1,11 +1,5 @@
 -- Lists that lie flat: an item of one of them is replaced.
-use Rattle.std.proofs.Common.{◌≡◌, ℕ, zero, suc, ◌+◌, ◌-◌, ◌<◌, ◌≤◌, List, [], ◌∷◌, length, get_or, set, take, drop, refl, sym, ap, ◌∙◌, arith, false, ◌==◌}
-use Rattle.std.specs.List.{slice_range}
-use Rattle.std.proofs.lemmas.List.{length-take-le, length-drop, take-set-le, drop-set-lt, drop-set-add}
-use Rattle.std.proofs.lemmas.Option.{get_or_from_slice_get}
-use Rattle.std.proofs.Math.Dec.{eqb-suc-zero}
-use Rattle.base.specs.FlatLists.{parts, AreEnds, start_of}
-use Rattle.base.proofs.FlatParts.{parts-at, part_lies}
+use Rattle.rosenberg_layer.proofs.Common.{nat_tests, elements, ◌≡◌, ℕ, zero, suc, ◌+◌, ◌-◌, ◌<◌, ◌≤◌, List, [], ◌∷◌, length, get_or, set, take, refl, arith, slice_range, length-take-le, length-drop, drop-set-lt, drop-set-add, get_or_from_slice_get, eqb-suc-zero, parts, AreEnds, start_of, parts-at, part_lies}
 
 -- where the part at a place starts, where the first starts anywhere
 abbrev begin_of : ℕ → List ℕ → ℕ → ℕ
@@ -24,11 +18,7 @@ begin_of-is : (ends : List ℕ) (i : ℕ) → i < length ends → begin_of 0 end
 begin_of-is ends zero within = refl
 begin_of-is [] (suc i) within = absurd (omega (arith, within))
 begin_of-is (end ∷ ends) (suc i) within =
-    let before : suc i - 1 ≡ i = omega arith in
-    let later : (suc i == 0) ≡ false = eqb-suc-zero i in
-    rw later
-    (begin_of-suc 0 end ends i (omega (arith, within))
-    ∙ ap (λ n. get_or (end ∷ ends) n 0) (sym before))
+    grind (arith, nat_tests, eqb-suc-zero i, begin_of-suc 0 end ends i (omega (arith, within)))
 
 begin_of-le : (start : ℕ) (ends : List ℕ) (len i : ℕ) → AreEnds start ends len → i < length ends
     → start ≤ begin_of start ends i
@@ -43,27 +33,19 @@ take-set-lt : (n : ℕ) (xs : List ℕ) (i a : ℕ) → i < n → take n (set xs
 take-set-lt zero xs i a below = absurd (omega (arith, below))
 take-set-lt (suc n) [] i a below = refl
 take-set-lt (suc n) (x ∷ xs) zero a below = refl
-take-set-lt (suc n) (x ∷ xs) (suc i) a below =
-    ap (λ ys. x ∷ ys) (take-set-lt n xs i a (omega (arith, below)))
+take-set-lt (suc n) (x ∷ xs) (suc i) a below = let rest = take-set-lt n xs i a (omega (arith, below)) in cc
 
 range-set : (xs : List ℕ) (start end i a : ℕ) → start + i < end
     → slice_range (set xs (start + i) a) start end ≡ set (slice_range xs start end) i a
-range-set xs start end i a inside =
-    ap (take (end - start)) (drop-set-add start xs i a)
-    ∙ take-set-lt (end - start) (drop start xs) i a (omega (arith, inside))
+range-set xs start end i a inside = grind (arith, nat_tests, drop-set-add, take-set-lt)
 
 range-set-below : (xs : List ℕ) (start end k a : ℕ) → k < start
     → slice_range (set xs k a) start end ≡ slice_range xs start end
-range-set-below xs start end k a below =
-    ap (take (end - start)) (drop-set-lt start xs k a below)
+range-set-below xs start end k a below = grind (arith, nat_tests, drop-set-lt)
 
 range-set-above : (xs : List ℕ) (start end k a : ℕ) → start ≤ end → end ≤ k
     → slice_range (set xs k a) start end ≡ slice_range xs start end
-range-set-above xs start end k a ordered above =
-    let place : k ≡ start + (k - start) = omega (arith, ordered, above) in
-    ap (take (end - start))
-    (ap (λ n. drop start (set xs n a)) place ∙ drop-set-add start xs (k - start) a)
-    ∙ take-set-le (end - start) (drop start xs) (k - start) a (omega (arith, above))
+range-set-above xs start end k a ordered above = grind (arith, nat_tests, elements)
 
 -- ---- the parts
 
@@ -100,12 +82,7 @@ part-at codes ends i within =
 length-part : (codes ends : List ℕ) (i : ℕ) → AreEnds 0 ends (length codes) → i < length ends
     → length (get_or (parts codes 0 ends) i []) ≡ get_or ends i 0 - start_of ends i
 length-part codes ends i is within =
-    let lies = part_lies ends (length codes) i is within in
-    let start = start_of ends i in
-    let end = get_or ends i 0 in
-    ap length (part-at codes ends i within)
-    ∙ length-take-le (end - start) (drop start codes)
-    (omega (arith, length-drop start codes, lies.1))
+    grind (arith, nat_tests, part_lies, part-at, length-take-le, length-drop)
 
 -- the item lies in the list
 pub put_within : (codes ends : List ℕ) (i place start : ℕ) → AreEnds 0 ends (length codes)
@@ -127,10 +104,4 @@ put_parts codes ends codes' i place a start is within at inside new =
     let from = begin_of-is ends i within in
     let lies = part_lies ends (length codes) i is within in
     let part = length-part codes ends i is within in
-    new' from ∙ parts-set codes 0 ends i place a (length codes) is within
-    (omega (arith, lies.0, inside, part, from))
-  where
-    new' : begin_of 0 ends i ≡ start_of ends i
-        → parts codes' 0 ends ≡ parts (set codes (begin_of 0 ends i + place) a) 0 ends
-    new' from =
-        ap (λ cs. parts cs 0 ends) (new ∙ ap (λ n. set codes (n + place) a) (at ∙ sym from))
+    grind (arith, nat_tests, elements, parts-set)

@@ -1,16 +1,6 @@
 -- The quadratic terms that a run left, as loops add them.
-use Rattle.std.proofs.Common.{◌≡◌, refl, ℕ, ℤ, suc, drop, ◌+◌, ◌<◌, arith, sym, ap, ◌∙◌, subst, List, [], ◌∷◌, ◌++◌, length, get_or}
-use Rattle.std.specs.List.{filter}
-use Rattle.std.proofs.Math.Seq.{drop-cons}
-use Rattle.std.proofs.lemmas.List.Elements.{filter-append}
-use Rattle.literal_lists.specs.declared.literal.Literal.{Literal}
-use Rattle.term_table.specs.Terms.{Term}
-use Rattle.term_table.specs.Rooms.{HasRoomFor}
-use Rattle.term_table.specs.Tables.{TableContent, with_appended}
-use Rattle.term_table.proofs.Filling.{fills_as, rest_more, rest_none, rest_room, room_as, Rest}
-use Rattle.rosenberg_layer.specs.Rosenberg.{node, Pair, tie_terms}
-use Rattle.rosenberg_layer.specs.Steps.{is_short}
-use Rattle.rosenberg_layer.specs.Parts.{ties_of}
+use Rattle.rosenberg_layer.proofs.Common.{◌≡◌, refl, ℕ, ℤ, suc, drop, ◌+◌, ◌<◌, arith, sym, ap, ◌∙◌, subst, List, [], ◌∷◌, ◌++◌, length, get_or, filter, drop-cons, filter-append, Literal, Term, HasRoomFor, TableContent, with_appended, fills_as, rest_none, rest_room, room_as, Rest, node, Pair, tie_terms, is_short, ties_of}
+use Rattle.term_table.proofs.Filling.{rest_more}
 
 -- a loop begins with all that is to be added
 pub rest-start : {S : Type 0} (takes : S → List Term → Type 0) (holds : S → TableContent → Type 0) (start : S)
@@ -66,7 +56,6 @@ pub ties-next : (n i : ℕ) (pairs : List Pair) (ms : List ℕ) (d : Pair) (e : 
 ties-next n i pairs ms d e w inside also is =
     let next : n + i + 1 ≡ n + (i + 1) = omega arith in
     let after : suc i ≡ i + 1 = omega arith in
-    (λ j. ties_of (n + i) (drop-cons pairs i d inside j) (drop-cons ms i e also j))
-    ∙ (λ j.
-    tie_terms (get_or pairs i d) (sym is j) (get_or ms i e)
-    ++ ties_of (next j) (drop (after j) pairs) (drop (after j) ms))
+    let p = drop-cons pairs i d inside in
+    let m = drop-cons ms i e also in
+    rw (p, m) (cc)

@@ -4,26 +4,8 @@
 -- takes 8 * m from the terms that it touches, and the tie weighs 8 * m. For the size a term of degree
 -- 3 or more weighs 14 * (d - 2) + 4: a substitution takes at least 14, and the tie and the node count
 -- 14.
-use Rattle.std.proofs.Common.{◌≡◌, ℕ, zero, suc, ◌+◌, ◌-◌, ◌*◌, ◌^◌, ◌≤◌, Bool, true, false, cond, leb, arith, refl, ap, ◌∙◌, List, [], ◌∷◌, ◌++◌, map, length, Option, Some, None, ℤ, pos, neg_ℤ, ◌+ℤ◌, unsigned_abs}
-use Rattle.std.specs.List.{AllByRecursion}
-use Rattle.std.specs.Ordering.{int_eq, match_ordering}
-use Rattle.std.specs.declared.cmp.Ordering.{Ordering}
+use Rattle.rosenberg_layer.proofs.Common.{◌≡◌, ℕ, zero, suc, ◌+◌, ◌-◌, ◌*◌, ◌^◌, ◌≤◌, Bool, true, false, cond, leb, arith, refl, ap, ◌∙◌, List, [], ◌∷◌, ◌++◌, map, length, Option, Some, None, ℤ, ◌+ℤ◌, unsigned_abs, AllByRecursion, match_ordering, Ordering, mul-le-mul_left, mul-le-mul_right, pow-succ', pow-zero, nat_tests, recursion_from_All, sum_by-cons, sum_by-append, size-plus, Literal, Term, set_cmp, set_size, terms_total, terms_size, in_front, with_addition, with_additions, IsTermSet, TableContent, table_size, sets_sum, sets_sum-cons, sets_sum-with_additions, terms_total-cons, same_set, node, Pair, has_pair, new_term, pair_total, tie_terms, replaced, with_pair, next_pair, with_next, run, image, rest_of, Differ, pair_total-cons, IsSound, IsSound-substituted, found_in, pair_differs, times_of, weight_of, weights}
 use Rattle.std.specs.declared.cmp.Ordering.TheVariants.{Less, Equal, Greater}
-use Rattle.std.proofs.Math.Nat.{mul-le-mul_left, mul-le-mul_right, pow-succ', pow-zero}
-use Rattle.std.proofs.lemmas.Bool.Decides.{nat_tests}
-use Rattle.std.proofs.lemmas.Int.{ints}
-use Rattle.std.proofs.lemmas.List.Elements.{recursion_from_All}
-use Rattle.std.proofs.lemmas.List.Sums.{sum_by-cons, sum_by-append}
-use Rattle.base.proofs.Totals.{size-plus}
-use Rattle.literal_lists.specs.declared.literal.Literal.{Literal}
-use Rattle.term_table.specs.Terms.{Term, set_cmp, set_size, terms_total, terms_size, in_front, with_addition, with_additions, IsTermSet}
-use Rattle.term_table.specs.Tables.{TableContent, table_size}
-use Rattle.term_table.proofs.Additions.{sets_sum, sets_sum-cons, sets_sum-with_additions, terms_total-cons}
-use Rattle.term_table.proofs.SetOrder.{same_set}
-use Rattle.rosenberg_layer.specs.Rosenberg.{node, Pair, has_pair, new_term, pair_total, tie_terms, replaced, with_pair, next_pair, with_next, run, excess, image}
-use Rattle.rosenberg_layer.specs.laws.Costs.{rest_of, Differ, pair_total-cons}
-use Rattle.rosenberg_layer.specs.laws.Sets.{IsSound, IsSound-substituted, found_in, pair_differs}
-use Rattle.rosenberg_layer.specs.Parts.{times_of, weight_of, weights}
 use Rattle.rosenberg_layer.proofs.Falls.{Falls, sum-falls, has_pair-long, degree-falls}
 use Rattle.rosenberg_layer.proofs.Ends.{IsLow-image}
 
@@ -37,19 +19,14 @@ weights-append ts us = sum_by-append weight_of ts us
 
 weights-in_front : (ls : List Literal) (c : ℤ) (ts : List Term)
     → weights (in_front ls c ts) ≤ unsigned_abs c * times_of ls + weights ts
-weights-in_front ls c ts = go (int_eq c (pos 0))
-  where
-    go : (zero : Bool)
-        → weights (cond zero ts ((ls, c) ∷ ts)) ≤ unsigned_abs c * times_of ls + weights ts
-    go true = omega arith
-    go false = omega (arith, weights-cons (ls, c) ts)
+weights-in_front ls c ts = let more = weights-cons (ls, c) ts in grind (arith, nat_tests)
 
 weights-with_addition : (ts : List Term) (ls : List Literal) (c : ℤ)
     → weights (with_addition ts ls c) ≤ weights ts + unsigned_abs c * times_of ls
 weights-with_addition [] ls c = omega (arith, weights-in_front ls c [])
-weights-with_addition (t ∷ ts) ls c = go (set_cmp ls t.0) refl (weights-with_addition ts ls c)
+weights-with_addition (t ∷ ts) ls c = go (set_cmp ls t.0) (same_set ls t.0) (weights-with_addition ts ls c)
   where
-    go : (o : Ordering) → set_cmp ls t.0 ≡ o
+    go : (o : Ordering) → (o ≡ Equal → ls ≡ t.0)
         → weights (with_addition ts ls c) ≤ weights ts + unsigned_abs c * times_of ls
         → weights
         (match_ordering o (in_front ls c (t ∷ ts)) (in_front t.0 (t.1 +ℤ c) ts)
@@ -57,25 +34,14 @@ weights-with_addition (t ∷ ts) ls c = go (set_cmp ls t.0) refl (weights-with_a
         ≤ weights (t ∷ ts) + unsigned_abs c * times_of ls
     go Less e rest = omega (arith, weights-in_front ls c (t ∷ ts))
     go Equal e rest =
-        let same = ap (λ ks. unsigned_abs c * times_of ks) (same_set ls t.0 e) in
-        omega (
-          arith,
-          weights-in_front t.0 (t.1 +ℤ c) ts,
-          mul-le-mul_right (times_of t.0) (size-plus t.1 c),
-          same,
-          weights-cons t ts,
-        )
-    go Greater e rest = omega (arith, weights-cons t ts, weights-cons t (with_addition ts ls c))
+        let more = mul-le-mul_right (times_of t.0) (size-plus t.1 c) in
+        rw (e refl) (omega (arith, weights-in_front t.0 (t.1 +ℤ c) ts, more, weights-cons t ts))
+    go Greater e rest = omega (arith, weights-cons)
 
 weights-more : (table ts : List Term) → weights (with_additions table ts) ≤ weights table + weights ts
 weights-more table [] = omega arith
 weights-more table (t ∷ ts) =
-    omega (
-      arith,
-      weights-more (with_addition table t.0 t.1) ts,
-      weights-with_addition table t.0 t.1,
-      weights-cons t ts,
-    )
+    grind (arith, nat_tests, weights-more (with_addition table t.0 t.1) ts, weights-with_addition, weights-cons)
 
 pub weights-with_additions : (ts : List Term) → weights (with_additions [] ts) ≤ weights ts
 weights-with_additions ts = omega (arith, weights-more [] ts)
@@ -102,41 +68,16 @@ pub weights-new_terms : (pair : Pair) (w : Literal) (ts : List Term) → Differ 
     → weights (map (new_term pair w) ts) + 8 * pair_total pair ts ≤ weights ts
 weights-new_terms pair w [] differ = omega arith
 weights-new_terms pair w (t ∷ ts) differ =
-    omega (
-      arith,
-      one-weight pair w t differ,
-      weights-new_terms pair w ts differ,
-      weights-cons t ts,
-      weights-cons (new_term pair w t) (map (new_term pair w) ts),
-      pair_total-cons pair t ts,
-    )
+    grind (arith, nat_tests, weights-new_terms pair w ts differ, one-weight, weights-cons, pair_total-cons)
 
 pub weights-tie_terms : (pair : Pair) (w : Literal) (m : ℕ) → weights (tie_terms pair w m) ≡ 8 * m
-weights-tie_terms pair w m =
-    let a : unsigned_abs (neg_ℤ (pos (2 * m))) ≡ 2 * m = omega (arith, ints) in
-    let one : Term = (pair.0 ∷ pair.1 ∷ [], pos m) in
-    let two : Term = (pair.0 ∷ w ∷ [], neg_ℤ (pos (2 * m))) in
-    let three : Term = (pair.1 ∷ w ∷ [], neg_ℤ (pos (2 * m))) in
-    let four : Term = (w ∷ [], pos (3 * m)) in
-    omega (
-      arith,
-      a,
-      weights-cons one (two ∷ three ∷ four ∷ []),
-      weights-cons two (three ∷ four ∷ []),
-      weights-cons three (four ∷ []),
-      weights-cons four [],
-    )
+weights-tie_terms pair w m = grind (arith, nat_tests)
 
 -- what the terms become weighs no more
 pub weights-replaced : (pair : Pair) (w : Literal) (ts : List Term) → Differ pair
     → weights (replaced pair w ts) ≤ weights ts
 weights-replaced pair w ts differ =
-    omega (
-      arith,
-      weights-append (map (new_term pair w) ts) (tie_terms pair w (pair_total pair ts)),
-      weights-new_terms pair w ts differ,
-      weights-tie_terms pair w (pair_total pair ts),
-    )
+    grind (arith, nat_tests, weights-append, weights-new_terms, weights-tie_terms)
 
 pub weights-run : (k : ℕ) (t : TableContent) → IsSound t → weights (run k t).terms ≤ weights t.terms
 weights-run zero t sound = omega arith
@@ -149,26 +90,14 @@ weights-run (suc k) t sound =
     go None e after rest = rest t sound
     go (Some pair) e after rest =
         let differ = pair_differs t.width pair (found_in t pair sound e).is_pair in
-        omega (
-          arith,
-          rest (with_pair pair t) after,
-          weights-replaced pair (node t.width) t.terms differ,
-          weights-with_additions (replaced pair (node t.width) t.terms),
-        )
+        omega (arith, rest (with_pair pair t) after, weights-replaced, weights-with_additions)
 
 -- ---- the total
 
 pub total-weights : (ts : List Term) → terms_total ts ≤ weights ts
 total-weights [] = omega arith
 total-weights (t ∷ ts) =
-    let some : 1 ≤ times_of t.0 = omega arith in
-    omega (
-      arith,
-      mul-le-mul_left (unsigned_abs t.1) some,
-      total-weights ts,
-      terms_total-cons t ts,
-      weights-cons t ts,
-    )
+    grind (arith, nat_tests, total-weights ts, terms_total-cons t ts, weights-cons t ts)
 
 abbrev IsShort : Term → Type 0
 IsShort t = length t.0 ≤ 2048
@@ -178,13 +107,7 @@ weights-total [] short = omega arith
 weights-total (t ∷ ts) short =
     let h = short.0 in
     let most : times_of t.0 ≤ 2 ^ 15 = omega arith in
-    omega (
-      arith,
-      mul-le-mul_left (unsigned_abs t.1) most,
-      weights-total ts short.1,
-      terms_total-cons t ts,
-      weights-cons t ts,
-    )
+    grind (arith, nat_tests, weights-total ts short.1, mul-le-mul_left, terms_total-cons, weights-cons)
 
 short_sets : (width : ℕ) (ts : List Term) → AllByRecursion (λ (t : Term). IsTermSet width t.0) ts
     → AllByRecursion IsShort ts
@@ -198,13 +121,7 @@ weights-table t sound =
 
 pub total-image : (t : TableContent) → IsSound t
     → terms_total (image t).terms + 1 ≤ (terms_total t.terms + 1) * 2 ^ 15
-total-image t sound =
-    omega (
-      arith,
-      total-weights (image t).terms,
-      weights-run (excess t.terms) t sound,
-      weights-table t sound,
-    )
+total-image t sound = omega (arith, total-weights, weights-run, weights-table)
 
 -- ---- the size
 
@@ -227,34 +144,20 @@ set_size-high [] high = absurd (omega arith)
 set_size-high (l ∷ ls) high = square_is (length (l ∷ ls))
 
 room-high : (ls : List Literal) → 3 ≤ length ls → room ls ≡ 14 * (length ls - 2) + 4
-room-high ls high =
-    let e : leb 3 (length ls) ≡ true = grind (arith, nat_tests) in
-    ap (λ b. cond b (14 * (length ls - 2) + 4) (set_size ls)) e
+room-high ls high = grind (arith, nat_tests)
 
 room-low : (ls : List Literal) → length ls ≤ 2 → room ls ≡ set_size ls
-room-low ls low =
-    let e : leb 3 (length ls) ≡ false = grind (arith, nat_tests) in
-    ap (λ b. cond b (14 * (length ls - 2) + 4) (set_size ls)) e
+room-low ls low = grind (arith, nat_tests)
 
 room-below : (ls : List Literal) (d : ℕ) → length ls + 1 ≤ d → 3 ≤ d
     → room ls + 14 ≤ 14 * (d - 2) + 4
-room-below ls d less high = go (leb 3 (length ls)) refl
-  where
-    go : (b : Bool) → leb 3 (length ls) ≡ b
-        → cond b (14 * (length ls - 2) + 4) (set_size ls) + 14 ≤ 14 * (d - 2) + 4
-    go true e = let h : 3 ≤ length ls = grind (arith, nat_tests) in omega arith
-    go false e =
-        let h : length ls ≤ 2 = grind (arith, nat_tests) in omega (arith, set_size-low ls h)
+room-below ls d less high = grind (arith, nat_tests, set_size-low)
 
 room-falls : (pair : Pair) (w : Literal) → Differ pair → Falls room 14 pair w
 room-falls pair w differ = λ t has.
     let high = has_pair-long pair t has in
-    let new = rest_of pair t.0 ++ w ∷ [] in
-    omega (
-      arith,
-      room-high t.0 high,
-      room-below new (length t.0) (degree-falls pair w t differ has) high,
-    )
+    let less = room-below (rest_of pair t.0 ++ w ∷ []) (length t.0) (degree-falls pair w t differ has) high in
+    omega (arith, room-high t.0 high, less)
 
 room-tie_terms : (pair : Pair) (w : Literal) (m : ℕ) → sets_sum room (tie_terms pair w m) ≡ 13
 room-tie_terms pair w m = refl
@@ -264,62 +167,30 @@ with_pair-room : (t : TableContent) (pair : Pair) → IsSound t → next_pair t.
     ≤ t.width + sets_sum room t.terms
 with_pair-room t pair sound e =
     let found = found_in t pair sound e in
-    let differ = pair_differs t.width pair found.is_pair in
     let w = node t.width in
-    let m = pair_total pair t.terms in
-    omega (
-      arith,
-      sets_sum-with_additions room (replaced pair w t.terms),
-      sum_by-append (λ (u : Term). room u.0) (map (new_term pair w) t.terms) (tie_terms pair w m),
-      sum-falls room 14 pair w t.terms (room-falls pair w differ) found.some,
-      room-tie_terms pair w m,
-    )
+    let falls = room-falls pair w (pair_differs t.width pair found.is_pair) in
+    let sums = sum-falls room 14 pair w t.terms falls found.some in
+    omega (arith, sums, sets_sum-with_additions, sum_by-append, room-tie_terms pair w (pair_total pair t.terms))
 
 pub room-run : (k : ℕ) (t : TableContent) → IsSound t
     → (run k t).width + sets_sum room (run k t).terms ≤ t.width + sets_sum room t.terms
 room-run zero t sound = omega arith
 room-run (suc k) t sound =
-    go (next_pair t.terms) refl (IsSound-substituted t sound) (room-run k)
-  where
-    go : (next : Option Pair) → next_pair t.terms ≡ next → IsSound (with_next next t)
-        → ((u : TableContent) → IsSound u
-        → (run k u).width + sets_sum room (run k u).terms ≤ u.width + sets_sum room u.terms)
-        → (run k (with_next next t)).width + sets_sum room (run k (with_next next t)).terms
-        ≤ t.width + sets_sum room t.terms
-    go None e after rest = rest t sound
-    go (Some pair) e after rest =
-        omega (arith, rest (with_pair pair t) after, with_pair-room t pair sound e)
+    let after = IsSound-substituted t sound in
+    let more = with_pair-room t in
+    grind (arith, nat_tests, room-run k)
 
 -- 14 * (d - 2) + 4 grows by 14 with d, and 4 * d * d by more
 few : (d : ℕ) → 3 ≤ d → 14 * (d - 2) + 4 ≤ 4 * (d * d)
-few d h =
-    let up : 3 * d ≤ d * d = mul-le-mul_right d h in
-    let e : d ≡ 3 + (d - 3) = omega arith in
-    let square : d * d ≡ 9 + 6 * (d - 3) + (d - 3) * (d - 3) =
-    ap (λ n. n * n) e ∙ omega arith in
-    omega (arith, square)
+few d h = grind (arith, nat_tests, mul-le-mul_right d h)
 
 room-le : (ls : List Literal) → room ls ≤ 4 * set_size ls
-room-le ls = go (leb 3 (length ls)) refl
-  where
-    go : (b : Bool) → leb 3 (length ls) ≡ b
-        → cond b (14 * (length ls - 2) + 4) (set_size ls) ≤ 4 * set_size ls
-    go true e =
-        let h : 3 ≤ length ls = grind (arith, nat_tests) in
-        let d = length ls in
-        omega (arith, set_size-high ls h, few d h)
-    go false e = omega arith
+room-le ls = grind (arith, nat_tests, set_size-high, few)
 
 rooms-le : (ts : List Term) → sets_sum room ts ≤ 4 * terms_size ts
 rooms-le [] = omega arith
 rooms-le (t ∷ ts) =
-    omega (
-      arith,
-      room-le t.0,
-      rooms-le ts,
-      sets_sum-cons room t ts,
-      sets_sum-cons set_size t ts,
-    )
+    grind (arith, nat_tests, room-le t.0, rooms-le ts, sets_sum-cons room t ts, sets_sum-cons set_size t ts)
 
 rooms-low : (ts : List Term) → AllByRecursion (λ (t : Term). length t.0 ≤ 2) ts
     → sets_sum room ts ≡ terms_size ts
@@ -336,9 +207,4 @@ rooms-low (t ∷ ts) low =
 pub size-image : (t : TableContent) → IsSound t → table_size (image t) ≤ table_size t * 2 ^ 2
 size-image t sound =
     let low = recursion_from_All (λ (u : Term). length u.0 ≤ 2) (image t).terms (IsLow-image t sound) in
-    omega (
-      arith,
-      rooms-low (image t).terms low,
-      room-run (excess t.terms) t sound,
-      rooms-le t.terms,
-    )
+    omega (arith, rooms-low, room-run, rooms-le)

@@ -1,18 +1,5 @@
 -- Runs on the terms of degree 3 or more alone: they are the same for each table with these terms.
-use Rattle.std.proofs.Common.{◌≡◌, ◌≢◌, ℕ, pos, ◌+◌, ◌*◌, ◌≤◌, ◌<◌, ◌^◌, Bool, true, false, cond, arith, refl, sym, ap, ◌∙◌, subst, List, [], ◌∷◌, ◌++◌, length, unsigned_abs}
-use Rattle.std.specs.Prelude.{All, Some, None, Option, IfOk, Result, Ok, Err}
-use Rattle.std.specs.List.{filter}
-use Rattle.std.proofs.lemmas.List.{append_assoc, length-append}
-use Rattle.std.proofs.lemmas.List.Filters.{length-filter_both}
-use Rattle.std.proofs.lemmas.List.Elements.{All-filter, All-from_recursion, All-weaker, filter-append, recursion_from_All}
-use Rattle.literal_lists.specs.declared.literal.Literal.{Literal}
-use Rattle.term_table.specs.Terms.{Term, terms_size, IsTermSet}
-use Rattle.term_table.specs.Tables.{IsTable, TableContent, table_size}
-use Rattle.term_table.proofs.Additions.{terms_size-cons}
-use Rattle.term_table.proofs.KeptTerms.{OfSet}
-use Rattle.rosenberg_layer.specs.Rosenberg.{excess, is_long, Pair, run}
-use Rattle.rosenberg_layer.specs.Steps.{is_short}
-use Rattle.rosenberg_layer.specs.Parts.{weights, IsTurn}
+use Rattle.rosenberg_layer.proofs.Common.{nat_tests, ◌≡◌, ◌≢◌, ℕ, pos, ◌+◌, ◌*◌, ◌≤◌, ◌<◌, ◌^◌, Bool, true, false, cond, arith, refl, ap, List, [], ◌∷◌, ◌++◌, length, unsigned_abs, All, Some, None, Option, IfOk, Result, Ok, Err, filter, append_assoc, length-append, length-filter_both, All-filter, All-from_recursion, filter-append, recursion_from_All, Literal, Term, terms_size, IsTermSet, IsTable, TableContent, table_size, terms_size-cons, OfSet, excess, is_long, Pair, run, is_short, weights, IsTurn}
 use Rattle.rosenberg_layer.proofs.Bags.{held-start}
 use Rattle.rosenberg_layer.proofs.Parts.{filter-all, filter-ascends, filter-yes}
 use Rattle.rosenberg_layer.proofs.PartlyTerms.{sum-filter_le}
@@ -43,24 +30,18 @@ pub long_added : (now next : List Term) (t : Term) (left rest whole : List Term)
     → next ≡ now ++ filter is_long (t ∷ []) → now ++ filter is_long left ≡ whole
     → next ++ filter is_long rest ≡ whole
 long_added now next t left rest whole e added so_far =
-    ap (λ ts. ts ++ filter is_long rest) added
-    ∙ append_assoc now (filter is_long (t ∷ [])) (filter is_long rest)
-    ∙ sym (ap (λ ts. now ++ ts) (ap (filter is_long) e ∙ filter-append is_long (t ∷ []) rest))
-    ∙ so_far
+    grind (arith, nat_tests, append_assoc, filter-append)
 
 -- the literals of a set fit
 pub set_narrow : (width : ℕ) (ls : List Literal) → IsTermSet width ls → width ≤ 2 ^ 31
     → All (λ l. l.variable < 2 ^ 31) ls
-set_narrow width ls set narrow =
-    All-weaker (λ l. l.variable < width) (λ l. l.variable < 2 ^ 31)
-    (λ l below. omega (arith, below, narrow)) ls set.set.within
+set_narrow width ls set narrow = let within = set.set.within in grind (arith, nat_tests)
 
 -- the terms of degree 3 or more of a table are a table
 pub table_long : (t : TableContent) (width : ℕ) (long : List Term) → IsTable t → width ≡ t.width
     → long ≡ filter is_long t.terms → IsTable (record { width = width; terms = long })
 table_long t width long table same e =
-    subst (λ (u : TableContent). IsTable u)
-    (λ i. record { width = sym same i; terms = sym e i })
+    rw (same, e)
     (record {
       terms = record {
         ordered = filter-ascends is_long t.terms table.terms.ordered;
@@ -74,9 +55,7 @@ table_long t width long table same e =
 
 -- .. all of them
 pub all_long : (ts long : List Term) → long ≡ filter is_long ts → All (λ t. is_long t ≡ true) long
-all_long ts long e =
-    subst (All (λ t. is_long t ≡ true)) (sym e)
-    (All-from_recursion (λ t. is_long t ≡ true) (filter is_long ts) (filter-yes is_long ts))
+all_long ts long e = rw e (All-from_recursion _ _ (filter-yes is_long ts))
 
 -- the nodes of a run have codes of 32 bits
 pub nodes-narrow : (t : TableContent) (turns : ℕ) → table_size t * 2 ^ 2 ≤ 2 ^ 32

@@ -1,42 +1,14 @@
 -- Terms of degree 3 or more as they are kept: the term at a place, one more term, and a term whose
 -- first two literals are replaced.
-use Rattle.std.proofs.Common.{◌≡◌, ℕ, zero, suc, ◌+◌, ◌*◌, ◌/◌, ◌%◌, ◌<◌, ◌≤◌, Bool, true, false, List, [], ◌∷◌, ◌++◌, length, map, get_or, set, take, drop, refl, sym, ap, ◌∙◌, subst, arith, ℤ, pos, ◌==◌, if◌then◌else◌}
-use Rattle.std.specs.List.{AllZip}
-use Rattle.std.proofs.lemmas.List.{append_assoc, append-nil, map-append, drop-map, length-map, length-set, length-append, length-drop, length-take-le, get_or-drop, set-append_left, drop-append-le, drop-set-lt, drop-drop, take_more_set}
-use Rattle.literal_lists.specs.declared.literal.Literal.{Literal}
-use Rattle.literal_lists.specs.Codes.{code_of, literal_of}
-use Rattle.term_table.specs.Terms.{Term}
-use Rattle.rosenberg_layer.specs.Rosenberg.{node}
-use Rattle.rosenberg_layer.specs.Steps.{front_term, pair_of}
-use Rattle.rosenberg_layer.specs.Rings.{codes_left, literals_left, terms_in, term_at, code_at, HasTwo}
+use Rattle.rosenberg_layer.proofs.Common.{nat_tests, elements, ◌≡◌, ℕ, zero, suc, ◌+◌, ◌*◌, ◌/◌, ◌%◌, ◌<◌, ◌≤◌, List, [], ◌∷◌, ◌++◌, length, map, get_or, set, take, drop, refl, sym, ap, ◌∙◌, arith, ℤ, pos, ◌==◌, AllZip, append_assoc, append-nil, map-append, drop-map, length-map, length-set, length-append, length-drop, length-take-le, get_or-drop, set-append_left, drop-append-le, drop-set-lt, drop-drop, take_more_set, Literal, code_of, literal_of, Term, node, front_term, pair_of, literals_left, terms_in, term_at, code_at, HasTwo}
 
 -- ---- codes
 
 pub literal_of-code_of : (l : Literal) → literal_of (code_of l) ≡ l
-literal_of-code_of l = go l.variable l.negated
-  where
-    go : (v : ℕ) (b : Bool)
-        → literal_of (2 * v + (if b then 1 else 0)) ≡ record { variable = v; negated = b }
-    go v false =
-        let half : (2 * v + 0) / 2 ≡ v = omega arith in
-        let rest : (2 * v + 0) % 2 ≡ 0 = omega arith in
-        (λ i. record { variable = half i; negated = rest i == 1 })
-    go v true =
-        let half : (2 * v + 1) / 2 ≡ v = omega arith in
-        let rest : (2 * v + 1) % 2 ≡ 1 = omega arith in
-        (λ i. record { variable = half i; negated = rest i == 1 })
+literal_of-code_of l = grind (arith, nat_tests)
 
 pub code_of-literal_of : (n : ℕ) → code_of (literal_of n) ≡ n
-code_of-literal_of n = go (n % 2) refl
-  where
-    go : (r : ℕ) → n % 2 ≡ r → 2 * (n / 2) + (if n % 2 == 1 then 1 else 0) ≡ n
-    go zero e =
-        let whole : 2 * (n / 2) + 0 ≡ n = omega (arith, e) in
-        ap (λ k. 2 * (n / 2) + (if k == 1 then 1 else 0)) e ∙ whole
-    go (suc zero) e =
-        let whole : 2 * (n / 2) + 1 ≡ n = omega (arith, e) in
-        ap (λ k. 2 * (n / 2) + (if k == 1 then 1 else 0)) e ∙ whole
-    go (suc (suc r)) e = absurd (omega (arith, e))
+code_of-literal_of n = grind (arith, nat_tests)
 
 pub literal_of-node : (n : ℕ) → literal_of (2 * n) ≡ node n
 literal_of-node n =
@@ -55,17 +27,7 @@ codes-literals (n ∷ ns) = λ i. code_of-literal_of n i ∷ codes-literals ns i
 -- the first two literals, from their codes
 pub pair-codes : (t : Term) (first second : ℕ) → 2 ≤ length t.0 → first ≡ code_at t 0
     → second ≡ code_at t 1 → (literal_of first, literal_of second) ≡ pair_of t.0
-pair-codes t first second two one other = go t.0 two one other
-  where
-    go : (ls : List Literal) → 2 ≤ length ls → first ≡ get_or (map code_of ls) 0 0
-        → second ≡ get_or (map code_of ls) 1 0
-        → (literal_of first, literal_of second) ≡ pair_of ls
-    go [] two one other = absurd (omega (arith, two))
-    go (p ∷ []) two one other = absurd (omega (arith, two))
-    go (p ∷ q ∷ ls) two one other =
-        let a = ap literal_of one ∙ literal_of-code_of p in
-        let b = ap literal_of other ∙ literal_of-code_of q in
-        λ i. (a i, b i)
+pair-codes t first second two one other = grind (arith, nat_tests)
 
 -- ---- what is left of a ring
 
@@ -77,21 +39,12 @@ length-left ring turns two =
 
 pub degree-left : (ring : List ℕ) (turns : ℕ) → turns + 2 ≤ length ring
     → length (literals_left ring turns) + turns ≡ length ring
-degree-left ring turns two =
-    omega (
-      arith,
-      two,
-      length-map (codes_left ring turns) literal_of,
-      length-drop (2 * turns) (ring ++ take turns ring),
-      length-left ring turns two,
-    )
+degree-left ring turns two = grind (arith, nat_tests, length-map, length-drop, length-left)
 
 pub code-left : (ring : List ℕ) (turns : ℕ) (c : ℤ) (place : ℕ)
     → code_at (literals_left ring turns, c) place
     ≡ get_or (ring ++ take turns ring) (2 * turns + place) 0
-code-left ring turns c place =
-    ap (λ ns. get_or ns place 0) (codes-literals (codes_left ring turns))
-    ∙ get_or-drop (2 * turns) (ring ++ take turns ring) place 0
+code-left ring turns c place = rw codes-literals (get_or-drop (2 * turns) (ring ++ take turns ring) place 0)
 
 -- a ring that no replacing touched
 pub untouched : (ls : List Literal) → literals_left (map code_of ls) 0 ≡ ls
@@ -102,50 +55,16 @@ pub replaced-left : (ring : List ℕ) (turns n : ℕ) → turns + 3 ≤ length r
     → literals_left (set ring turns (2 * n)) (turns + 1)
     ≡ drop 2 (literals_left ring turns) ++ node n ∷ []
 replaced-left ring turns n three =
-    ap (map literal_of) codes
-    ∙ map-append literal_of (drop 2 (codes_left ring turns)) (w ∷ [])
-    ∙ (λ i.
-    sym (drop-map literal_of 2 (codes_left ring turns)) i ++ literal_of-node n i ∷ [])
-  where
-    w : ℕ
-    w = 2 * n
-
-    all : List ℕ
-    all = ring ++ take turns ring
-
-    ring' : List ℕ
-    ring' = set ring turns w
-
-    next : ℕ
-    next = 2 * (turns + 1)
-
-    inside : turns < length ring
-    inside = omega (arith, three)
-
-    whole : ring' ++ take (turns + 1) ring' ≡ set all turns w ++ w ∷ []
-    whole =
-        ap (λ ns. ring' ++ ns) (take_more_set ring turns w inside)
-        ∙ sym (append_assoc ring' (take turns ring) (w ∷ []))
-        ∙ ap (λ ns. ns ++ w ∷ []) (sym (set-append_left ring (take turns ring) turns w inside))
-
-    room : next ≤ length (set all turns w)
-    room =
-        omega (
-          arith,
-          three,
-          length-set all turns w,
-          length-left ring turns (omega (arith, three)),
-        )
-
-    codes : codes_left ring' (turns + 1) ≡ drop 2 (codes_left ring turns) ++ w ∷ []
-    codes =
-        let more : next ≡ 2 * turns + 2 = omega arith in
-        ap (drop next) whole
-        ∙ drop-append-le next (set all turns w) (w ∷ []) room
-        ∙ ap (λ ns. ns ++ w ∷ [])
-        (drop-set-lt next all turns w (omega arith)
-        ∙ ap (λ k. drop k all) more
-        ∙ sym (drop-drop 2 (2 * turns) all))
+    let w = 2 * n in
+    let all = ring ++ take turns ring in
+    let inside : turns < length ring = omega (arith, three) in
+    let more = take_more_set ring turns w inside in
+    let left = set-append_left ring (take turns ring) turns w inside in
+    let count = length-left ring turns (omega (arith, three)) in
+    let cut = drop-append-le (2 * (turns + 1)) (set all turns w) (w ∷ []) in
+    let past = drop-set-lt (2 * (turns + 1)) all turns w (omega arith) in
+    let two = drop-drop 2 (2 * turns) all in
+    grind (arith, nat_tests, append_assoc, length-set, map-append, drop-map, literal_of-node)
 
 -- ---- the terms
 
@@ -243,17 +162,14 @@ kept_at rings turns cs ts i two same is within =
     let count = length-terms rings turns cs two same in
     let inside : i < length turns = omega (arith, within, count, ap length is) in
     let own = two-at rings turns i two inside in
-    let at =
-    ap (λ us. term_at us i) (sym is) ∙ terms-at rings turns cs i two same inside in
+    let at = rw is at (terms-at rings turns cs i two same inside) in
     record {
       rings_within = omega (arith, inside, length-rings rings turns two);
       turns_within = inside;
       cs_within = omega (arith, inside, same);
       two = own;
       term = at;
-      degree =
-          ap (λ (t : Term). length t.0 + get_or turns i 0) at
-          ∙ degree-left (get_or rings i []) (get_or turns i 0) own.0;
+      degree = rw at (degree-left (get_or rings i []) (get_or turns i 0) own.0);
     }
 
 -- the code of one of the first two literals
@@ -262,8 +178,7 @@ pub kept_code : (rings : List (List ℕ)) (turns : List ℕ) (cs : List ℤ) (ts
     → get_or (get_or rings i [] ++ take (get_or turns i 0) (get_or rings i []))
     (2 * get_or turns i 0 + place) 0 ≡ code_at (term_at ts i) place
 kept_code rings turns cs ts i place kept =
-    sym (code-left (get_or rings i []) (get_or turns i 0) (get_or cs i (pos 0)) place)
-    ∙ ap (λ t. code_at t place) (sym kept.term)
+    cc (code-left (get_or rings i []) (get_or turns i 0) (get_or cs i (pos 0)) place, kept.term)
 
 -- ---- the term at a place is replaced
 
@@ -273,13 +188,7 @@ pub replaced_two : (rings rings' : List (List ℕ)) (turns turns' : List ℕ) (i
     → rings' ≡ set rings i (set (get_or rings i []) j (2 * n)) → turns' ≡ set turns i j'
     → AllZip HasTwo rings' turns'
 replaced_two rings rings' turns turns' i n j j' two own three next new_rings new_turns =
-    let ring = get_or rings i [] in
-    let ring' = set ring j (2 * n) in
-    let long = length-set ring j (2 * n) in
-    let short = own.1 in
-    let one : HasTwo ring' j' = (omega (arith, three, next, long), omega (arith, short, long)) in
-    subst (λ rs. AllZip HasTwo rs turns') (sym new_rings)
-    (subst (AllZip HasTwo (set rings i ring')) (sym new_turns) (two-set rings turns i ring' j' two one))
+    grind (arith, nat_tests, elements, length-set, two-set)
 
 pub replaced_terms : (rings rings' : List (List ℕ)) (turns turns' : List ℕ) (cs : List ℤ)
     (ts : List Term) (i n j j' : ℕ) → AllZip HasTwo rings turns → length cs ≡ length turns
@@ -289,17 +198,13 @@ pub replaced_terms : (rings rings' : List (List ℕ)) (turns turns' : List ℕ) 
     → terms_in rings' turns' cs ≡ set ts i (front_term (node n) (term_at ts i))
 replaced_terms rings rings' turns turns' cs ts i n j j' two same is kept at three next new_rings
     new_turns =
+    let ring = get_or rings i [] in
+    let term : (literals_left (set ring j (2 * n)) (j + 1), get_or cs i (pos 0))
+    ≡ front_term (node n) (term_at ts i) =
+    ap (λ ls. (ls, get_or cs i (pos 0)))
+    (replaced-left ring j n three
+    ∙ ap (λ k. drop 2 (literals_left ring k) ++ node n ∷ []) at)
+    ∙ ap (front_term (node n)) (sym kept.term) in
     (λ k. terms_in (new_rings k) ((new_turns ∙ ap (set turns i) next) k) cs)
     ∙ terms-set rings turns cs i (set ring j (2 * n)) (j + 1) two same
     ∙ (λ k. set (is k) i (term k))
-  where
-    ring : List ℕ
-    ring = get_or rings i []
-
-    term : (literals_left (set ring j (2 * n)) (j + 1), get_or cs i (pos 0))
-        ≡ front_term (node n) (term_at ts i)
-    term =
-        ap (λ ls. (ls, get_or cs i (pos 0)))
-        (replaced-left ring j n three
-        ∙ ap (λ k. drop 2 (literals_left ring k) ++ node n ∷ []) at)
-        ∙ ap (front_term (node n)) (sym kept.term)

@@ -3,6 +3,8 @@
 //! A table that is too wide for codes of 32 bits has its pairs found as they are defined: the first
 //! pair of all, its node in all terms that have both literals, and so on. Each turn then goes over
 //! all terms of degree 3 or more.
+//!
+//! They are for tables of 2^31 nodes or more, which no run of the program has.
 ghost use Rattle.std.specs.Prelude.{◌≡◌, ◌+◌, ◌<◌, ◌≤◌, ◌^◌, ◌++◌, ◌∷◌, ◌&&◌, [], true, All, IfOk, OnOk, Some, unsigned_abs, length};
 ghost use Rattle.std.specs.List.{filter};
 ghost use Rattle.term_table.specs.Terms.{terms_total, with_additions, IsTermSet};

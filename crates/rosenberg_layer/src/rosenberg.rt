@@ -1,4 +1,6 @@
 //! The layer that replaces pairs of literals, one after another.
+//!
+//! No run of the program comes here: quadratization replaces pairs in what was gathered.
 ghost use Rattle.std.specs.Prelude.{◌≡◌, ◌+◌, ◌*◌, ◌<◌, ◌≤◌, ◌^◌, IfOk, OnOk, fold};
 ghost use Rattle.term_table.specs.Terms.{terms_total};
 ghost use Rattle.term_table.specs.Tables.{kept_at_once, table_size, IsLow, IsTable};

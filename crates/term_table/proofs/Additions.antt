@@ -3,19 +3,8 @@
 -- A sum of the coefficients of the sets that pass a test grows by exactly what is added; a sum of
 -- sizes grows by at most that. Each is proved for one addition, by the order of the added set and
 -- the first one, and then for a list of additions.
-use Rattle.std.proofs.Common.{◌≡◌, ℕ, ◌+◌, ◌≤◌, Bool, true, false, cond, arith, sym, ap, refl, List, [], ◌∷◌, ℤ, pos, ◌+ℤ◌, unsigned_abs, sum_by, ◌++◌}
-use Rattle.std.specs.Ordering.{int_eq, is_eq, match_ordering}
-use Rattle.std.specs.declared.cmp.Ordering.{Ordering}
+use Rattle.term_table.proofs.Common.{nat_tests, ◌≡◌, ℕ, ◌+◌, ◌≤◌, Bool, true, false, cond, arith, sym, ap, refl, List, [], ◌∷◌, ℤ, pos, ◌+ℤ◌, unsigned_abs, sum_by, ◌++◌, int_eq, is_eq, match_ordering, Ordering, ints, sum_by-cons, sum_by-append, total_by, if_so, size-plus, Literal, all_hold, Term, set_cmp, set_size, terms_cost, terms_total, terms_size, coefficient_of, in_front, with_addition, with_additions}
 use Rattle.std.specs.declared.cmp.Ordering.TheVariants.{Less, Equal, Greater}
-use Rattle.std.specs.Bool.{Decides}
-use Rattle.std.proofs.lemmas.Int.{ints}
-use Rattle.std.proofs.lemmas.Bool.Decides.{Decides-int_eq}
-use Rattle.std.proofs.lemmas.List.Sums.{sum_by-cons, sum_by-append}
-use Rattle.base.specs.Sums.{total_by, if_so}
-use Rattle.base.proofs.Totals.{size-plus}
-use Rattle.literal_lists.specs.declared.literal.Literal.{Literal}
-use Rattle.literal_lists.specs.Literals.{all_hold}
-use Rattle.term_table.specs.Terms.{Term, set_cmp, set_size, terms_cost, terms_total, terms_size, coefficient_of, in_front, with_addition, with_additions}
 use Rattle.term_table.proofs.SetOrder.{same_set}
 
 -- ---- the sum of the coefficients whose sets pass a test
@@ -23,22 +12,13 @@ use Rattle.term_table.proofs.SetOrder.{same_set}
 abbrev pub weight : (List Literal → Bool) → List Term → ℤ
 weight test ts = total_by (λ t. if_so (test t.0) t.1) ts
 
-if_so-zero : (b : Bool) (c : ℤ) → c ≡ pos 0 → if_so b c ≡ pos 0
-if_so-zero true c zero = zero
-if_so-zero false c zero = refl
-
 pub if_so-plus : (b : Bool) (c d : ℤ) → if_so b (c +ℤ d) ≡ if_so b c +ℤ if_so b d
 if_so-plus true c d = refl
 if_so-plus false c d = refl
 
 pub weight-in_front : (test : List Literal → Bool) (ls : List Literal) (c : ℤ) (ts : List Term)
     → weight test (in_front ls c ts) ≡ if_so (test ls) c +ℤ weight test ts
-weight-in_front test ls c ts = go (int_eq c (pos 0)) (Decides-int_eq c (pos 0))
-  where
-    go : (zero : Bool) → Decides zero (c ≡ pos 0)
-        → weight test (cond zero ts ((ls, c) ∷ ts)) ≡ if_so (test ls) c +ℤ weight test ts
-    go true d = omega (arith, ints, if_so-zero (test ls) c (d.0 refl))
-    go false d = refl
+weight-in_front test ls c ts = grind (arith, nat_tests, ints)
 
 pub weight-with_addition : (test : List Literal → Bool) (ts : List Term) (ls : List Literal) (c : ℤ)
     → weight test (with_addition ts ls c) ≡ weight test ts +ℤ if_so (test ls) c
@@ -92,8 +72,7 @@ terms_total-in_front : (ls : List Literal) (c : ℤ) (ts : List Term)
     → terms_total (in_front ls c ts) ≤ unsigned_abs c + terms_total ts
 terms_total-in_front ls c ts = go (int_eq c (pos 0))
   where
-    go : (zero : Bool)
-        → terms_total (cond zero ts ((ls, c) ∷ ts)) ≤ unsigned_abs c + terms_total ts
+    go : (zero : Bool) → terms_total (cond zero ts ((ls, c) ∷ ts)) ≤ unsigned_abs c + terms_total ts
     go true = omega arith
     go false = omega (arith, terms_total-cons (ls, c) ts)
 
@@ -155,15 +134,8 @@ sets_sum-in_front f ls c ts = go (int_eq c (pos 0))
 sets_sum-with_addition : (f : List Literal → ℕ) (ts : List Term) (ls : List Literal) (c : ℤ)
     → sets_sum f (with_addition ts ls c) ≤ sets_sum f ts + f ls
 sets_sum-with_addition f [] ls c = omega (arith, sets_sum-in_front f ls c [])
-sets_sum-with_addition f (t ∷ ts) ls c = go (set_cmp ls t.0) (sets_sum-with_addition f ts ls c)
-  where
-    go : (o : Ordering) → sets_sum f (with_addition ts ls c) ≤ sets_sum f ts + f ls
-        → sets_sum f (match_ordering o (in_front ls c (t ∷ ts)) (in_front t.0 (t.1 +ℤ c) ts) (t ∷ with_addition ts ls c))
-        ≤ sets_sum f (t ∷ ts) + f ls
-    go Less rest = omega (arith, sets_sum-in_front f ls c (t ∷ ts))
-    go Equal rest =
-        omega (arith, sets_sum-in_front f t.0 (t.1 +ℤ c) ts, sets_sum-cons f t ts)
-    go Greater rest = omega (arith, sets_sum-cons f t ts, sets_sum-cons f t (with_addition ts ls c))
+sets_sum-with_addition f (t ∷ ts) ls c =
+    grind (arith, nat_tests, ints, sets_sum-with_addition f ts ls c, sets_sum-in_front, sets_sum-cons)
 
 sets_sum-more : (f : List Literal → ℕ) (table ts : List Term)
     → sets_sum f (with_additions table ts) ≤ sets_sum f table + sets_sum f ts

@@ -1,9 +1,5 @@
 -- Taking in one list of terms after another, and loops that do so.
-use Rattle.std.proofs.Common.{◌≡◌, ℤ, List, [], ◌∷◌, ◌++◌, refl, subst, sym, ap, ◌∙◌, append_assoc, append-nil}
-use Rattle.literal_lists.specs.declared.literal.Literal.{Literal}
-use Rattle.term_table.specs.Terms.{Term}
-use Rattle.term_table.specs.Tables.{TableContent, with_appended}
-use Rattle.term_table.specs.Rooms.{Fills, HasRoomFor}
+use Rattle.term_table.proofs.Common.{nat_tests, ints, arith, ◌≡◌, ℤ, List, [], ◌∷◌, ◌++◌, refl, subst, sym, ap, ◌∙◌, append_assoc, append-nil, Literal, Term, TableContent, with_appended, Fills, HasRoomFor}
 
 -- what was taken in, with what is left, is all
 pub record Rest {S : Type 0} (takes : S → List Term → Type 0) (holds : S → TableContent → Type 0) (start now : S) (left all : List Term) : Type 0 where
@@ -45,9 +41,7 @@ module _ {S : Type 0} (takes : S → List Term → Type 0) (holds : S → TableC
       → ((t : TableContent) → holds now t → holds new (with_appended t ks d))
       → ((more : List Term) → takes now ((ks, d) ∷ more) → takes new more)
       → Fills takes holds now new ((ls, c) ∷ [])
-  fills_as now new ls ks c d set coefficient held room =
-      subst (λ (t : Term). Fills takes holds now new (t ∷ [])) (λ i. (set i, coefficient i))
-      (record { held = held; room = room })
+  fills_as now new ls ks c d set coefficient held room = grind (arith, nat_tests, ints)
 
   pub fills_more : (first second third : S) (ts us : List Term)
       → Fills takes holds first second ts → Fills takes holds second third us
@@ -82,17 +76,12 @@ module _ {S : Type 0} (takes : S → List Term → Type 0) (holds : S → TableC
     done = before.done ++ ts;
     filled = fills_more start now new before.done ts before.filled one;
     whole =
-        append_assoc before.done ts later
-        ∙ ap (λ us. before.done ++ us) (sym step)
-        ∙ before.whole;
+        append_assoc before.done ts later ∙ ap (λ us. before.done ++ us) (sym step) ∙ before.whole;
   }
 
   pub rest_all : (start now : S) (left all : List Term) → left ≡ []
       → Rest takes holds start now left all → Fills takes holds start now all
-  rest_all start now left all none before =
-      fills_same start now before.done all
-      (sym (append-nil before.done) ∙ ap (λ ts. before.done ++ ts) (sym none) ∙ before.whole)
-      before.filled
+  rest_all start now left all none before = grind (arith, nat_tests, fills_same, append-nil)
 
   -- where there is room for all, there is for what comes next
   pub rest_room : (start now : S) (left later all ts : List Term) → left ≡ ts ++ later

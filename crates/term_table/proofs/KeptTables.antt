@@ -1,10 +1,5 @@
 -- An addition to a table leaves a table.
-use Rattle.std.proofs.Common.{◌≡◌, ◌+◌, ◌≤◌, ◌^◌, ℕ, ℤ, List, [], ◌∷◌, ◌++◌, ap, ◌∙◌, arith, unsigned_abs, All, Result, Ok, Err, OnOk, OnErr}
-use Rattle.std.proofs.lemmas.List.Elements.{All-push}
-use Rattle.literal_lists.specs.declared.literal.Literal.{Literal}
-use Rattle.term_table.specs.Terms.{Term, with_additions, terms_total, IsTermSet}
-use Rattle.term_table.specs.Runs.{Run, merged_terms, settled, with_entry, one_run}
-use Rattle.term_table.specs.Tables.{TableContent, kept_in, with_added, with_all, with_appended, IsTable, IsKept, AreAdditions}
+use Rattle.term_table.proofs.Common.{nat_tests, ints, ◌≡◌, ◌+◌, ◌≤◌, ◌^◌, ℕ, ℤ, List, [], ◌∷◌, ◌++◌, ap, arith, unsigned_abs, All, Result, Ok, Err, OnOk, OnErr, All-push, Literal, Term, with_additions, terms_total, IsTermSet, Run, merged_terms, settled, with_entry, one_run, TableContent, kept_in, with_added, with_all, with_appended, IsTable, IsKept, AreAdditions}
 use Rattle.term_table.proofs.Additions.{terms_total-with_addition, terms_total-append, terms_total-cons, terms_total-more, terms_total-with_additions}
 use Rattle.term_table.proofs.KeptTerms.{OfSet, AreTerms-with_additions}
 use Rattle.term_table.proofs.Runs.{AreRuns-one_run, AreRuns-settled, AreRuns-with_entry, AreTerms-merged, merged_terms-one_run, merged_terms-with_entry, merged_terms-with_sums}
@@ -24,28 +19,18 @@ pub IsKept-with_entry : (width : ℕ) (runs : List Run) (ls : List Literal) (c :
 IsKept-with_entry width runs ls c kept set small = record {
   runs = AreRuns-with_entry width runs ls c kept.runs set small;
   small =
-      omega (
-        arith,
-        ap terms_total (merged_terms-with_entry runs ls c),
-        terms_total-with_addition (merged_terms runs) ls c,
-      );
+      omega (arith, ap terms_total (merged_terms-with_entry runs ls c), terms_total-with_addition);
 }
 
 -- the sums of additions, put after the runs
 pub IsKept-with_sums : (width : ℕ) (runs : List Run) (ts : List Term) → IsKept width runs
-    → All (OfSet (IsTermSet width)) ts
-    → terms_total (merged_terms runs) + terms_total ts ≤ 2 ^ 124
+    → All (OfSet (IsTermSet width)) ts → terms_total (merged_terms runs) + terms_total ts ≤ 2 ^ 124
     → IsKept width (settled (runs ++ with_additions [] ts ∷ []))
 IsKept-with_sums width runs ts kept sets small = record {
   runs =
       AreRuns-settled width runs (with_additions [] ts) kept.runs
       (AreTerms-with_additions width ts sets) (omega (arith, small, terms_total-with_additions ts));
-  small =
-      omega (
-        arith,
-        ap terms_total (merged_terms-with_sums runs ts),
-        terms_total-more (merged_terms runs) ts,
-      );
+  small = omega (arith, ap terms_total (merged_terms-with_sums runs ts), terms_total-more);
 }
 
 -- whether memory was left or not
@@ -59,18 +44,13 @@ IsKept-by_result (Err u) width runs new next before after done same = rw same be
 pub content-by_result : {E : Type 0} (r : Result (Unit {0}) E) (width : ℕ) (runs new : List Run)
     (ls : List Literal) (c : ℤ) → OnOk r (new ≡ with_entry runs ls c)
     → OnOk r ((kept_in width new).content ≡ with_added (kept_in width runs).content ls c)
-content-by_result (Ok u) width runs new ls c done =
-    ap (λ (ts : List Term). record { width = width; terms = ts })
-    (ap merged_terms done ∙ merged_terms-with_entry runs ls c)
-content-by_result (Err u) width runs new ls c done = tt
+content-by_result r width runs new ls c done =
+    grind (arith, nat_tests, ints, merged_terms-with_entry)
 
 pub sums-by_result : {E : Type 0} (r : Result (Unit {0}) E) (width : ℕ) (runs new : List Run)
     (ts : List Term) → OnOk r (new ≡ settled (runs ++ with_additions [] ts ∷ []))
     → OnOk r ((kept_in width new).content ≡ with_all (kept_in width runs).content ts)
-sums-by_result (Ok u) width runs new ts done =
-    ap (λ (us : List Term). record { width = width; terms = us })
-    (ap merged_terms done ∙ merged_terms-with_sums runs ts)
-sums-by_result (Err u) width runs new ts done = tt
+sums-by_result r width runs new ts done = grind (arith, nat_tests, merged_terms-with_sums)
 
 -- ---- additions that are to be summed
 
@@ -79,8 +59,7 @@ AreAdditions-with_appended : (t : TableContent) (ls : List Literal) (c : ℤ) �
     → AreAdditions (with_appended t ls c)
 AreAdditions-with_appended t ls c all set small = record {
   sets = All-push (OfSet (IsTermSet t.width)) t.terms (ls, c) all.sets set;
-  small =
-      omega (arith, terms_total-append t.terms ((ls, c) ∷ []), terms_total-cons (ls, c) []);
+  small = omega (arith, terms_total-append t.terms ((ls, c) ∷ []), terms_total-cons (ls, c) []);
 }
 
 -- whether memory was left or not

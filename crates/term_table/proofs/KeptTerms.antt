@@ -1,18 +1,7 @@
 -- What additions keep: the terms stay in order, none is 0, and what holds of the sets of the table
 -- and of the added sets holds of all sets.
-use Rattle.std.proofs.Common.{◌≡◌, ◌≢◌, ℕ, Bool, true, false, cond, ap, ◌∙◌, refl, List, [], ◌∷◌, ℤ, pos, ◌+ℤ◌}
-use Rattle.std.specs.Prelude.{All}
-use Rattle.std.specs.List.{AllByRecursion}
-use Rattle.std.specs.List.Sorted.{IsStrictlySortedBy}
-use Rattle.std.specs.Map.{keys_of}
-use Rattle.std.specs.Ordering.{int_eq, match_ordering, ordering_reverse}
-use Rattle.std.specs.declared.cmp.Ordering.{Ordering}
+use Rattle.term_table.proofs.Common.{nat_tests, ints, arith, ◌≡◌, ◌≢◌, ℕ, ap, ◌∙◌, refl, List, [], ◌∷◌, ℤ, pos, ◌+ℤ◌, All, AllByRecursion, IsStrictlySortedBy, keys_of, match_ordering, ordering_reverse, Ordering, All-nil, All-cons, All-head, All-tail, Literal, Term, set_cmp, in_front, with_addition, with_additions, Ascends, AreTerms, IsTermSet}
 use Rattle.std.specs.declared.cmp.Ordering.TheVariants.{Less, Equal, Greater}
-use Rattle.std.specs.Bool.{Decides}
-use Rattle.std.proofs.lemmas.Bool.Decides.{Decides-int_eq}
-use Rattle.std.proofs.lemmas.List.Elements.{All-nil, All-cons, All-head, All-tail}
-use Rattle.literal_lists.specs.declared.literal.Literal.{Literal}
-use Rattle.term_table.specs.Terms.{Term, set_cmp, in_front, with_addition, with_additions, Ascends, AreTerms, IsTermSet}
 use Rattle.term_table.proofs.SetOrder.{set_total}
 
 -- ---- what holds of each set
@@ -23,11 +12,7 @@ OfSet P t = P t.0
 
 All-in_front : (P : List Literal → Type 0) (ls : List Literal) (c : ℤ) (ts : List Term) → P ls
     → All (OfSet P) ts → All (OfSet P) (in_front ls c ts)
-All-in_front P ls c ts here all = go (int_eq c (pos 0))
-  where
-    go : (zero : Bool) → All (OfSet P) (cond zero ts ((ls, c) ∷ ts))
-    go true = all
-    go false = All-cons (OfSet P) (ls, c) ts here all
+All-in_front P ls c ts here all = grind (arith, nat_tests, ints)
 
 pub All-with_addition : (P : List Literal → Type 0) (ts : List Term) (ls : List Literal) (c : ℤ)
     → All (OfSet P) ts → P ls → All (OfSet P) (with_addition ts ls c)
@@ -35,13 +20,11 @@ All-with_addition P [] ls c all here = All-in_front P ls c [] here all
 All-with_addition P (t ∷ ts) ls c all here =
     go (set_cmp ls t.0) (All-with_addition P ts ls c (All-tail (OfSet P) t ts all) here)
   where
-    go : (o : Ordering) → All (OfSet P) (with_addition ts ls c)
-        → All (OfSet P)
+    go : (o : Ordering) → All (OfSet P) (with_addition ts ls c) → All (OfSet P)
         (match_ordering o (in_front ls c (t ∷ ts)) (in_front t.0 (t.1 +ℤ c) ts) (t ∷ with_addition ts ls c))
     go Less rest = All-in_front P ls c (t ∷ ts) here all
     go Equal rest =
-        All-in_front P t.0 (t.1 +ℤ c) ts (All-head (OfSet P) t ts all)
-        (All-tail (OfSet P) t ts all)
+        All-in_front P t.0 (t.1 +ℤ c) ts (All-head (OfSet P) t ts all) (All-tail (OfSet P) t ts all)
     go Greater rest =
         All-cons (OfSet P) t (with_addition ts ls c) (All-head (OfSet P) t ts all) rest
 
@@ -65,11 +48,7 @@ IsNonzero t = t.1 ≢ pos 0
 
 pub nonzero-in_front : (ls : List Literal) (c : ℤ) (ts : List Term) → All IsNonzero ts
     → All IsNonzero (in_front ls c ts)
-nonzero-in_front ls c ts all = go (int_eq c (pos 0)) (Decides-int_eq c (pos 0))
-  where
-    go : (zero : Bool) → Decides zero (c ≡ pos 0) → All IsNonzero (cond zero ts ((ls, c) ∷ ts))
-    go true d = all
-    go false d = All-cons IsNonzero (ls, c) ts (λ e. let yes = d.1 e in cc) all
+nonzero-in_front ls c ts all = grind (arith, nat_tests, ints)
 
 nonzero-with_addition : (ts : List Term) (ls : List Literal) (c : ℤ) → All IsNonzero ts
     → All IsNonzero (with_addition ts ls c)
@@ -77,8 +56,7 @@ nonzero-with_addition [] ls c all = nonzero-in_front ls c [] all
 nonzero-with_addition (t ∷ ts) ls c all =
     go (set_cmp ls t.0) (nonzero-with_addition ts ls c (All-tail IsNonzero t ts all))
   where
-    go : (o : Ordering) → All IsNonzero (with_addition ts ls c)
-        → All IsNonzero
+    go : (o : Ordering) → All IsNonzero (with_addition ts ls c) → All IsNonzero
         (match_ordering o (in_front ls c (t ∷ ts)) (in_front t.0 (t.1 +ℤ c) ts) (t ∷ with_addition ts ls c))
     go Less rest = nonzero-in_front ls c (t ∷ ts) all
     go Equal rest = nonzero-in_front t.0 (t.1 +ℤ c) ts (All-tail IsNonzero t ts all)
@@ -92,24 +70,13 @@ Under ks ts = AllByRecursion (λ ls. set_cmp ks ls ≡ Less) (keys_of ts)
 
 pub Under-in_front : (ks ls : List Literal) (c : ℤ) (ts : List Term) → set_cmp ks ls ≡ Less → Under ks ts
     → Under ks (in_front ls c ts)
-Under-in_front ks ls c ts less under = go (int_eq c (pos 0))
-  where
-    go : (zero : Bool) → Under ks (cond zero ts ((ls, c) ∷ ts))
-    go true = under
-    go false = (less, under)
+Under-in_front ks ls c ts less under = grind (arith, nat_tests, ints)
 
 pub Under-with_addition : (ks : List Literal) (ts : List Term) (ls : List Literal) (c : ℤ)
     → set_cmp ks ls ≡ Less → Under ks ts → Under ks (with_addition ts ls c)
 Under-with_addition ks [] ls c less under = Under-in_front ks ls c [] less under
 Under-with_addition ks (t ∷ ts) ls c less under =
-    go (set_cmp ls t.0) (Under-with_addition ks ts ls c less under.1)
-  where
-    go : (o : Ordering) → Under ks (with_addition ts ls c)
-        → Under ks
-        (match_ordering o (in_front ls c (t ∷ ts)) (in_front t.0 (t.1 +ℤ c) ts) (t ∷ with_addition ts ls c))
-    go Less rest = Under-in_front ks ls c (t ∷ ts) less under
-    go Equal rest = Under-in_front ks t.0 (t.1 +ℤ c) ts under.0 under.1
-    go Greater rest = (under.0, rest)
+    grind (arith, nat_tests, ints, Under-with_addition ks ts ls c less under.1)
 
 pub Under-further : (ks ls : List Literal) (ts : List Term) → set_cmp ks ls ≡ Less → Under ls ts
     → Under ks ts
@@ -123,11 +90,7 @@ greater_back ls ks e = set_total.antisymm ks ls ∙ ap ordering_reverse e
 pub Ascends-in_front : (ls : List Literal) (c : ℤ) (ts : List Term) → Under ls ts → Ascends ts
     → Ascends (in_front ls c ts)
 unfolding IsStrictlySortedBy
-Ascends-in_front ls c ts under ascends = go (int_eq c (pos 0))
-  where
-    go : (zero : Bool) → Ascends (cond zero ts ((ls, c) ∷ ts))
-    go true = ascends
-    go false = (under, ascends)
+Ascends-in_front ls c ts under ascends = grind (arith, nat_tests, ints)
 
 Ascends-with_addition : (ts : List Term) (ls : List Literal) (c : ℤ) → Ascends ts → Ascends (with_addition ts ls c)
 unfolding IsStrictlySortedBy
@@ -135,11 +98,9 @@ Ascends-with_addition [] ls c ascends = Ascends-in_front ls c [] ascends ascends
 Ascends-with_addition (t ∷ ts) ls c ascends =
     go (set_cmp ls t.0) refl (Ascends-with_addition ts ls c ascends.1)
   where
-    go : (o : Ordering) → set_cmp ls t.0 ≡ o → Ascends (with_addition ts ls c)
-        → Ascends
+    go : (o : Ordering) → set_cmp ls t.0 ≡ o → Ascends (with_addition ts ls c) → Ascends
         (match_ordering o (in_front ls c (t ∷ ts)) (in_front t.0 (t.1 +ℤ c) ts) (t ∷ with_addition ts ls c))
-    go Less e rest =
-        Ascends-in_front ls c (t ∷ ts) (e, Under-further ls t.0 ts e ascends.0) ascends
+    go Less e rest = Ascends-in_front ls c (t ∷ ts) (e, Under-further ls t.0 ts e ascends.0) ascends
     go Equal e rest = Ascends-in_front t.0 (t.1 +ℤ c) ts ascends.0 ascends.1
     go Greater e rest = (Under-with_addition t.0 ts ls c (greater_back ls t.0 e) ascends.0, rest)
 

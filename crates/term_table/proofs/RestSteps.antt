@@ -1,20 +1,6 @@
 -- Steps of loops over runs and their places.
-use Rattle.std.proofs.Common.{◌≡◌, ℕ, zero, suc, ◌+◌, ◌<◌, ◌≤◌, ◌^◌, Bool, true, false, arith, length, get_or, take, drop, set, map, List, [], ◌∷◌, ◌++◌, ◌⊎◌, inl, inr, sym, ap, ◌∙◌, subst, refl, ◌+ℤ◌, unsigned_abs, Option, None, Some}
-use Rattle.std.specs.Prelude.{⊤, replicate, fold, if◌then◌else◌}
-use Rattle.std.specs.List.{AllByRecursion}
-use Rattle.std.specs.List.Sorted.{IsStrictlySortedBy}
-use Rattle.std.specs.Ordering.{is_eq, is_lt}
-use Rattle.std.specs.declared.cmp.Ordering.{Ordering}
+use Rattle.term_table.proofs.Common.{nat_tests, elements, ◌≡◌, ℕ, zero, suc, ◌+◌, ◌<◌, ◌≤◌, ◌^◌, true, false, arith, length, get_or, take, drop, set, map, List, [], ◌∷◌, ◌++◌, ◌⊎◌, inl, inr, sym, ap, ◌∙◌, subst, refl, ◌+ℤ◌, unsigned_abs, Option, None, Some, ⊤, replicate, fold, AllByRecursion, IsStrictlySortedBy, is_eq, is_lt, Ordering, ints, take_more, fold-append, total_by_more, Literal, Term, set_cmp, coefficient_of, Ascends, Run, entries, sum_over, AreOrdered, rests_of, head_of, lesser_of, least_in, first_weight, without, NotBelow, Begins, IsLeast, AreRests}
 use Rattle.std.specs.declared.cmp.Ordering.TheVariants.{Less, Equal, Greater}
-use Rattle.std.proofs.lemmas.Int.{ints}
-use Rattle.std.proofs.lemmas.List.{take_more}
-use Rattle.std.proofs.lemmas.List.Sums.{fold-append}
-use Rattle.base.proofs.Totals.{total_by_more}
-use Rattle.literal_lists.specs.declared.literal.Literal.{Literal}
-use Rattle.term_table.specs.Terms.{Term, set_cmp, coefficient_of, Ascends}
-use Rattle.term_table.specs.Runs.{Run, entries, sum_over}
-use Rattle.term_table.specs.Newest.{AreOrdered}
-use Rattle.term_table.specs.Rests.{rests_of, head_of, lesser_of, least_in, first_weight, without, NotBelow, Begins, IsLeast, AreRests}
 use Rattle.term_table.proofs.SetOrder.{set_total, set_itself, same_set}
 use Rattle.term_table.proofs.KeptTerms.{Under, Under-further, greater_back}
 use Rattle.term_table.proofs.UniqueTerms.{coefficient_of-under}
@@ -58,10 +44,7 @@ self_up ls = ap is_lt (set_itself ls)
 
 pub least_more : (rs : List Run) (k : ℕ) → k < length rs
     → least_in (take (k + 1) rs) ≡ lesser_of (least_in (take k rs)) (head_of (get_or rs k []))
-least_more rs k in' =
-    ap least_in (take_more rs k [] in')
-    ∙ fold-append (λ (o : Option Term) (run : Run). lesser_of o (head_of run)) None (take k rs)
-    (get_or rs k [] ∷ [])
+least_more rs k in' = grind (arith, nat_tests, take_more rs k, fold-append)
 
 not_less : (ls ks ms : List Literal) → is_lt (set_cmp ls ks) ≡ false → is_lt (set_cmp ks ms) ≡ false
     → is_lt (set_cmp ls ms) ≡ false
@@ -82,12 +65,7 @@ not_less ls ks ms first second = go (set_cmp ls ms) refl (set_cmp ks ms) refl
         absurd (clash (ap is_lt (set_total.trans ls ms ks e (greater_back ks ms f))))
 
 less_turned : (ls ks : List Literal) → is_lt (set_cmp ls ks) ≡ true → is_lt (set_cmp ks ls) ≡ false
-less_turned ls ks less = go (set_cmp ls ks) refl
-  where
-    go : (o : Ordering) → set_cmp ls ks ≡ o → is_lt (set_cmp ks ls) ≡ false
-    go Less e = ap is_lt (less_back ls ks e)
-    go Equal e = let both : true ≡ false = sym less ∙ ap is_lt e in absurd cc
-    go Greater e = let both : true ≡ false = sym less ∙ ap is_lt e in absurd cc
+less_turned ls ks less = grind (arith, nat_tests, less_back)
 
 -- the least of a term and the first ones
 abbrev least_from : Option Term → List Run → Option Term
@@ -131,35 +109,10 @@ found (Some s) ([] ∷ rs) t e =
       place = elim rest.place [ inl p ↦ inl (later t [] rs p) | inr f ↦ inr f ];
     }
 found (Some s) ((u ∷ us) ∷ rs) t e =
-    go (is_lt (set_cmp u.0 s.0)) refl (found (Some u) rs t) (found (Some s) rs t) e
-  where
-    go : (less : Bool) → is_lt (set_cmp u.0 s.0) ≡ less
-        → (least_from (Some u) rs ≡ Some t → Found (Some u) rs t)
-        → (least_from (Some s) rs ≡ Some t → Found (Some s) rs t)
-        → least_from (if less then Some u else Some s) rs ≡ Some t
-        → Found (Some s) ((u ∷ us) ∷ rs) t
-    go true h newer older f =
-        let rest = newer f in
-        record {
-          below = (rest.start, rest.below);
-          start = not_less s.0 u.0 t.0 (less_turned u.0 s.0 h) rest.start;
-          place = elim rest.place [ inl p ↦ inl (later t (u ∷ us) rs p) | inr g ↦ inl (0, ap (λ (v : Term). v.0) (same_some u t g)) ];
-        }
-    go false h newer older f =
-        let rest = older f in
-        record {
-          below = (not_less u.0 s.0 t.0 h rest.start, rest.below);
-          start = rest.start;
-          place = elim rest.place [ inl p ↦ inl (later t (u ∷ us) rs p) | inr g ↦ inr g ];
-        }
+    grind (arith, nat_tests, found (Some u) rs t, found (Some s) rs t, not_less, less_turned, later, same_some)
 
 pub least_is : (rs : List Run) (t : Term) → least_in rs ≡ Some t → IsLeast t.0 rs
-least_is rs t e =
-    let f = found None rs t e in
-    elim f.place [
-      | inl p ↦ record { below = f.below; place = p.0; begins = p.1 }
-      | inr g ↦ absurd cc
-    ]
+least_is rs t e = grind (arith, nat_tests, found None rs t e)
 
 none_from : (o : Option Term) (rs : List Run) → least_from o rs ≡ None → (o ≡ None) × (entries rs ≡ [])
 none_from o [] e = (e, refl)
@@ -167,15 +120,7 @@ none_from None ([] ∷ rs) e = none_from None rs e
 none_from None ((u ∷ us) ∷ rs) e = let f = none_from (Some u) rs e in absurd (let g = f.0 in cc)
 none_from (Some s) ([] ∷ rs) e = let f = none_from (Some s) rs e in absurd (let g = f.0 in cc)
 none_from (Some s) ((u ∷ us) ∷ rs) e =
-    go (is_lt (set_cmp u.0 s.0)) (none_from (Some u) rs) (none_from (Some s) rs) e
-  where
-    go : (less : Bool)
-        → (least_from (Some u) rs ≡ None → (Some u ≡ None) × (entries rs ≡ []))
-        → (least_from (Some s) rs ≡ None → (Some s ≡ None) × (entries rs ≡ []))
-        → least_from (if less then Some u else Some s) rs ≡ None
-        → (Some s ≡ None) × (entries ((u ∷ us) ∷ rs) ≡ [])
-    go true newer older h = absurd (let g = (newer h).0 in cc)
-    go false newer older h = absurd (let g = (older h).0 in cc)
+    grind (arith, nat_tests, none_from (Some u) rs, none_from (Some s) rs)
 
 pub least_none : (rs : List Run) → least_in rs ≡ None → entries rs ≡ []
 least_none rs e = (none_from None rs e).1
@@ -187,13 +132,8 @@ pub past_first : (r : Run) (p : ℕ) (t : Term) (ls : List Literal) → head_of 
     → is_eq (set_cmp ls t.0) ≡ true → drop (p + 1) r ≡ without ls (drop p r)
 past_first [] zero t ls e same = absurd cc
 past_first [] (suc p) t ls e same = absurd cc
-past_first (u ∷ us) zero t ls e same =
-    let first : u ≡ t = same_some u t e in
-    let alike : is_eq (set_cmp ls u.0) ≡ true = ap (λ (v : Term). is_eq (set_cmp ls v.0)) first ∙ same in
-    sym (ap (λ (b : Bool). if b then us else u ∷ us) alike)
-past_first (u ∷ us) (suc p) t ls e same =
-    let place : suc p + 1 ≡ suc (p + 1) = omega arith in
-    ap (λ (k : ℕ). drop k (u ∷ us)) place ∙ past_first us p t ls e same
+past_first (u ∷ us) zero t ls e same = grind (arith, nat_tests)
+past_first (u ∷ us) (suc p) t ls e same = grind (arith, nat_tests, past_first us p t ls e same)
 
 -- a term at a place lies before the end
 pub place_below : (r : Run) (p : ℕ) (t : Term) → head_of (drop p r) ≡ Some t → p < length r
@@ -236,9 +176,7 @@ module _ (ls : List Literal) (places : List ℕ) (runs rests : List Run) (k : �
   pub step_rest : rests_of places runs ≡ map (without ls) (take k rests) ++ drop k rests
       → drop (get_or places k d) (get_or runs k e) ≡ get_or rests k []
   step_rest taken =
-      sym (rest_at places runs k d e in' there)
-      ∙ ap (λ (rs : List Run). get_or rs k []) taken
-      ∙ taken_at ls rests k
+      grind (arith, nat_tests, rest_at places runs k d e in' there, taken_at ls rests k)
 
   -- what it leaves
   pub step_taken : (next : ℕ) → length runs ≡ length rests
@@ -248,10 +186,7 @@ module _ (ls : List Literal) (places : List ℕ) (runs rests : List Run) (k : �
       ≡ map (without ls) (take (k + 1) rests) ++ drop (k + 1) rests
   step_taken next size taken left =
       let place : k + 1 ≡ suc k = omega arith in
-      rw place
-      (rest_set places runs k next e in' there
-      ∙ (λ i. set (taken i) k (left i))
-      ∙ taken_suc ls rests k (omega (arith, size)))
+      grind (arith, nat_tests, elements, rest_set, taken_suc)
 
 below_at : (ls : List Literal) (rs : List Run) (k : ℕ) → AllByRecursion (NotBelow ls) rs
     → NotBelow ls (get_or rs k [])
@@ -270,8 +205,7 @@ pub step_sum : (ls : List Literal) (rests : List Run) (k : ℕ) → k < length r
     → IsLeast ls rests
     → sum_over ls (take (k + 1) rests) ≡ sum_over ls (take k rests) +ℤ first_weight ls (get_or rests k [])
 step_sum ls rests k in' kept least =
-    total_by_more (coefficient_of ls) rests k [] in'
-    ∙ ap (λ c. sum_over ls (take k rests) +ℤ c)
+    total_by_more (coefficient_of ls) rests k [] in' ∙ ap (λ c. sum_over ls (take k rests) +ℤ c)
     (sym (weight_is ls (get_or rests k []) (ordered_at rests k kept.ordered) (below_at ls rests k least.below)))
 
 pub step_small : (ls : List Literal) (rests : List Run) (k : ℕ) → k < length rests → AreRests rests

@@ -1,11 +1,5 @@
 -- Where terms are kept as they come, there is room for those with which they are additions.
-use Rattle.std.proofs.Common.{◌≡◌, ℕ, ◌+◌, ◌≤◌, ◌^◌, unsigned_abs, ℤ, List, [], ◌∷◌, ◌++◌, subst, sym, append_assoc, arith}
-use Rattle.std.specs.List.{AllByRecursion}
-use Rattle.std.proofs.lemmas.List.Elements.{recursion_from_All}
-use Rattle.literal_lists.specs.declared.literal.Literal.{Literal}
-use Rattle.term_table.specs.Rooms.{HasRoomFor}
-use Rattle.term_table.specs.Terms.{Term, terms_total, IsTermSet}
-use Rattle.term_table.specs.Tables.{TableContent, AreAdditions, with_appended, with_more}
+use Rattle.term_table.proofs.Common.{nat_tests, ◌≡◌, ℕ, ◌+◌, ◌≤◌, ◌^◌, unsigned_abs, ℤ, List, [], ◌∷◌, ◌++◌, subst, sym, append_assoc, arith, AllByRecursion, recursion_from_All, Literal, HasRoomFor, Term, terms_total, IsTermSet, TableContent, AreAdditions, with_appended, with_more}
 use Rattle.term_table.proofs.Additions.{terms_total-append, terms_total-cons}
 use Rattle.term_table.proofs.Filling.{room_own}
 use Rattle.term_table.proofs.KeptTerms.{OfSet}
@@ -26,20 +20,11 @@ module _ (t : TableContent) (ls : List Literal) (c : ℤ) (more : List Term)
 
   -- it is small
   pub next_small : terms_total t.terms + unsigned_abs c ≤ 2 ^ 124
-  next_small =
-      omega (
-        arith,
-        fits.small,
-        terms_total-append t.terms ((ls, c) ∷ more),
-        terms_total-cons (ls, c) more,
-      )
+  next_small = omega (arith, terms_total-append, terms_total-cons)
 
   -- and after it there is room for the others
   pub next_room : (new : TableContent) → new ≡ with_appended t ls c → AreAdditions (with_more new more)
-  next_room new made =
-      subst (λ (s : TableContent). AreAdditions (with_more s more)) (sym made)
-      (subst (λ (ts : List Term). AreAdditions (record t { terms = ts }))
-      (sym (append_assoc t.terms ((ls, c) ∷ []) more)) fits)
+  next_room new made = grind (arith, nat_tests, append_assoc)
 
 -- there is room for all additions of a table that has none yet
 pub room-additions : (width : ℕ) (ts : List Term) (t : TableContent)

@@ -1,24 +1,6 @@
 -- Runs that are listed the newest first: what their sums are, and what settling keeps of them.
-use Rattle.std.proofs.Common.{◌≡◌, ℕ, zero, suc, ◌+◌, ◌*◌, ◌<◌, ◌≤◌, ◌^◌, Bool, true, false, cond, arith, sym, ap, subst, ◌∙◌, refl, List, [], ◌∷◌, ◌++◌, length, get_or, take, reverse, ℤ, pos, ◌+ℤ◌, unsigned_abs, All, inl, inr}
-use Rattle.std.specs.Prelude.{if◌then◌else◌}
-use Rattle.std.specs.List.{AllByRecursion}
-use Rattle.std.specs.Bool.{Decides}
-use Rattle.std.specs.Ordering.{int_eq, is_eq}
-use Rattle.std.proofs.lemmas.Int.{ints}
-use Rattle.std.proofs.lemmas.Bool.{cases_lt}
-use Rattle.std.proofs.lemmas.Bool.Decides.{Decides-int_eq, Decides-ltb, not_from_Decides}
-use Rattle.std.proofs.lemmas.List.{take_more, reverse-append, length-reverse, take-append-le, take_all, get_or_append_left, get_or_push, length_push, append-nil}
-use Rattle.std.proofs.Math.Nat.{pow-succ'}
-use Rattle.std.proofs.lemmas.Nat.{mul-le}
-use Rattle.std.proofs.lemmas.List.Elements.{All-nil, All-cons, All-push, All-append, All-get_or, All-head, recursion_from_All}
-use Rattle.base.specs.Sums.{if_so}
-use Rattle.base.proofs.Totals.{total_by-append, total_by-flat_map, size-plus}
-use Rattle.literal_lists.specs.declared.literal.Literal.{Literal}
-use Rattle.term_table.specs.Terms.{Term, set_cmp, terms_total, coefficient_of, with_addition, with_additions, AreTerms, IsTermSet}
-use Rattle.term_table.specs.Runs.{Run, entries, merged_terms, sum_over, merged, is_empty, is_long, settled_with, settled_back, settled, with_entry, one_run, AreRuns}
-use Rattle.term_table.specs.Rests.{AreRests}
-use Rattle.term_table.specs.Newest.{SmallSums, Halve, Each, AreOrdered}
-use Rattle.term_table.proofs.Additions.{weight-with_addition, weight-with_additions, coefficient_of-with_additions, terms_total-cons}
+use Rattle.term_table.proofs.Common.{add-one, nat_tests, ◌≡◌, ℕ, zero, suc, ◌+◌, ◌*◌, ◌<◌, ◌≤◌, ◌^◌, Bool, true, false, cond, arith, sym, ap, subst, ◌∙◌, refl, List, [], ◌∷◌, ◌++◌, length, get_or, take, reverse, ℤ, pos, ◌+ℤ◌, unsigned_abs, All, inl, inr, if◌then◌else◌, AllByRecursion, Decides, int_eq, is_eq, ints, cases_lt, Decides-ltb, not_from_Decides, take_more, reverse-append, length-reverse, take-append-le, take_all, get_or_append_left, get_or_push, length_push, append-nil, All-nil, All-cons, All-push, All-append, All-get_or, All-head, recursion_from_All, if_so, total_by-append, total_by-flat_map, size-plus, Literal, Term, set_cmp, terms_total, coefficient_of, with_addition, with_additions, AreTerms, IsTermSet, Run, entries, merged_terms, sum_over, merged, is_empty, is_long, settled_with, settled_back, settled, with_entry, one_run, AreRuns, AreRests, SmallSums, Halve, Each, AreOrdered}
+use Rattle.term_table.proofs.Additions.{weight-with_additions, coefficient_of-with_additions, terms_total-cons}
 use Rattle.term_table.proofs.KeptTerms.{OfSet, AreTerms-nil, AreTerms-with_addition, AreTerms-more, AreTerms-with_additions, Ascends-with_additions, Ascends-more, nonzero-with_additions, nonzero-more}
 use Rattle.term_table.proofs.UniqueTerms.{same_terms}
 use Rattle.term_table.proofs.MergingRuns.{merged-none}
@@ -39,20 +21,13 @@ pub sum_over-reverse : (ls : List Literal) (rs : List Run)
     → sum_over ls (reverse rs) ≡ sum_over ls rs
 sum_over-reverse ls [] = refl
 sum_over-reverse ls (r ∷ rs) =
-    omega (
-      arith,
-      ints,
-      ap (sum_over ls) (reverse_more r rs),
-      sum_over-append ls (reverse rs) (r ∷ []),
-      sum_over-reverse ls rs,
-    )
+    grind (arith, nat_tests, sum_over-reverse ls rs, reverse_more, sum_over-append)
 
 -- the merged view gives each set its sum
 pub coefficient_of-merged : (ls : List Literal) (rs : List Run)
     → coefficient_of ls (merged_terms rs) ≡ sum_over ls rs
 coefficient_of-merged ls rs =
-    coefficient_of-with_additions ls (entries rs)
-    ∙ total_by-flat_map (λ (t : Term). if_so (is_eq (set_cmp ls t.0)) t.1) (λ (r : Run). r) rs
+    grind (arith, nat_tests, coefficient_of-with_additions, total_by-flat_map)
 
 pub sum_over-merged : (ls : List Literal) (last before : Run) (older : List Run)
     → sum_over ls (merged before last ∷ older) ≡ sum_over ls (last ∷ before ∷ older)
@@ -67,12 +42,7 @@ none_of_empty ls (t ∷ ts) e = absurd cc
 
 pub sum_over-settled_with : (ls : List Literal) (last : Run) (older : List Run)
     → sum_over ls (settled_with last older) ≡ sum_over ls (last ∷ older)
-sum_over-settled_with ls last [] = go (is_empty last) refl
-  where
-    go : (empty : Bool) → is_empty last ≡ empty
-        → sum_over ls (if empty then [] else last ∷ []) ≡ sum_over ls (last ∷ [])
-    go true e = omega (arith, ints, none_of_empty ls last e)
-    go false e = refl
+sum_over-settled_with ls last [] = grind (arith, nat_tests)
 sum_over-settled_with ls last (before ∷ older) =
     go (is_empty last) (is_long before last) refl (sum_over-settled_with ls before older)
     (sum_over-settled_with ls (merged before last) older)
@@ -80,9 +50,7 @@ sum_over-settled_with ls last (before ∷ older) =
     go : (empty long : Bool) → is_empty last ≡ empty
         → sum_over ls (settled_with before older) ≡ sum_over ls (before ∷ older)
         → sum_over ls (settled_with (merged before last) older)
-        ≡ sum_over ls (merged before last ∷ older)
-        → sum_over ls
-        (if empty
+        ≡ sum_over ls (merged before last ∷ older) → sum_over ls (if empty
         then settled_with before older
         else if long then settled_with (merged before last) older else last ∷ before ∷ older)
         ≡ sum_over ls (last ∷ before ∷ older)
@@ -97,10 +65,7 @@ settled_back_sum ls (r ∷ rs) = sum_over-settled_with ls r rs
 
 pub sum_over-settled : (ls : List Literal) (runs : List Run)
     → sum_over ls (settled runs) ≡ sum_over ls runs
-sum_over-settled ls runs =
-    sum_over-reverse ls (settled_back (reverse runs))
-    ∙ settled_back_sum ls (reverse runs)
-    ∙ sum_over-reverse ls runs
+sum_over-settled ls runs = grind (arith, nat_tests, sum_over-reverse, settled_back_sum)
 
 pub settled_is : (runs : List Run) (entry : Run)
     → settled (runs ++ entry ∷ []) ≡ reverse (settled_with entry (reverse runs))
@@ -117,22 +82,16 @@ some_of [] e = absurd cc
 some_of (t ∷ ts) e = omega arith
 
 Halve-settled_with : (last : Run) (older : List Run) → Halve older → Halve (settled_with last older)
-Halve-settled_with last [] h = go (is_empty last) refl
-  where
-    go : (empty : Bool) → is_empty last ≡ empty → Halve (if empty then [] else last ∷ [])
-    go true e = tt
-    go false e = some_of last e
+Halve-settled_with last [] h = grind (arith, nat_tests)
 Halve-settled_with last (before ∷ older) h =
-    go (is_empty last) (is_long before last) refl
-    (Decides-ltb (length before) (2 * length last))
+    go (is_empty last) (is_long before last) refl (Decides-ltb (length before) (2 * length last))
     (Halve-settled_with before older (Halve-tail before older h))
     (Halve-settled_with (merged before last) older (Halve-tail before older h))
   where
     go : (empty long : Bool) → is_empty last ≡ empty
         → Decides long (length before < 2 * length last)
         → Halve (settled_with before older) → Halve (settled_with (merged before last) older)
-        → Halve
-        (if empty
+        → Halve (if empty
         then settled_with before older
         else if long then settled_with (merged before last) older else last ∷ before ∷ older)
     go true long e d dropped joined = dropped
@@ -142,11 +101,7 @@ Halve-settled_with last (before ∷ older) h =
 
 SmallSums-settled_with : (last : Run) (older : List Run) → SmallSums (last ∷ older)
     → SmallSums (settled_with last older)
-SmallSums-settled_with last [] small = go (is_empty last)
-  where
-    go : (empty : Bool) → SmallSums (if empty then [] else last ∷ [])
-    go true = tt
-    go false = small
+SmallSums-settled_with last [] small = grind (arith, nat_tests)
 SmallSums-settled_with last (before ∷ older) small =
     go (is_empty last) (is_long before last) (SmallSums-settled_with before older small.1)
     (SmallSums-settled_with (merged before last) older (smaller, small.1.1))
@@ -155,9 +110,7 @@ SmallSums-settled_with last (before ∷ older) small =
     smaller ls = rw (sum_over-merged ls last before older) (small.0 ls)
 
     go : (empty long : Bool) → SmallSums (settled_with before older)
-        → SmallSums (settled_with (merged before last) older)
-        → SmallSums
-        (if empty
+        → SmallSums (settled_with (merged before last) older) → SmallSums (if empty
         then settled_with before older
         else if long then settled_with (merged before last) older else last ∷ before ∷ older)
     go true long dropped joined = dropped
@@ -166,19 +119,13 @@ SmallSums-settled_with last (before ∷ older) small =
 
 Each-settled_with : (width : ℕ) (last : Run) (older : List Run) → AreTerms width last
     → Each width older → Each width (settled_with last older)
-Each-settled_with width last [] here each = go (is_empty last)
-  where
-    go : (empty : Bool) → Each width (if empty then [] else last ∷ [])
-    go true = tt
-    go false = (here, tt)
+Each-settled_with width last [] here each = grind (arith, nat_tests)
 Each-settled_with width last (before ∷ older) here each =
     go (is_empty last) (is_long before last) (Each-settled_with width before older each.0 each.1)
     (Each-settled_with width (merged before last) older (AreTerms-more width before last each.0 here.sets) each.1)
   where
     go : (empty long : Bool) → Each width (settled_with before older)
-        → Each width (settled_with (merged before last) older)
-        → Each width
-        (if empty
+        → Each width (settled_with (merged before last) older) → Each width (if empty
         then settled_with before older
         else if long then settled_with (merged before last) older else last ∷ before ∷ older)
     go true long dropped joined = dropped
@@ -198,9 +145,7 @@ turned : (runs : List Run) (P : List Run → Type 0) → P []
     → (n : ℕ) → n ≤ length runs → P (reverse (take n runs))
 turned runs P none more zero up = none
 turned runs P none more (suc n) up =
-    let place : n + 1 ≡ suc n = omega arith in
-    let Q : ℕ → Type 0 = λ k. P (reverse (take k runs)) in
-    subst Q place (more n (omega arith) (turned runs P none more n (omega arith)))
+    grind (arith, nat_tests, turned runs P none more n (omega arith))
 
 turned_all : (runs : List Run) (P : List Run → Type 0) → P []
     → ((n : ℕ) → n < length runs → P (reverse (take n runs)) → P (reverse (take (n + 1) runs)))
@@ -210,21 +155,12 @@ turned_all runs P none more =
     (turned runs P none more (length runs) (omega arith))
 
 pub SmallSums-turned : (width : ℕ) (runs : List Run) → AreRuns width runs → SmallSums (reverse runs)
-SmallSums-turned width runs kept = turned_all runs SmallSums tt more
-  where
-    small : (ls : List Literal) (n : ℕ)
-        → reverse (take (n + 1) runs) ≡ get_or runs n [] ∷ reverse (take n runs)
-        → unsigned_abs (sum_over ls (get_or runs n [] ∷ reverse (take n runs))) ≤ 2 ^ 124
-    small ls n list =
-        subst (λ (c : ℤ). unsigned_abs c ≤ 2 ^ 124)
-        (sym (sum_over-reverse ls (take (n + 1) runs)) ∙ ap (sum_over ls) list)
-        (kept.small ls (n + 1))
-
-    more : (n : ℕ) → n < length runs → SmallSums (reverse (take n runs))
-        → SmallSums (reverse (take (n + 1) runs))
-    more n in' before =
-        let list = reverse_taken runs n in' in
-        subst SmallSums (sym list) (λ ls. small ls n list, before)
+SmallSums-turned width runs kept =
+    turned_all runs SmallSums tt (λ n in' before.
+    let list = reverse_taken runs n in' in
+    let small : (ls : List Literal) → unsigned_abs (sum_over ls (get_or runs n [] ∷ reverse (take n runs))) ≤ 2 ^ 124 =
+    λ ls. omega (arith, ints, kept.small ls (n + 1), sum_over-reverse ls (take (n + 1) runs), ap (sum_over ls) list) in
+    rw list (small, before))
 
 pub Each-turned : (width : ℕ) (runs : List Run) → AreRuns width runs → Each width (reverse runs)
 Each-turned width runs kept =
@@ -242,16 +178,9 @@ Halve-turned width runs kept = turned_all runs Halve tt more
         → Halve (reverse (take (n + 1) runs))
     more zero in' before = subst Halve (sym (reverse_taken runs zero in')) (some zero in')
     more (suc n) in' before =
-        let place : n + 1 ≡ suc n = omega arith in
-        let taken = reverse_taken runs n (omega arith) in
-        let here : reverse (take (suc n) runs) ≡ get_or runs n [] ∷ reverse (take n runs) =
-        subst (λ (k : ℕ). reverse (take k runs) ≡ get_or runs n [] ∷ reverse (take n runs)) place taken in
-        let half : 2 * length (get_or runs (suc n) []) ≤ length (get_or runs n []) =
-        subst (λ (k : ℕ). 2 * length (get_or runs k []) ≤ length (get_or runs n [])) place
-        (kept.halve n (omega arith)) in
-        subst Halve (sym (reverse_taken runs (suc n) in'))
-        (subst (λ (rs : List Run). Halve (get_or runs (suc n) [] ∷ rs)) (sym here)
-        (some (suc n) in', half, subst Halve here before))
+        let here = rw add-one at (reverse_taken runs n (omega arith)) in
+        let half = rw add-one at (kept.halve n (omega arith)) in
+        rw (reverse_taken runs (suc n) in', here) (some (suc n) in', half, rw here at before)
 
 -- and back
 
@@ -290,18 +219,7 @@ halve_push : (xs : List Run) (x : Run)
     → (k : ℕ) → k + 1 < length (xs ++ x ∷ [])
     → 2 * length (get_or (xs ++ x ∷ []) (k + 1) []) ≤ length (get_or (xs ++ x ∷ []) k [])
 halve_push xs x before last k in' =
-    let size : length (xs ++ x ∷ []) ≡ length xs + 1 = length_push xs x in
-    let here : get_or (xs ++ x ∷ []) k [] ≡ get_or xs k [] =
-    get_or_append_left xs (x ∷ []) [] k (omega (arith, size, in')) in
-    elim (cases_lt (k + 1) (length xs)) [
-      | inl inside ↦
-          let next : get_or (xs ++ x ∷ []) (k + 1) [] ≡ get_or xs (k + 1) [] = get_or_append_left xs (x ∷ []) [] (k + 1) inside in
-          omega (arith, ap length here, ap length next, before k inside)
-      | inr past ↦
-          let end : length xs ≡ k + 1 = omega (arith, size, in') in
-          let next : get_or (xs ++ x ∷ []) (k + 1) [] ≡ x = get_or_push xs x [] (k + 1) end in
-          omega (arith, ap length here, ap length next, last k (sym end))
-    ]
+    grind (arith, nat_tests, length_push, get_or_append_left, cases_lt, get_or_push)
 
 back_halve : (rs : List Run) → Halve rs → (k : ℕ) → k + 1 < length (reverse rs)
     → 2 * length (get_or (reverse rs) (k + 1) []) ≤ length (get_or (reverse rs) k [])
@@ -311,8 +229,7 @@ back_halve (r ∷ s ∷ rs) h k in' =
     let P : List Run → Type 0 = λ xs. (k : ℕ) → k + 1 < length xs → 2 * length (get_or xs (k + 1) []) ≤ length (get_or xs k []) in
     let all : P (reverse (r ∷ s ∷ rs)) =
     subst P (sym (reverse_more r (s ∷ rs)))
-    (halve_push (reverse (s ∷ rs)) r (back_halve (s ∷ rs) h.2)
-    (λ n end.
+    (halve_push (reverse (s ∷ rs)) r (back_halve (s ∷ rs) h.2) (λ n end.
     let first : get_or (reverse (s ∷ rs)) n [] ≡ s =
     ap (λ (xs : List Run). get_or xs n []) (reverse_more s rs)
     ∙ get_or_push (reverse rs) s [] n (omega (arith, length-reverse (s ∷ rs), length-reverse rs, end)) in
@@ -335,26 +252,11 @@ coefficient_small : (ls : List Literal) (ts : List Term)
     → unsigned_abs (coefficient_of ls ts) ≤ terms_total ts
 coefficient_small ls [] = omega arith
 coefficient_small ls (t ∷ ts) =
-    omega (
-      arith,
-      size-plus (if_so (is_eq (set_cmp ls t.0)) t.1) (coefficient_of ls ts),
-      part (is_eq (set_cmp ls t.0)) t.1,
-      coefficient_small ls ts,
-      terms_total-cons t ts,
-    )
-  where
-    part : (b : Bool) (c : ℤ) → unsigned_abs (if_so b c) ≤ unsigned_abs c
-    part true c = omega arith
-    part false c = omega arith
+    grind (arith, nat_tests, coefficient_small ls ts, size-plus, terms_total-cons)
 
 pub sum_small : (ls : List Literal) (runs : List Run)
     → unsigned_abs (sum_over ls runs) ≤ terms_total (merged_terms runs)
-sum_small ls runs =
-    omega (
-      arith,
-      ap unsigned_abs (sym (coefficient_of-merged ls runs)),
-      coefficient_small ls (merged_terms runs),
-    )
+sum_small ls runs = grind (arith, nat_tests, coefficient_of-merged, coefficient_small)
 
 -- a run more, on top of the others
 pub SmallSums-run : (width : ℕ) (runs : List Run) (entry : Run) → AreRuns width runs
@@ -363,15 +265,7 @@ pub SmallSums-run : (width : ℕ) (runs : List Run) (entry : Run) → AreRuns wi
 SmallSums-run width runs entry kept small = (here, SmallSums-turned width runs kept)
   where
     here : (ls : List Literal) → unsigned_abs (sum_over ls (entry ∷ reverse runs)) ≤ 2 ^ 124
-    here ls =
-        omega (
-          arith,
-          size-plus (coefficient_of ls entry) (sum_over ls (reverse runs)),
-          coefficient_small ls entry,
-          ap unsigned_abs (sum_over-reverse ls runs),
-          sum_small ls runs,
-          small,
-        )
+    here ls = grind (arith, nat_tests, size-plus, coefficient_small, sum_over-reverse, sum_small)
 
 pub AreRuns-settled : (width : ℕ) (runs : List Run) (entry : Run) → AreRuns width runs
     → AreTerms width entry → terms_total (merged_terms runs) + terms_total entry ≤ 2 ^ 124
@@ -405,43 +299,27 @@ AreRuns-with_entry width runs ls c kept set small = go (int_eq c (pos 0)) refl
 -- the sums after an addition
 sum_over-with_entry : (ks : List Literal) (runs : List Run) (ls : List Literal) (c : ℤ)
     → sum_over ks (with_entry runs ls c) ≡ sum_over ks runs +ℤ if_so (is_eq (set_cmp ks ls)) c
-sum_over-with_entry ks runs ls c = go (int_eq c (pos 0)) (Decides-int_eq c (pos 0))
-  where
-    nothing : (b : Bool) → c ≡ pos 0 → if_so b c ≡ pos 0
-    nothing true e = e
-    nothing false e = refl
+sum_over-with_entry ks runs ls c = grind (arith, nat_tests, ints, sum_over-settled, sum_over-append)
 
-    go : (zero : Bool) → Decides zero (c ≡ pos 0)
-        → sum_over ks (cond zero runs (settled (runs ++ ((ls, c) ∷ []) ∷ [])))
-        ≡ sum_over ks runs +ℤ if_so (is_eq (set_cmp ks ls)) c
-    go true d = omega (arith, ints, nothing (is_eq (set_cmp ks ls)) (d.0 refl))
-    go false d =
-        let entry : Run = (ls, c) ∷ [] in
-        omega (
-          arith,
-          ints,
-          sum_over-settled ks (runs ++ entry ∷ []),
-          sum_over-append ks runs (entry ∷ []),
-        )
+-- two ways to the same sums give the same merged view
+same_view : (runs new : List Run) (ts : List Term)
+    → ((ls : List Literal) → sum_over ls new ≡ sum_over ls runs +ℤ coefficient_of ls ts)
+    → merged_terms new ≡ with_additions (merged_terms runs) ts
+same_view runs new ts sums =
+    same_terms (merged_terms new) (with_additions (merged_terms runs) ts)
+    (Ascends-with_additions (entries new))
+    (Ascends-more (merged_terms runs) ts (Ascends-with_additions (entries runs)))
+    (nonzero-with_additions (entries new))
+    (nonzero-more (merged_terms runs) ts (nonzero-with_additions (entries runs))) (λ ls.
+    let more = weight-with_additions (λ ms. is_eq (set_cmp ls ms)) (merged_terms runs) ts in
+    omega (arith, ints, coefficient_of-merged ls new, coefficient_of-merged ls runs, sums ls, more))
 
 -- the merged view after an addition is that with the addition
 pub merged_terms-with_entry : (runs : List Run) (ls : List Literal) (c : ℤ)
     → merged_terms (with_entry runs ls c) ≡ with_addition (merged_terms runs) ls c
 merged_terms-with_entry runs ls c =
-    let new = with_entry runs ls c in
-    same_terms (merged_terms new) (with_addition (merged_terms runs) ls c)
-    (Ascends-with_additions (entries new))
-    (Ascends-more (merged_terms runs) ((ls, c) ∷ []) (Ascends-with_additions (entries runs)))
-    (nonzero-with_additions (entries new))
-    (nonzero-more (merged_terms runs) ((ls, c) ∷ []) (nonzero-with_additions (entries runs)))
-    (λ ks. omega (
-      arith,
-      ints,
-      coefficient_of-merged ks new,
-      sum_over-with_entry ks runs ls c,
-      coefficient_of-merged ks runs,
-      weight-with_addition (λ ms. is_eq (set_cmp ks ms)) (merged_terms runs) ls c,
-    ))
+    same_view runs (with_entry runs ls c) ((ls, c) ∷ [])
+    (λ ks. omega (arith, ints, sum_over-with_entry ks runs ls c))
 
 -- and so is that after additions that are summed first
 pub merged_terms-with_sums : (runs : List Run) (ts : List Term)
@@ -449,22 +327,8 @@ pub merged_terms-with_sums : (runs : List Run) (ts : List Term)
     ≡ with_additions (merged_terms runs) ts
 merged_terms-with_sums runs ts =
     let sums : Run = with_additions [] ts in
-    let new : List Run = settled (runs ++ sums ∷ []) in
-    same_terms (merged_terms new) (with_additions (merged_terms runs) ts)
-    (Ascends-with_additions (entries new))
-    (Ascends-more (merged_terms runs) ts (Ascends-with_additions (entries runs)))
-    (nonzero-with_additions (entries new))
-    (nonzero-more (merged_terms runs) ts (nonzero-with_additions (entries runs)))
-    (λ ls. omega (
-      arith,
-      ints,
-      coefficient_of-merged ls new,
-      sum_over-settled ls (runs ++ sums ∷ []),
-      sum_over-append ls runs (sums ∷ []),
-      coefficient_of-with_additions ls ts,
-      coefficient_of-merged ls runs,
-      weight-with_additions (λ ms. is_eq (set_cmp ls ms)) (merged_terms runs) ts,
-    ))
+    same_view runs (settled (runs ++ sums ∷ [])) ts
+    (λ ls. omega (arith, ints, sum_over-settled ls (runs ++ sums ∷ []), sum_over-append ls runs (sums ∷ []), coefficient_of-with_additions ls ts))
 
 -- ---- runs that are made at once
 
@@ -483,9 +347,7 @@ AreTerms-merged width runs each =
 
 pub merged_terms-one_run : (width : ℕ) (ts : List Term) → AreTerms width ts
     → merged_terms (one_run ts) ≡ ts
-merged_terms-one_run width [] terms = refl
-merged_terms-one_run width (t ∷ ts) terms =
-    ap (with_additions []) (append-nil (t ∷ ts)) ∙ merged-none (t ∷ ts) terms.ordered terms.nonzero
+merged_terms-one_run width ts terms = grind (arith, nat_tests, append-nil, merged-none)
 
 pub AreRuns-one_run : (width : ℕ) (ts : List Term) → AreTerms width ts → terms_total ts ≤ 2 ^ 124
     → AreRuns width (one_run ts)
@@ -504,35 +366,10 @@ AreRuns-one_run width (t ∷ ts) terms small =
 
 -- ---- what an iterator asks
 
--- the oldest run has twice the entries for each run after it
-doubled : (width : ℕ) (runs : List Run) → AreRuns width runs → (k : ℕ) → k < length runs
-    → 2 ^ k * length (get_or runs k []) ≤ length (get_or runs 0 [])
-doubled width runs kept zero in' = omega arith
-doubled width runs kept (suc k) in' =
-    let place : k + 1 ≡ suc k = omega arith in
-    let half : 2 * length (get_or runs (suc k) []) ≤ length (get_or runs k []) =
-    subst (λ (n : ℕ). 2 * length (get_or runs n []) ≤ length (get_or runs k [])) place
-    (kept.halve k (omega arith)) in
-    let before = doubled width runs kept k (omega arith) in
-    let twice : 2 ^ suc k ≡ 2 * 2 ^ k = pow-succ' 2 k in
-    omega (
-      arith,
-      before,
-      ap (λ m. m * length (get_or runs (suc k) [])) twice,
-      mul-le (2 ^ k) (2 * length (get_or runs (suc k) [])) (2 ^ k) (length (get_or runs k [])) (omega arith) half,
-    )
-
 -- so there are at most 64
 pub few_runs : (width : ℕ) (runs : List Run) → AreRuns width runs
     → length (get_or runs 0 []) < 2 ^ 64 → length runs ≤ 64
-few_runs width runs kept short =
-    elim (cases_lt 64 (length runs)) [
-      | inl more ↦
-          let much = doubled width runs kept 64 more in
-          let some : 1 ≤ length (get_or runs 64 []) = All-get_or (λ (r : Run). 1 ≤ length r) runs 64 [] more kept.some in
-          absurd (omega arith)
-      | inr few ↦ few
-    ]
+few_runs width runs kept short = grind (arith, nat_tests)
 
 -- a run alone is the merged view
 pub merged_terms-only : (width : ℕ) (runs : List Run) (only : Run) → AreRuns width runs

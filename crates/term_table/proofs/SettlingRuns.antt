@@ -1,19 +1,5 @@
 -- Steps of settling: the last run is merged with the one before it, or nothing more is done.
-use Rattle.std.proofs.Common.{◌≡◌, ◌≢◌, ℕ, ◌+◌, ◌*◌, ◌<◌, ◌≤◌, ◌^◌, Bool, true, false, arith, length, get_or, take, reverse, List, [], ◌∷◌, ◌++◌, sym, ap, ◌∙◌, subst, refl, append-nil, ℤ, pos, ◌+ℤ◌, unsigned_abs, All}
-use Rattle.std.specs.Prelude.{⊤, if◌then◌else◌}
-use Rattle.std.specs.Bool.{Decides}
-use Rattle.std.specs.List.{AllByRecursion}
-use Rattle.std.specs.List.Sorted.{IsStrictlySortedBy}
-use Rattle.std.specs.Ordering.{is_eq}
-use Rattle.std.proofs.lemmas.Int.{ints}
-use Rattle.std.proofs.lemmas.Bool.Decides.{Decides-ltb}
-use Rattle.std.proofs.lemmas.List.{take_all, reverse-reverse}
-use Rattle.std.proofs.lemmas.List.Elements.{All-nil, All-cons, All-from_recursion}
-use Rattle.base.specs.Sums.{if_so}
-use Rattle.literal_lists.specs.declared.literal.Literal.{Literal}
-use Rattle.term_table.specs.Terms.{Term, set_cmp, terms_total, coefficient_of, Ascends}
-use Rattle.term_table.specs.Runs.{Run, merged_terms, sum_over, merged, is_long, settled_with, settled, one_run, AreRuns}
-use Rattle.term_table.specs.Newest.{SmallSums, Halve, Each, AreOrdered, AreSettling}
+use Rattle.term_table.proofs.Common.{nat_tests, ◌≡◌, ◌≢◌, ℕ, ◌+◌, ◌*◌, ◌<◌, ◌≤◌, ◌^◌, false, arith, length, get_or, take, reverse, List, [], ◌∷◌, ◌++◌, sym, ap, ◌∙◌, subst, append-nil, ℤ, pos, ◌+ℤ◌, unsigned_abs, All, ⊤, AllByRecursion, IsStrictlySortedBy, is_eq, ints, take_all, reverse-reverse, All-nil, All-cons, All-from_recursion, if_so, Literal, Term, set_cmp, terms_total, coefficient_of, Ascends, Run, merged_terms, sum_over, merged, is_long, settled_with, settled, one_run, AreRuns, SmallSums, Halve, Each, AreOrdered, AreSettling}
 use Rattle.term_table.proofs.Additions.{terms_total-cons}
 use Rattle.term_table.proofs.KeptTerms.{IsNonzero, Under, Ascends-more, nonzero-more}
 use Rattle.term_table.proofs.UniqueTerms.{coefficient_of-first}
@@ -62,32 +48,10 @@ entries_small r rs up small =
 
 pub settled_long : (last before : Run) (older : List Run) → length before < 2 * length last
     → settled_with last (before ∷ older) ≡ settled_with (merged before last) older
-settled_long [] before older long = absurd (omega arith)
-settled_long (t ∷ ts) before older long =
-    go (is_long before (t ∷ ts)) (Decides-ltb (length before) (2 * length (t ∷ ts)))
-  where
-    go : (l : Bool) → Decides l (length before < 2 * length (t ∷ ts))
-        → (if l then settled_with (merged before (t ∷ ts)) older else (t ∷ ts) ∷ before ∷ older)
-        ≡ settled_with (merged before (t ∷ ts)) older
-    go true d = refl
-    go false d = let no = d.1 long in absurd cc
+settled_long last before older long = grind (arith, nat_tests)
 
 pub not_long : (last before : Run) → 2 * length last ≤ length before → is_long before last ≡ false
-not_long last before short = go (is_long before last) (Decides-ltb (length before) (2 * length last))
-  where
-    go : (l : Bool) → Decides l (length before < 2 * length last) → l ≡ false
-    go true d = let yes = d.0 refl in absurd (omega arith)
-    go false d = refl
-
--- runs that halve are settled
-settled_kept : (before : Run) (older : List Run) → Halve (before ∷ older)
-    → settled_with before older ≡ before ∷ older
-settled_kept [] [] h = absurd (omega arith)
-settled_kept (t ∷ ts) [] h = refl
-settled_kept [] (r ∷ rs) h = absurd (let some = h.0 in omega arith)
-settled_kept (t ∷ ts) (r ∷ rs) h =
-    ap (λ (l : Bool). if l then settled_with (merged r (t ∷ ts)) rs else (t ∷ ts) ∷ r ∷ rs)
-    (not_long (t ∷ ts) r h.1)
+not_long last before short = grind (arith, nat_tests)
 
 -- the last run is short enough for the one before it
 abbrev pub Fits : Run → List Run → Type 0
@@ -96,19 +60,11 @@ Fits last (before ∷ older) = 2 * length last ≤ length before
 
 settled_done : (last : Run) (rs : List Run) → Fits last rs → Halve rs
     → settled_with last rs ≡ one_run last ++ rs
-settled_done [] [] fits h = refl
-settled_done (t ∷ ts) [] fits h = refl
-settled_done [] (before ∷ older) fits h = settled_kept before older h
-settled_done (t ∷ ts) (before ∷ older) fits h =
-    ap (λ (l : Bool). if l then settled_with (merged before (t ∷ ts)) older else (t ∷ ts) ∷ before ∷ older)
-    (not_long (t ∷ ts) before fits)
+settled_done last rs fits h = grind (arith, nat_tests)
 
 turned_back : (last : Run) (runs : List Run)
     → reverse (one_run last ++ reverse runs) ≡ runs ++ one_run last
-turned_back [] runs = reverse-reverse runs ∙ sym (append-nil runs)
-turned_back (t ∷ ts) runs =
-    reverse_more (t ∷ ts) (reverse runs)
-    ∙ ap (λ (rs : List Run). rs ++ (t ∷ ts) ∷ []) (reverse-reverse runs)
+turned_back last runs = grind (arith, nat_tests, reverse-reverse, append-nil, reverse_more)
 
 -- ---- the loop
 
@@ -140,31 +96,15 @@ pub settling_more : (runs : List Run) (entry last new : Run) (kept next : ℕ) �
 settling_more runs entry last new kept next down up long made before =
     let first = get_or runs next [] in
     let older = reverse (take next runs) in
-    let list : reverse (take kept runs) ≡ first ∷ older =
-    ap (λ (k : ℕ). reverse (take k runs)) down ∙ reverse_taken runs next (omega arith) in
-    let ordered : AreOrdered (last ∷ first ∷ older) =
-    subst (λ (rs : List Run). AreOrdered (last ∷ rs)) list before.ordered in
-    let small : SmallSums (last ∷ first ∷ older) =
-    subst (λ (rs : List Run). SmallSums (last ∷ rs)) list before.small in
-    let halve : Halve (first ∷ older) = subst Halve list before.halve in
-    let joined : SmallSums (merged first last ∷ older) = (
-      λ ls. rw (sum_over-merged ls last first older) (small.0 ls),
-      small.1.1,
-    ) in
-    record {
-      steps =
-          before.steps
-          ∙ ap (settled_with last) list
-          ∙ settled_long last first older long
-          ∙ ap (λ (r : Run). settled_with r older) (sym made);
-      ordered = (
-        subst (λ (r : Run). Ascends r × All IsNonzero r) (sym made)
-            (Ascends-more first last ordered.1.0.0, nonzero-more first last ordered.1.0.1),
-        ordered.1.1,
-      );
-      small = subst (λ (r : Run). SmallSums (r ∷ older)) (sym made) joined;
-      halve = Halve-rest first older halve;
-    }
+    let list : reverse (take kept runs) ≡ first ∷ older = rw down (reverse_taken runs next (omega arith)) in
+    let ordered = rw list at before.ordered in
+    let small = rw list at before.small in
+    rw made (record {
+      steps = before.steps ∙ ap (settled_with last) list ∙ settled_long last first older long;
+      ordered = ((Ascends-more first last ordered.1.0.0, nonzero-more first last ordered.1.0.1), ordered.1.1);
+      small = (λ ls. rw (sum_over-merged ls last first older) (small.0 ls), small.1.1);
+      halve = Halve-rest first older (rw list at before.halve);
+    })
 
 -- what the loop merges has small entries
 pub last_small : (runs : List Run) (entry last : Run) (kept : ℕ) → Settling runs entry last kept
@@ -176,34 +116,22 @@ pub before_small : (runs : List Run) (entry last : Run) (kept next : ℕ) → ke
     → kept ≤ length runs → Settling runs entry last kept
     → All (λ (t : Term). unsigned_abs t.1 ≤ 2 ^ 125) (get_or runs next [])
 before_small runs entry last kept next down up before =
-    let first = get_or runs next [] in
-    let older = reverse (take next runs) in
-    let list : reverse (take kept runs) ≡ first ∷ older =
-    ap (λ (k : ℕ). reverse (take k runs)) down ∙ reverse_taken runs next (omega arith) in
-    let ordered : AreOrdered (first ∷ older) = subst AreOrdered list before.ordered.1 in
-    let small : SmallSums (first ∷ older) = subst SmallSums list before.small.1 in
-    entries_small first older ordered.0.0 small
+    grind (arith, nat_tests, reverse_taken, entries_small)
 
 pub settling_done : (runs : List Run) (entry last : Run) (kept : ℕ)
     → Fits last (reverse (take kept runs)) → Settling runs entry last kept
     → settled (runs ++ entry ∷ []) ≡ take kept runs ++ one_run last
 settling_done runs entry last kept fits all =
-    settled_is runs entry
-    ∙ ap reverse (all.steps ∙ settled_done last (reverse (take kept runs)) fits all.halve)
-    ∙ turned_back last (take kept runs)
+    grind (arith, nat_tests, settled_is, settled_done, turned_back)
 
 pub fits_none : (runs : List Run) (last : Run) (kept : ℕ) → kept ≡ 0
     → Fits last (reverse (take kept runs))
-fits_none runs last kept none =
-    subst (λ (k : ℕ). Fits last (reverse (take k runs))) (sym none) tt
+fits_none runs last kept none = subst (λ (k : ℕ). Fits last (reverse (take k runs))) (sym none) tt
 
 pub fits_before : (runs : List Run) (last : Run) (kept next : ℕ) → kept ≡ next + 1
     → kept ≤ length runs → 2 * length last ≤ length (get_or runs next [])
     → Fits last (reverse (take kept runs))
-fits_before runs last kept next down up short =
-    let list : reverse (take kept runs) ≡ get_or runs next [] ∷ reverse (take next runs) =
-    ap (λ (k : ℕ). reverse (take k runs)) down ∙ reverse_taken runs next (omega arith) in
-    subst (Fits last) (sym list) short
+fits_before runs last kept next down up short = grind (arith, nat_tests, reverse_taken)
 
 -- ---- an addition to a table's runs
 

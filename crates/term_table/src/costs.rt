@@ -1,4 +1,6 @@
 //! What an assignment costs.
+//!
+//! No run of the program comes here: it asks for costs of the source.
 ghost use Rattle.term_table.specs.Terms.{terms_total};
 ghost use Rattle.term_table.specs.Tables.{form_of, table_size};
 

@@ -1,4 +1,6 @@
 //! Tables of terms that have at most two literals.
+//!
+//! No run of the program has one: quadratization makes the form of a table at once.
 ghost use Rattle.std.specs.Prelude.{◌≡◌, ◌<◌, length, Any, IfOk, IfErr, OnOk, OnErr};
 ghost use Rattle.std.specs.Bool.{OnTrue, OnFalse};
 ghost use Rattle.term_table.specs.Terms.{terms_total};

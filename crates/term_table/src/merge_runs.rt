@@ -2,6 +2,8 @@
 //!
 //! The lesser of the two first sets goes first, and equal sets are summed. The terms are copied, so
 //! both runs stay as they are.
+//!
+//! No run of the program comes here: its tables are made at once, of all that was gathered.
 ghost use Rattle.std.specs.Prelude.{◌≡◌, ◌≢◌, ◌≤◌, ◌^◌, ◌++◌, [], pos, unsigned_abs, All, IfOk, OnOk};
 ghost use Rattle.term_table.specs.Terms.{in_front, Ascends};
 ghost use Rattle.term_table.specs.Runs.{merged};

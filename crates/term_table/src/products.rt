@@ -1,4 +1,6 @@
 //! Products of two tables, which are gathered and then added into a third one.
+//!
+//! No run of the program comes here: constraints are squared as they are gathered.
 ghost use Rattle.std.specs.Prelude.{◌≡◌, ◌≢◌, ◌+◌, ◌*◌, ◌≤◌, ◌^◌, ◌*ℤ◌, pos, length, unsigned_abs, All, OnOk, OnErr};
 ghost use Rattle.term_table.specs.Terms.{terms_total};
 ghost use Rattle.term_table.specs.Tables.{with_all, with_more};

@@ -2,6 +2,8 @@
 //! at least twice as long as the next.
 //!
 //! So there are at most 64 runs, and a term is copied once for each doubling of its run.
+//!
+//! No run of the program comes here: its tables are made at once, of all that was gathered.
 ghost use Rattle.std.specs.Prelude.{◌≡◌, ◌+◌, ◌≤◌, ◌^◌, ℕ, ◌++◌, ◌∷◌, [], length, take, unsigned_abs, IfOk, OnOk, OnErr};
 ghost use Rattle.term_table.specs.Terms.{terms_total};
 ghost use Rattle.term_table.specs.Runs.{merged_terms, one_run, settled, with_entry, AreRuns};

@@ -1,15 +1,8 @@
-use Rattle.std.proofs.Common.{◌≡◌, ◌++◌, ◌∙◌, ◌∷◌, [], ap, sym, add-one, arith}
-use Rattle.std.proofs.lemmas.List.{append_assoc}
-use Rattle.monomial_layer.specs.Monomials.{first_values, is_taken}
+use Rattle.monomial_layer.proofs.Common.{nat_tests, ◌≡◌, ◌++◌, ◌∙◌, ap, add-one, arith, append_assoc, first_values, is_taken}
 use Rattle.monomial_layer.proofs.bits.push_taken.Goals as goal
 
 pub loop-place-preserved : goal.loop-place-preserved
-loop-place-preserved c =
-    let so_far = first_values (is_taken c.args.count) c.loop-place.place in
-    c.in_ok-push.ensures.items
-    ∙ ap (λ bits. bits ++ is_taken c.args.count c.loop-place.place ∷ []) c.loop-place.invariant
-    ∙ append_assoc c.args.bits.now.items so_far (is_taken c.args.count c.loop-place.place ∷ [])
-    ∙ ap (λ n. c.args.bits.now.items ++ first_values (is_taken c.args.count) n) (sym (add-one c.loop-place.place))
+loop-place-preserved c = grind (arith, nat_tests, append_assoc, add-one)
 
 pub returns : goal.returns
 returns c =

@@ -1,5 +1,4 @@
-use Rattle.std.proofs.Common.{◌≡◌, ◌++◌}
-use Rattle.monomial_layer.specs.Monomials.{first_values, is_taken}
+use Rattle.monomial_layer.proofs.Common.{◌≡◌, ◌++◌, first_values, is_taken}
 use Rattle.monomial_layer.proofs.bits.push_taken.Given as goal
 
 -- the bits of the nodes so far were appended

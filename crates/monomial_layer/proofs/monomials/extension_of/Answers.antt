@@ -1,10 +1,4 @@
-use Rattle.std.proofs.Common.{◌≡◌, ◌++◌, rules}
-use Rattle.std.specs.Int.{w128}
-use Rattle.std.proofs.lemmas.Int.{to_z-of_z}
-use Rattle.std.proofs.lemmas.Map.Iter.{rest_more}
-use Rattle.std.proofs.lemmas.List.Elements.{All-rest}
-use Rattle.term_table.specs.Terms.{Term, IsTermSet}
-use Rattle.monomial_layer.specs.Monomials.{new_bits}
+use Rattle.monomial_layer.proofs.Common.{◌≡◌, ◌++◌, rules, w128, to_z-of_z, rest_more, All-rest, Term, IsTermSet, new_bits}
 use Rattle.monomial_layer.proofs.Adding.{bits_left}
 use Rattle.monomial_layer.proofs.monomials.extension_of.Goals as goal
 

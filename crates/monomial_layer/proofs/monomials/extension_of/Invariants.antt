@@ -1,7 +1,4 @@
-use Rattle.std.proofs.Common.{◌≡◌, ◌++◌, All}
-use Rattle.std.specs.List.{flat_map}
-use Rattle.term_table.specs.Terms.{Term, IsTermSet}
-use Rattle.monomial_layer.specs.Monomials.{extension, new_bits}
+use Rattle.monomial_layer.proofs.Common.{◌≡◌, ◌++◌, All, flat_map, Term, IsTermSet, extension, new_bits}
 use Rattle.monomial_layer.proofs.monomials.extension_of.Given as goal
 
 -- the bits so far, and those of the terms that are left, are the extension

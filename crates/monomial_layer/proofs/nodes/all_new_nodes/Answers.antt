@@ -1,9 +1,4 @@
-use Rattle.std.proofs.Common.{◌≡◌, ◌∙◌, ap, arith, refl, rules}
-use Rattle.std.specs.Int.{w128}
-use Rattle.std.proofs.lemmas.Int.{to_z-of_z}
-use Rattle.std.proofs.lemmas.Map.Iter.{rest_more}
-use Rattle.term_table.specs.Terms.{Term}
-use Rattle.monomial_layer.specs.Monomials.{new_nodes}
+use Rattle.monomial_layer.proofs.Common.{◌≡◌, ◌∙◌, ap, arith, refl, rules, w128, to_z-of_z, rest_more, Term, new_nodes}
 use Rattle.monomial_layer.proofs.Sizes.{size-all_new_terms}
 use Rattle.monomial_layer.proofs.Adding.{nodes_left}
 use Rattle.monomial_layer.proofs.nodes.all_new_nodes.Goals as goal

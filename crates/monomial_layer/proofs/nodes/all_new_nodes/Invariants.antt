@@ -1,6 +1,4 @@
-use Rattle.std.proofs.Common.{◌≡◌, ◌+◌}
-use Rattle.std.specs.List.{sum_by}
-use Rattle.monomial_layer.specs.Monomials.{new_nodes}
+use Rattle.monomial_layer.proofs.Common.{◌≡◌, ◌+◌, sum_by, new_nodes}
 use Rattle.monomial_layer.proofs.nodes.all_new_nodes.Given as goal
 
 -- the nodes so far, and those of the terms that are left, are all

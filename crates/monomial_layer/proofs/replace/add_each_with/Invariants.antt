@@ -1,6 +1,4 @@
-use Rattle.std.proofs.Common.{drop}
-use Rattle.term_table.proofs.Filling.{Rest}
-use Rattle.monomial_layer.specs.Monomials.{each_with}
+use Rattle.monomial_layer.proofs.Common.{drop, Rest, each_with}
 use Rattle.monomial_layer.proofs.replace.add_each_with.Given as goal
 
 -- the products of the literals so far were added

@@ -1,9 +1,4 @@
-use Rattle.std.proofs.Common.{◌∷◌, ◌*◌, ◌+◌, ◌-◌, ◌^◌, ◌*ℤ◌, ◌∙◌, [], ap, refl, sym, pos, length, arith, rules}
-use Rattle.std.specs.Int.{w128}
-use Rattle.std.proofs.lemmas.Int.{to_z-of_z}
-use Rattle.std.proofs.lemmas.Result.{on_ok_weaker}
-use Rattle.term_table.proofs.Filling.{fills_same, room_same}
-use Rattle.monomial_layer.specs.Monomials.{each_with, factor}
+use Rattle.monomial_layer.proofs.Common.{nat_tests, ◌∷◌, ◌*◌, ◌+◌, ◌-◌, ◌^◌, ◌*ℤ◌, ◌∙◌, [], ap, refl, pos, length, arith, rules, w128, to_z-of_z, on_ok_weaker, fills_same, room_same, factor}
 use Rattle.monomial_layer.proofs.Adding.{others_room, own_and_others, own_room}
 use Rattle.monomial_layer.proofs.Sizes.{node_weight-fits, pair_weight-fits}
 use Rattle.monomial_layer.proofs.replace.add_node.Goals as goal
@@ -33,10 +28,7 @@ add_each_with-requires g c =
     let back = to_z-of_z w128 c.args.coefficient c.ranges.coefficient in
     let weight = to_z-of_z w128 c.node_weight.result (search rules) ∙ rw back at c.node_weight.ensures in
     let pair = to_z-of_z w128 c.pair_weight.result (search rules) ∙ rw back at c.pair_weight.ensures in
-    room_same g.G.Gather.takes c.gather.new.self _ _
-    (ap (λ z. each_with c.args.literals.now c.args.new_node z) (sym pair))
-    (others_room g.G.Gather.takes g.G.Gather.holds c.args.terms.now c.gather.new.self (c.args.new_node ∷ []) _ _ _ _
-    refl weight c.in_ok-gather.ensures.added c.in_ok-gather.ensures.takes c.requires.room)
+    grind (arith, nat_tests, room_same, others_room)
 
 pub returns : goal.returns
 returns g c =
@@ -45,8 +37,4 @@ returns g c =
     let back = to_z-of_z w128 c.args.coefficient c.ranges.coefficient in
     let weight = to_z-of_z w128 c.node_weight.result (search rules) ∙ rw back at c.node_weight.ensures in
     let pair = to_z-of_z w128 c.pair_weight.result (search rules) ∙ rw back at c.pair_weight.ensures in
-    own_and_others Takes Holds c.add_each_with.result c.args.terms.now c.gather.new.self c.add_each_with.new.terms
-    (c.args.new_node ∷ []) _ _ _ _ refl weight c.in_ok-gather.ensures.added c.in_ok-gather.ensures.takes
-    (on_ok_weaker c.add_each_with.result
-    (λ more. fills_same Takes Holds _ _ _ _ (ap (λ z. each_with c.args.literals.now c.args.new_node z) pair) more)
-    c.add_each_with.ensures)
+    grind (arith, nat_tests, own_and_others, on_ok_weaker, fills_same)

@@ -1,5 +1,4 @@
-use Rattle.term_table.specs.Rooms.{Fills}
-use Rattle.monomial_layer.specs.Monomials.{node_terms}
+use Rattle.monomial_layer.proofs.Common.{Fills, node_terms}
 use Rattle.monomial_layer.proofs.replace.add_nodes.Given as goal
 
 -- the terms of the nodes so far were added

@@ -1,6 +1,5 @@
-use Rattle.std.specs.Int.{w128}
-use Rattle.std.proofs.lemmas.Int.{to_z-of_z}
-use Rattle.term_table.proofs.Filling.{rest_more, rest_room}
+use Rattle.monomial_layer.proofs.Common.{w128, to_z-of_z, rest_room}
+use Rattle.term_table.proofs.Filling.{rest_more}
 use Rattle.monomial_layer.proofs.Adding.{pairs_left}
 use Rattle.monomial_layer.proofs.replace.add_pairs.Goals as goal
 

@@ -1,6 +1,4 @@
-use Rattle.std.proofs.Common.{drop}
-use Rattle.term_table.proofs.Filling.{Rest}
-use Rattle.monomial_layer.specs.Monomials.{pair_terms}
+use Rattle.monomial_layer.proofs.Common.{drop, Rest, pair_terms}
 use Rattle.monomial_layer.proofs.replace.add_pairs.Given as goal
 
 -- the pairs of the literals so far were added

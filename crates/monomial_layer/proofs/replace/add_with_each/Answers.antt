@@ -1,9 +1,5 @@
-use Rattle.std.proofs.Common.{false, ◌∷◌, ◌+◌, [], drop, map, get_or, refl}
-use Rattle.std.specs.Int.{w128}
-use Rattle.std.proofs.lemmas.Int.{to_z-of_z}
-use Rattle.literal_lists.specs.declared.literal.Literal.{Literal}
-use Rattle.term_table.specs.Terms.{Term}
-use Rattle.term_table.proofs.Filling.{fills_as, rest_more, rest_room}
+use Rattle.monomial_layer.proofs.Common.{false, ◌∷◌, ◌+◌, [], drop, map, get_or, refl, w128, to_z-of_z, Literal, Term, fills_as, rest_room}
+use Rattle.term_table.proofs.Filling.{rest_more}
 use Rattle.monomial_layer.proofs.Adding.{map_left}
 use Rattle.monomial_layer.proofs.replace.add_with_each.Goals as goal
 

@@ -1,6 +1,4 @@
-use Rattle.std.proofs.Common.{drop}
-use Rattle.term_table.proofs.Filling.{Rest}
-use Rattle.monomial_layer.specs.Monomials.{with_each}
+use Rattle.monomial_layer.proofs.Common.{drop, Rest, with_each}
 use Rattle.monomial_layer.proofs.replace.add_with_each.Given as goal
 
 -- the products of the literals so far were added

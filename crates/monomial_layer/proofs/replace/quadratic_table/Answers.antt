@@ -1,60 +1,25 @@
-use Rattle.std.proofs.Common.{◌≡◌, ◌+◌, ◌++◌, ◌∙◌, [], List, ap, arith, refl, subst, sym, rules}
-use Rattle.std.specs.Int.{w128}
-use Rattle.std.specs.List.{sum_by}
-use Rattle.std.proofs.lemmas.Int.{to_z-of_z}
-use Rattle.std.proofs.lemmas.Map.Iter.{rest_all, rest_more}
-use Rattle.std.proofs.lemmas.List.Sums.{sum_by-cons}
-use Rattle.term_table.specs.Terms.{Term, terms_total, with_additions}
-use Rattle.term_table.specs.Tables.{kept_at_once, TableContent}
-use Rattle.term_table.proofs.Additions.{terms_total-append}
+use Rattle.monomial_layer.proofs.Common.{nat_tests, ◌≡◌, ◌+◌, ◌++◌, ◌∙◌, [], ap, arith, refl, sym, rules, w128, sum_by, to_z-of_z, rest_all, rest_more, sum_by-cons, Term, terms_total, with_additions, kept_at_once, TableContent, terms_total-append, new_nodes, new_terms, all_new_terms}
 use Rattle.term_table.proofs.Filling as filling
-use Rattle.monomial_layer.specs.Monomials.{new_nodes, new_terms, all_new_terms}
 use Rattle.monomial_layer.proofs.Adding.{Holds, Takes, empty_of, nodes_left, room_for_all}
 use Rattle.monomial_layer.proofs.Sizes.{all_nodes-le, total-image}
 use Rattle.monomial_layer.proofs.replace.quadratic_table.Goals as goal
 
 pub overflow_add-next : goal.overflow_add-next
 overflow_add-next c =
-    omega (
-      arith,
-      c.width-next.ensures,
-      c.all_new_nodes.ensures.nodes,
-      all_nodes-le c.args.table.now.content.terms,
-      c.requires.size,
-    )
+    let few = all_nodes-le c.args.table.now.content.terms in
+    omega (arith, c.width-next.ensures, c.all_new_nodes.ensures.nodes, few, c.requires.size)
 
 pub loop-literals-init : goal.loop-literals-init
-loop-literals-init c =
-    let t = c.args.table.now.content in
-    let left : c.into_iter-literals-iterator.result ≡ t.terms =
-    c.into_iter-literals-iterator.ensures.into_iter_gives ∙ c.terms-literals-items.ensures.terms in
-    let start = c.width-next.ensures in
-    let same : all_new_terms c.into_iter-literals-iterator.result c.width-next.result ≡ all_new_terms t.terms t.width =
-    λ i. all_new_terms (left i) (start i) in
-    let empty : c.new-quadratic.result ≡ empty_of t =
-    c.new-quadratic.ensures ∙ (λ i. record { width = start i + c.all_new_nodes.ensures.nodes i; terms = [] }) in
-    let R : TableContent → List Term → Type 0 = λ s ts. filling.Rest Takes Holds (empty_of t) s ts (all_new_terms t.terms t.width) in
-    record {
-      rest = subst (λ s. R s (all_new_terms c.into_iter-literals-iterator.result c.width-next.result)) (sym empty)
-          (subst (R (empty_of t)) (sym same) (filling.rest_none Takes Holds (empty_of t) (all_new_terms t.terms t.width)));
-      numbered = λ i. start i + sum_by new_nodes (left i);
-      small = omega (arith, ap terms_total same, total-image t c.terms-literals-items.ensures.kept, c.requires.total);
-    }
+loop-literals-init c = grind (arith, nat_tests, empty_of, total-image)
 
 pub add_replaced-requires-clause-narrow : goal.add_replaced-requires-clause-narrow
 add_replaced-requires-clause-narrow c =
     let t : Term = (c.in-Some.literals.now, c.in-Some.coefficient) in
     let left = rest_more _ c.loop-literals.literals-iterator c.next.new.self c.next.result (c.in-Some.literals, c.in-Some.coefficient) c.in-Some.is c.next.ensures.steps in
     let back = to_z-of_z w128 c.in-Some.coefficient (search rules) in
-    rw back
-    (omega (
-      arith,
-      c.loop-literals.invariant.numbered,
-      ap (sum_by new_nodes) left,
-      sum_by-cons new_nodes t c.next.new.self,
-      all_nodes-le c.args.table.now.content.terms,
-      c.requires.size,
-    ))
+    let own = sum_by-cons new_nodes t c.next.new.self in
+    let few = all_nodes-le c.args.table.now.content.terms in
+    rw back (omega (arith, c.loop-literals.invariant.numbered, ap (sum_by new_nodes) left, own, few, c.requires.size))
 
 pub add_replaced-requires-clause-room : goal.add_replaced-requires-clause-room
 add_replaced-requires-clause-room c =
@@ -70,17 +35,7 @@ add_replaced-requires-clause-room c =
 
 pub add_replaced-requires-clause-small : goal.add_replaced-requires-clause-small
 add_replaced-requires-clause-small c =
-    let t : Term = (c.in-Some.literals.now, c.in-Some.coefficient) in
-    let next = c.loop-literals.next in
-    let left = rest_more _ c.loop-literals.literals-iterator c.next.new.self c.next.result (c.in-Some.literals, c.in-Some.coefficient) c.in-Some.is c.next.ensures.steps in
-    let back = to_z-of_z w128 c.in-Some.coefficient (search rules) in
-    rw back
-    (omega (
-      arith,
-      c.loop-literals.invariant.small,
-      ap (λ ts. terms_total (all_new_terms ts next)) left,
-      terms_total-append (new_terms t next) (all_new_terms c.next.new.self (next + new_nodes t)),
-    ))
+    grind (arith, nat_tests, rest_more, to_z-of_z, terms_total-append)
 
 pub loop-literals-preserved : goal.loop-literals-preserved
 loop-literals-preserved c =
@@ -96,16 +51,11 @@ loop-literals-preserved c =
     let found : c.new_nodes-next.result ≡ new_nodes t = c.new_nodes-next.ensures c.in-Some.literals.now refl ∙ ap (λ z. new_nodes (c.in-Some.literals.now, z)) back in
     let number = ap (λ k. next + k) found in
     let begins = ap (λ ts. all_new_terms ts next) left ∙ (λ i. new_terms t next ++ all_new_terms rest (sym number i)) in
+    let both = terms_total-append (new_terms t next) (all_new_terms rest (next + c.new_nodes-next.result)) in
     record {
       rest = filling.rest_more Takes Holds (empty_of u) now after _ _ _ (new_terms t next) begins made c.loop-literals.invariant.rest;
       numbered = nodes_left next c.new_nodes-next.result _ t _ _ left found c.loop-literals.invariant.numbered;
-      small =
-          omega (
-            arith,
-            c.loop-literals.invariant.small,
-            ap terms_total begins,
-            terms_total-append (new_terms t next) (all_new_terms rest (next + c.new_nodes-next.result)),
-          );
+      small = omega (arith, c.loop-literals.invariant.small, ap terms_total begins, both);
     }
 
 pub returns-in_err-add_replaced-clause-kept : goal.returns-in_err-add_replaced-clause-kept
@@ -113,14 +63,13 @@ returns-in_err-add_replaced-clause-kept c = c.terms-literals-items.ensures.kept
 
 pub returns-clause-made : goal.returns-clause-made
 returns-clause-made c =
-    let t = c.args.table.now.content in
     let none =
     rest_all _ c.loop-literals.literals-iterator c.next.new.self c.next.result c.in-None.is
     c.next.ensures.steps in
     let filled =
-    filling.rest_all Takes Holds (empty_of t) c.loop-literals.quadratic _ _
+    filling.rest_all Takes Holds (empty_of c.args.table.now.content) c.loop-literals.quadratic _ _
     (ap (λ us. all_new_terms us c.loop-literals.next) none) c.loop-literals.invariant.rest in
-    let whole = filled.held (empty_of t) refl in
+    let whole = filled.held (empty_of c.args.table.now.content) refl in
     c.into_table.ensures
     ∙ ap (λ (u : TableContent). kept_at_once (record { width = u.width; terms = with_additions [] u.terms })) whole
 

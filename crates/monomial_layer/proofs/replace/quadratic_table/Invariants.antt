@@ -1,8 +1,4 @@
-use Rattle.std.proofs.Common.{◌≡◌, ◌+◌, ◌≤◌, ◌^◌}
-use Rattle.std.specs.List.{sum_by}
-use Rattle.term_table.specs.Terms.{terms_total}
-use Rattle.term_table.proofs.Filling.{Rest}
-use Rattle.monomial_layer.specs.Monomials.{new_nodes, all_new_terms}
+use Rattle.monomial_layer.proofs.Common.{◌≡◌, ◌+◌, ◌≤◌, ◌^◌, sum_by, terms_total, Rest, new_nodes, all_new_terms}
 use Rattle.monomial_layer.proofs.Adding.{Holds, Takes, empty_of}
 use Rattle.monomial_layer.proofs.replace.quadratic_table.Given as goal
 

@@ -1,6 +1,4 @@
-use Rattle.std.proofs.Common.{◌≡◌, ◌+◌, ◌≤◌, ◌^◌, ◌++◌, drop, unsigned_abs}
-use Rattle.bits_model.specs.Output.{weight_total}
-use Rattle.pair_sums.specs.Pairs.{sums_from, sums_of}
+use Rattle.pair_sums.proofs.Common.{◌≡◌, ◌+◌, ◌≤◌, ◌^◌, ◌++◌, drop, unsigned_abs, weight_total, sums_from, sums_of}
 use Rattle.pair_sums.proofs.pairs.append_sums.Given as goal
 
 -- the couplers so far, then the pending one with those that are left, and that these stay small

@@ -1,5 +1,4 @@
-use Rattle.std.proofs.Common.{◌≡◌, ◌++◌, map, drop}
-use Rattle.pair_sums.specs.Codes.{unpacked}
+use Rattle.pair_sums.proofs.Common.{◌≡◌, ◌++◌, map, drop, unpacked}
 use Rattle.pair_sums.proofs.pairs.listed_of.Given as goal
 
 -- the couplers so far, and those of the codes that are left

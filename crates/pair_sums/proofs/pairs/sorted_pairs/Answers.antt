@@ -1,10 +1,4 @@
-use Rattle.std.proofs.Common.{List, map, ap, sym, subst}
-use Rattle.std.specs.List.Sorted.{IsPermutation}
-use Rattle.std.proofs.lemmas.List.Sorted.{IsPermutation-map}
-use Rattle.bits_model.specs.declared.output.Entry.{Entry}
-use Rattle.bits_model.specs.PairNumbers.{pair_number}
-use Rattle.pair_sums.specs.Codes.{unpacked}
-use Rattle.pair_sums.specs.PairLists.{held_pairs}
+use Rattle.pair_sums.proofs.Common.{List, map, ap, sym, subst, IsPermutation, IsPermutation-map, Entry, pair_number, unpacked, held_pairs}
 use Rattle.pair_sums.proofs.PairSums.{codes-ordered, ordered-map}
 use Rattle.pair_sums.proofs.pairs.sorted_pairs.Goals as goal
 

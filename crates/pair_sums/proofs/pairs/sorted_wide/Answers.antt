@@ -1,6 +1,4 @@
-use Rattle.std.proofs.Common.{rules}
-use Rattle.std.proofs.lemmas.List.Sorted.{IsNonDecreasingBy-from_sort_by_key}
-use Rattle.bits_model.specs.PairNumbers.{pair_number}
+use Rattle.pair_sums.proofs.Common.{rules, IsNonDecreasingBy-from_sort_by_key, pair_number}
 use Rattle.pair_sums.proofs.pairs.sorted_wide.Goals as goal
 
 pub returns-clause-ordered : goal.returns-clause-ordered

@@ -1,7 +1,4 @@
-use Rattle.std.proofs.Common.{◌≡◌, ◌++◌, ◌∷◌, [], List, take, ap, sym, ◌∙◌, rules}
-use Rattle.std.proofs.lemmas.List.{take_more}
-use Rattle.std.proofs.lemmas.Option.{slice_get_within, get_or_from_slice_get}
-use Rattle.bits_model.specs.declared.output.Entry.{Entry}
+use Rattle.pair_sums.proofs.Common.{◌≡◌, ◌++◌, ◌∷◌, [], List, take, ap, sym, ◌∙◌, rules, take_more, slice_get_within, get_or_from_slice_get, Entry}
 use Rattle.pair_sums.proofs.pairs.with_wide.Goals as goal
 
 pub loop-i-preserved : goal.loop-i-preserved

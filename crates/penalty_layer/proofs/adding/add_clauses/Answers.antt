@@ -1,9 +1,4 @@
-use Rattle.std.proofs.Common.{rules, ◌∷◌, [], ◌≡◌, ◌∙◌, ap, map, pos, unwrap_or, to_z, of_z}
-use Rattle.std.specs.Int.{w128}
-use Rattle.std.proofs.lemmas.Int.{to_z-of_z}
-use Rattle.problem_form.specs.declared.terms.Clause.{Clause}
-use Rattle.penalty_layer.specs.Penalty.{opposite, clause_term}
-use Rattle.term_table.proofs.Filling.{fills_as, rest_more, rest_room, room_as}
+use Rattle.penalty_layer.proofs.Common.{rules, ◌∷◌, [], ◌≡◌, ◌∙◌, ap, map, pos, unwrap_or, to_z, of_z, w128, to_z-of_z, Clause, opposite, clause_term, fills_as, rest_more, rest_room, room_as}
 use Rattle.penalty_layer.proofs.adding.add_clauses.Goals as goal
 
 pub gather-requires : goal.gather-requires
@@ -17,9 +12,7 @@ gather-requires g c =
     to_z-of_z w128 c.weight_or.result (search rules) ∙ c.weight_or.ensures
     ∙ ap (λ (u : Clause). pos (unwrap_or u.weight n)) c.clause.view_is in
     room_as g.T.Gather.takes c.loop-clause.terms _ _ _ _ set weight
-    (rest_room g.T.Gather.takes g.T.Gather.holds c.args.terms.now c.loop-clause.terms
-    (map (clause_term n) c.loop-clause.clause-iterator) (map (clause_term n) c.next.new.self)
-    (map (clause_term n) c.args.clauses.now) (clause_term n t ∷ [])
+    (rest_room _ _ _ _ _ _ _ (clause_term n t ∷ [])
     (ap (map (clause_term n)) c.in-Some.ensures.steps) c.loop-clause.invariant c.requires.room)
 
 pub loop-clause-preserved : goal.loop-clause-preserved
@@ -35,7 +28,5 @@ loop-clause-preserved g c =
     let one =
     fills_as g.T.Gather.takes g.T.Gather.holds c.loop-clause.terms c.gather.new.self _ _ _ _ set weight
     c.in_ok-gather.ensures.added c.in_ok-gather.ensures.takes in
-    rest_more g.T.Gather.takes g.T.Gather.holds c.args.terms.now c.loop-clause.terms c.gather.new.self
-    (map (clause_term n) c.loop-clause.clause-iterator) (map (clause_term n) c.next.new.self)
-    (map (clause_term n) c.args.clauses.now) _ (ap (map (clause_term n)) c.in-Some.ensures.steps) one
+    rest_more _ _ _ _ _ _ _ _ _ (ap (map (clause_term n)) c.in-Some.ensures.steps) one
     c.loop-clause.invariant

@@ -1,6 +1,4 @@
-use Rattle.std.proofs.Common.{map}
-use Rattle.penalty_layer.specs.Penalty.{clause_term}
-use Rattle.term_table.proofs.Filling.{Rest}
+use Rattle.penalty_layer.proofs.Common.{map, clause_term, Rest}
 use Rattle.penalty_layer.proofs.adding.add_clauses.Given as goal
 
 -- the clauses so far were added

@@ -1,19 +1,6 @@
-use Rattle.std.proofs.Common.{rules, arith, ◌≡◌, ◌*◌, ◌^◌, ◌++◌, ◌∷◌, [], ap, refl, sym, subst, ◌∙◌, map, List, All, append_assoc}
-use Rattle.std.specs.Int.{w128}
-use Rattle.std.specs.List.{sum_by}
-use Rattle.std.proofs.lemmas.Int.{to_z-of_z}
-use Rattle.problem_form.specs.Problems.{ProblemContent}
-use Rattle.problem_form.specs.Limits.{penalty, reach}
-use Rattle.problem_form.specs.declared.terms.Product.{Product}
-use Rattle.problem_form.specs.declared.terms.Constraint.{Constraint}
-use Rattle.term_table.specs.Terms.{Term}
-use Rattle.term_table.specs.Rooms.{HasRoomFor}
-use Rattle.penalty_layer.specs.Sets.{IsSet}
-use Rattle.penalty_layer.specs.Squares.{product_term, constraint_terms}
-use Rattle.penalty_layer.specs.Penalty.{clause_term, contributions, node_count}
+use Rattle.penalty_layer.proofs.Common.{nat_tests, rules, arith, ◌≡◌, ◌*◌, ◌^◌, ◌++◌, ◌∷◌, [], ap, refl, sym, ◌∙◌, map, List, append_assoc, w128, sum_by, to_z-of_z, ProblemContent, penalty, reach, Constraint, Term, HasRoomFor, product_term, constraint_terms, clause_term, contributions, fills_as, fills_same, room_as, room_first, room_next, room_same}
 use Rattle.penalty_layer.proofs.Bounds.{within_limits, all_within}
 use Rattle.penalty_layer.proofs.Admitted.{nodes_within}
-use Rattle.term_table.proofs.Filling.{fills_as, fills_same, room_as, room_first, room_next, room_same}
 use Rattle.penalty_layer.proofs.Sets.{problem_sets}
 use Rattle.penalty_layer.proofs.adding.add_contributions.Given.{Over}
 use Rattle.penalty_layer.proofs.adding.add_contributions.Goals.{In_ok-gather, In_ok-add_products}
@@ -37,9 +24,8 @@ room_for_products g c =
     let p = c.args.problem.now in
     room_next g.T.Gather.takes g.T.Gather.holds c.args.terms.now c.gather.new.self (contributions p)
     (([], p.constant) ∷ []) (others p) refl
-    (fills_as g.T.Gather.takes g.T.Gather.holds _ _ [] _ p.constant _ refl
-    (to_z-of_z w128 c.problem.inside.constant (search rules)
-    ∙ ap (λ (q : ProblemContent). q.constant) c.problem.view_is)
+    (fills_as g.T.Gather.takes g.T.Gather.holds _ _ _ _ _ _ refl
+    (to_z-of_z w128 c.problem.inside.constant (search rules) ∙ ap (λ (q : ProblemContent). q.constant) c.problem.view_is)
     c.in_ok-gather.ensures.added c.in_ok-gather.ensures.takes) c.requires.room
 
 -- after the products there is room for the clauses and the squares
@@ -85,17 +71,10 @@ add_clauses-requires-clause-room g c =
     (room_for_clauses g at.In_ok-add_products (room_for_products g at.In_ok-gather)))
 
 pub add_constraints-requires-clause-sets : goal.add_constraints-requires-clause-sets
-add_constraints-requires-clause-sets g c =
-    subst (λ (q : ProblemContent). All (λ (k : Constraint). All (λ (t : Product). IsSet t.literals) k.products) q.constraints)
-    (sym c.problem.view_is) (problem_sets c.args.problem.now c.requires.admits)
+add_constraints-requires-clause-sets g c = grind (arith, nat_tests, problem_sets)
 
 pub add_constraints-requires-clause-narrow : goal.add_constraints-requires-clause-narrow
-add_constraints-requires-clause-narrow g c =
-    omega (
-      arith,
-      ap node_count c.problem.view_is,
-      nodes_within c.args.problem.now c.requires.admits,
-    )
+add_constraints-requires-clause-narrow g c = grind (arith, nat_tests, nodes_within)
 
 pub add_constraints-requires-clause-small : goal.add_constraints-requires-clause-small
 add_constraints-requires-clause-small g c =
@@ -110,8 +89,7 @@ add_constraints-requires-clause-room g c =
     let p = c.args.problem.now in
     let at = goal.at.add_constraints-requires-clause-room g c in
     let third =
-    fills_same g.T.Gather.takes g.T.Gather.holds c.add_products.new.terms c.add_clauses.new.terms _
-    (clause_terms p)
+    fills_same _ _ _ _ _ _
     (λ i. map (clause_term (c.penalty-penalty.ensures.value i)) (c.problem.view_is i).clauses)
     c.in_ok-add_clauses.ensures in
     room_same g.T.Gather.takes c.add_clauses.new.terms (squared_terms p) _

@@ -1,6 +1,4 @@
-use Rattle.std.proofs.Common.{map}
-use Rattle.penalty_layer.specs.Squares.{product_term}
-use Rattle.term_table.proofs.Filling.{Rest}
+use Rattle.penalty_layer.proofs.Common.{map, product_term, Rest}
 use Rattle.penalty_layer.proofs.adding.add_products.Given as goal
 
 -- the products so far were added

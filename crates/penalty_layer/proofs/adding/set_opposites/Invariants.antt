@@ -1,5 +1,4 @@
-use Rattle.std.proofs.Common.{◌≡◌, ◌++◌, map}
-use Rattle.penalty_layer.specs.Penalty.{opposite}
+use Rattle.penalty_layer.proofs.Common.{◌≡◌, ◌++◌, map, opposite}
 use Rattle.penalty_layer.proofs.adding.set_opposites.Given as goal
 
 -- the complements so far, with those of the literals that are left, are all

@@ -1,14 +1,4 @@
-use Rattle.std.proofs.Common.{◌≡◌, ◌+◌, ◌*◌, ◌^◌, ◌∙◌, ◌++◌, ap, subst, sym, rules, arith, ℕ, List, All}
-use Rattle.std.specs.List.{sum_by}
-use Rattle.std.proofs.lemmas.List.Elements.{All-head, All-tail}
-use Rattle.std.proofs.lemmas.List.Sums.{sum_by-cons}
-use Rattle.problem_form.specs.declared.terms.Constraint.{Constraint}
-use Rattle.problem_form.specs.Problems.{constraint_total}
-use Rattle.problem_form.specs.Limits.{reach, slack_bits}
-use Rattle.term_table.specs.Terms.{Term, terms_total}
-use Rattle.penalty_layer.specs.Sets.{IsSet}
-use Rattle.penalty_layer.specs.Squares.{square_terms, slack_form, constraint_terms}
-use Rattle.term_table.proofs.Filling.{fills_same, rest_all, rest_more, rest_none, rest_room, room_same, Rest}
+use Rattle.penalty_layer.proofs.Common.{nat_tests, ◌≡◌, ◌+◌, ◌*◌, ◌^◌, ◌∙◌, ◌++◌, ap, subst, sym, rules, arith, ℕ, List, All, sum_by, All-head, All-tail, sum_by-cons, Constraint, constraint_total, reach, slack_bits, Term, terms_total, IsSet, square_terms, slack_form, constraint_terms, fills_same, rest_all, rest_more, rest_none, rest_room, room_same, Rest}
 use Rattle.penalty_layer.proofs.Sets.{slack_form-sets}
 use Rattle.penalty_layer.proofs.Sums.{slack_form-total}
 use Rattle.penalty_layer.proofs.constraints.add_squares.Goals as goal
@@ -32,12 +22,7 @@ loop-constraint-init g c =
 
 pub fill-requires-clause-small : goal.fill-requires-clause-small
 fill-requires-clause-small g c =
-    omega (
-      arith,
-      c.loop-constraint.invariant.totals,
-      ap (sum_by constraint_total) c.in-Some.ensures.steps,
-      sum_by-cons constraint_total c.in-Some.constraint c.next.new.self,
-    )
+    omega (arith, ap (sum_by constraint_total) c.in-Some.ensures.steps, sum_by-cons)
 
 pub add_square-requires-clause-parts : goal.add_square-requires-clause-parts
 add_square-requires-clause-parts g c =
@@ -69,48 +54,29 @@ add_square-requires-clause-room g c =
     let k = c.in-Some.constraint in
     let next = c.loop-constraint.next in
     room_same g.T.Gather.takes c.loop-constraint.terms _ _ (ap (square_terms n) (sym c.in_ok-fill.ensures))
-    (rest_room g.T.Gather.takes g.T.Gather.holds c.args.terms.now c.loop-constraint.terms
-    (constraint_terms n next c.loop-constraint.constraint-iterator)
-    (constraint_terms n (next + slack_bits k) c.next.new.self)
-    (constraint_terms n c.args.first c.args.constraints.now) (square_terms n (slack_form next k))
-    (ap (constraint_terms n next) c.in-Some.ensures.steps) c.loop-constraint.invariant.rest c.requires.room)
+    (rest_room _ _ _ _ _ _ _ (square_terms n (slack_form next k))
+    (ap (constraint_terms n next) c.in-Some.ensures.steps) c.loop-constraint.invariant.rest
+    c.requires.room)
 
 pub slack_bits_of-next-requires : goal.slack_bits_of-next-requires
 slack_bits_of-next-requires g c =
-    omega (
-      arith,
-      c.loop-constraint.invariant.totals,
-      ap (sum_by constraint_total) c.in-Some.ensures.steps,
-      sum_by-cons constraint_total c.in-Some.constraint c.next.new.self,
-    )
+    omega (arith, ap (sum_by constraint_total) c.in-Some.ensures.steps, sum_by-cons)
 
 pub overflow_add-next : goal.overflow_add-next
-overflow_add-next g c =
-    omega (
-      arith,
-      c.requires.narrow,
-      c.slack_bits_of-next.ensures,
-      c.loop-constraint.invariant.place,
-      ap (sum_by slack_bits) c.in-Some.ensures.steps,
-      sum_by-cons slack_bits c.in-Some.constraint c.next.new.self,
-    )
+overflow_add-next g c = omega (arith, ap (sum_by slack_bits) c.in-Some.ensures.steps, sum_by-cons)
 
 pub loop-constraint-preserved : goal.loop-constraint-preserved
 loop-constraint-preserved g c =
-    let Takes = g.T.Gather.takes in
-    let Holds = g.T.Gather.holds in
     let n = c.args.factor in
     let k = c.in-Some.constraint in
     let left = c.loop-constraint.constraint-iterator in
     let rest = c.next.new.self in
     let step = c.in-Some.ensures.steps in
     let next = c.loop-constraint.next in
-    let now = c.loop-constraint.terms in
-    let new = c.add_square.new.terms in
     let count = c.slack_bits_of-next.ensures in
+    let so_far = c.loop-constraint.invariant in
     let one =
-    fills_same Takes Holds now new _ (square_terms n (slack_form next k))
-    (ap (square_terms n) c.in_ok-fill.ensures) c.in_ok-add_square.ensures in
+    fills_same _ _ _ _ _ _ (ap (square_terms n) c.in_ok-fill.ensures) c.in_ok-add_square.ensures in
     let terms : constraint_terms n next left
     ≡ square_terms n (slack_form next k) ++ constraint_terms n (next + c.slack_bits_of-next.result) rest =
     ap (constraint_terms n next) step
@@ -118,38 +84,12 @@ loop-constraint-preserved g c =
     let size : Constraint → ℕ = λ j. n * reach j ^ 2 in
     let P : Constraint → Type 0 = λ j. All (λ t. IsSet t.literals) j.products in
     record {
-      rest =
-          rest_more Takes Holds c.args.terms.now now new (constraint_terms n next left)
-          (constraint_terms n (next + c.slack_bits_of-next.result) rest)
-          (constraint_terms n c.args.first c.args.constraints.now) _ terms one c.loop-constraint.invariant.rest;
-      small =
-          omega (
-            arith,
-            c.loop-constraint.invariant.small,
-            ap (sum_by size) step,
-            sum_by-cons size k rest,
-          );
-      place =
-          omega (
-            arith,
-            count,
-            c.loop-constraint.invariant.place,
-            ap (sum_by slack_bits) step,
-            sum_by-cons slack_bits k rest,
-          );
-      sets = All-tail P k rest (subst (λ (ks : List Constraint). All P ks) step c.loop-constraint.invariant.sets);
-      totals =
-          omega (
-            arith,
-            c.loop-constraint.invariant.totals,
-            ap (sum_by constraint_total) step,
-            sum_by-cons constraint_total k rest,
-          );
+      rest = rest_more _ _ _ _ _ _ _ _ _ terms one so_far.rest;
+      small = omega (arith, so_far.small, ap (sum_by size) step, sum_by-cons size k rest);
+      place = omega (arith, count, so_far.place, ap (sum_by slack_bits) step, sum_by-cons slack_bits k rest);
+      sets = All-tail P k rest (subst (λ (ks : List Constraint). All P ks) step so_far.sets);
+      totals = omega (arith, so_far.totals, ap (sum_by constraint_total) step, sum_by-cons constraint_total k rest);
     }
 
 pub returns : goal.returns
-returns g c =
-    rest_all g.T.Gather.takes g.T.Gather.holds c.args.terms.now c.loop-constraint.terms
-    (constraint_terms c.args.factor c.loop-constraint.next c.loop-constraint.constraint-iterator)
-    (constraint_terms c.args.factor c.args.first c.args.constraints.now)
-    (ap (constraint_terms c.args.factor c.loop-constraint.next) c.in-None.ensures.steps.0) c.loop-constraint.invariant.rest
+returns g c = grind (arith, nat_tests, rest_all)

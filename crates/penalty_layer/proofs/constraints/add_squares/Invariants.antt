@@ -1,10 +1,4 @@
-use Rattle.std.proofs.Common.{◌≡◌, ◌+◌, ◌*◌, ◌≤◌, ◌<◌, ◌^◌, All}
-use Rattle.std.specs.List.{sum_by}
-use Rattle.problem_form.specs.Problems.{constraint_total}
-use Rattle.problem_form.specs.Limits.{reach, slack_bits}
-use Rattle.penalty_layer.specs.Sets.{IsSet}
-use Rattle.penalty_layer.specs.Squares.{constraint_terms}
-use Rattle.term_table.proofs.Filling.{Rest}
+use Rattle.penalty_layer.proofs.Common.{◌≡◌, ◌+◌, ◌*◌, ◌≤◌, ◌<◌, ◌^◌, All, sum_by, constraint_total, reach, slack_bits, IsSet, constraint_terms, Rest}
 use Rattle.penalty_layer.proofs.constraints.add_squares.Given as goal
 
 -- the squares so far were added, and those of the constraints that are left are small

@@ -1,8 +1,4 @@
-use Rattle.std.proofs.Common.{◌≡◌, ◌+◌, ◌<◌, ◌^◌}
-use Rattle.std.specs.List.{sum_by}
-use Rattle.problem_form.specs.Problems.{constraint_total}
-use Rattle.problem_form.specs.Limits.{slack_bits}
-use Rattle.penalty_layer.specs.Penalty.{node_count}
+use Rattle.penalty_layer.proofs.Common.{◌≡◌, ◌+◌, ◌<◌, ◌^◌, sum_by, constraint_total, slack_bits, node_count}
 use Rattle.penalty_layer.proofs.constraints.node_count.Given as goal
 
 -- the nodes so far, and the slack bits of the constraints that are left, are all

@@ -1,8 +1,4 @@
-use Rattle.std.proofs.Common.{Bool, List, [], subst}
-use Rattle.std.proofs.lemmas.List.{append-nil}
-use Rattle.penalty_layer.specs.Slack.{value_bits}
-use Rattle.penalty_layer.specs.laws.SlackValues.{HasBits, HasBits-front, slack_reaches, slack_value-le}
-use Rattle.penalty_layer.specs.laws.SquareCosts.{constraint-cost}
+use Rattle.penalty_layer.proofs.Common.{Bool, List, [], subst, append-nil, value_bits, HasBits, HasBits-front, slack_reaches, slack_value-le, constraint-cost}
 use Rattle.penalty_layer.proofs.WholeSquares.{squares_are_products}
 use Rattle.penalty_layer.proofs.laws.laws_of_squares.Goals as goal
 

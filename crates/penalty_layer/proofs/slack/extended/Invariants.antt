@@ -1,7 +1,4 @@
-use Rattle.std.proofs.Common.{◌≡◌, ◌<◌, ◌^◌, ◌++◌}
-use Rattle.std.specs.List.{flat_map, sum_by}
-use Rattle.problem_form.specs.Problems.{constraint_total}
-use Rattle.penalty_layer.specs.Squares.{slack_state}
+use Rattle.penalty_layer.proofs.Common.{◌≡◌, ◌<◌, ◌^◌, ◌++◌, flat_map, sum_by, constraint_total, slack_state}
 use Rattle.penalty_layer.proofs.slack.extended.Given as goal
 
 -- the bits so far, and those of the constraints that are left, are all

@@ -1,5 +1,4 @@
-use Rattle.std.proofs.Common.{◌≡◌, ◌-◌, ◌++◌}
-use Rattle.penalty_layer.specs.Slack.{digit_bits}
+use Rattle.penalty_layer.proofs.Common.{◌≡◌, ◌-◌, ◌++◌, digit_bits}
 use Rattle.penalty_layer.proofs.slack.push_digits.Given as goal
 
 -- the digits so far, and those of the rest, are all

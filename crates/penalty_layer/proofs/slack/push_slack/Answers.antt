@@ -1,13 +1,4 @@
-use Rattle.std.proofs.Common.{FitsSigned, ◌≡◌, ◌++◌, ◌-ℤ◌, Bool, List, OnOk, ℤ, subst, sym, ap, ◌∙◌, rules, arith, to_z, of_z}
-use Rattle.std.specs.Int.{w128}
-use Rattle.std.proofs.lemmas.Int.{ints, to_z-of_z, fits_signed_from_abs}
-use Rattle.problem_form.specs.declared.terms.Product.{Product}
-use Rattle.problem_form.specs.declared.terms.Constraint.{Constraint}
-use Rattle.problem_form.specs.Problems.{sum_of}
-use Rattle.problem_form.proofs.CostSizes.{sum_of-size}
-use Rattle.problem_form.proofs.CountedNumbers.{slack_range-le}
-use Rattle.penalty_layer.specs.Slack.{value_bits, clamped}
-use Rattle.penalty_layer.specs.Squares.{slack_state}
+use Rattle.penalty_layer.proofs.Common.{FitsSigned, ◌≡◌, ◌++◌, ◌-ℤ◌, Bool, List, OnOk, ℤ, subst, sym, ap, ◌∙◌, rules, arith, to_z, of_z, w128, ints, to_z-of_z, fits_signed_from_abs, Product, Constraint, sum_of, sum_of-size, slack_range-le, value_bits, clamped, slack_state}
 use Rattle.penalty_layer.proofs.slack.push_slack.Goals as goal
 
 pub overflow_sub-above : goal.overflow_sub-above

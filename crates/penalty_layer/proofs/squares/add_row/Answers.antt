@@ -1,10 +1,4 @@
-use Rattle.std.proofs.Common.{rules, ◌≡◌, ◌+◌, ◌*◌, ◌^◌, ◌∙◌, ap, sym, drop, unsigned_abs, arith, to_z, of_z, ◌*ℤ◌}
-use Rattle.std.specs.Int.{w128}
-use Rattle.std.proofs.lemmas.Int.{to_z-of_z}
-use Rattle.std.proofs.lemmas.List.{drop_all}
-use Rattle.term_table.specs.Terms.{Term}
-use Rattle.term_table.specs.Products.{products_with, union_terms}
-use Rattle.term_table.proofs.Filling.{fills_same, rest_all, rest_more, rest_none, rest_room, room_same}
+use Rattle.penalty_layer.proofs.Common.{nat_tests, rules, ◌≡◌, ◌*◌, ◌^◌, ◌∙◌, ap, sym, drop, unsigned_abs, arith, to_z, of_z, ◌*ℤ◌, w128, to_z-of_z, drop_all, Term, products_with, union_terms, fills_same, rest_all, rest_more, rest_none, rest_room, room_same}
 use Rattle.penalty_layer.proofs.SquareSteps.{part_at, row_step, row_small}
 use Rattle.penalty_layer.proofs.squares.add_row.Goals as goal
 
@@ -43,8 +37,7 @@ add_union-requires-clause-room g c =
     let product : to_z w128 (of_z w128 c.times.result) ≡ a *ℤ b =
     to_z-of_z w128 c.times.result (search rules) ∙ c.times.ensures ∙ ap (λ z. a *ℤ z) same in
     room_same g.T.Gather.takes c.loop-j.terms _ _ (ap (union_terms ls ks) (sym product))
-    (rest_room g.T.Gather.takes g.T.Gather.holds c.args.terms.now c.loop-j.terms (products_with t (drop j us))
-    (products_with t (drop (j + 1) us)) (products_with t (drop c.args.start us)) (union_terms ls ks (a *ℤ b))
+    (rest_room _ _ _ _ _ _ _ (union_terms ls ks (a *ℤ b))
     (row_step t us j (ks, b) c.at-other.ensures) c.loop-j.invariant.rest c.requires.room)
 
 pub loop-j-preserved : goal.loop-j-preserved
@@ -66,21 +59,10 @@ loop-j-preserved g c =
     let one = fills_same Takes Holds now new _ _ (ap (union_terms ls ks) product) c.in_ok-add_union.ensures in
     record {
       rest =
-          rest_more Takes Holds c.args.terms.now now new (products_with t (drop j us))
-          (products_with t (drop (j + 1) us)) (products_with t (drop c.args.start us)) _
-          (row_step t us j (ks, b) c.at-other.ensures) one c.loop-j.invariant.rest;
-      small =
-          omega (
-            arith,
-            row_small (unsigned_abs a) us j (ks, b) (2 ^ 97) c.at-other.ensures c.loop-j.invariant.small,
-          );
+          rest_more _ _ _ _ _ _ _ _ _ (row_step t us j (ks, b) c.at-other.ensures) one
+          c.loop-j.invariant.rest;
+      small = omega (arith, row_small (unsigned_abs a) us j (ks, b) (2 ^ 97) c.at-other.ensures c.loop-j.invariant.small);
     }
 
 pub returns : goal.returns
-returns g c =
-    let t : Term = (c.args.ls.now, c.args.coefficient.now) in
-    let us = c.args.parts.now in
-    rest_all g.T.Gather.takes g.T.Gather.holds c.args.terms.now c.loop-j.terms (products_with t (drop c.loop-j.j us))
-    (products_with t (drop c.args.start us))
-    (ap (products_with t) (drop_all c.loop-j.j us (omega (arith, c.len-j-end.ensures, c.loop-j-test.false))))
-    c.loop-j.invariant.rest
+returns g c = grind (arith, nat_tests, rest_all, drop_all)

@@ -1,7 +1,4 @@
-use Rattle.std.proofs.Common.{◌*◌, ◌≤◌, ◌^◌, unsigned_abs, drop}
-use Rattle.term_table.specs.Terms.{terms_total}
-use Rattle.term_table.specs.Products.{products_with}
-use Rattle.term_table.proofs.Filling.{Rest}
+use Rattle.penalty_layer.proofs.Common.{◌*◌, ◌≤◌, ◌^◌, unsigned_abs, drop, terms_total, products_with, Rest}
 use Rattle.penalty_layer.proofs.squares.add_row.Given as goal
 
 -- the products so far were added, and those that are left are small

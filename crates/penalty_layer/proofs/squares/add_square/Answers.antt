@@ -1,10 +1,4 @@
-use Rattle.std.proofs.Common.{rules, ◌≡◌, ◌+◌, ◌*◌, ◌^◌, ◌∙◌, ◌∷◌, [], ap, sym, refl, drop, unsigned_abs, pos, arith, to_z, of_z, ◌*ℤ◌}
-use Rattle.std.specs.Int.{w128}
-use Rattle.std.proofs.lemmas.Int.{to_z-of_z}
-use Rattle.term_table.specs.Terms.{Term, terms_total}
-use Rattle.term_table.specs.Products.{scaled, products_with}
-use Rattle.penalty_layer.specs.Squares.{square_terms}
-use Rattle.term_table.proofs.Filling.{fills_as, fills_more, fills_same, rest_more, rest_room, room_as, room_first, room_next, room_same}
+use Rattle.penalty_layer.proofs.Common.{rules, ◌≡◌, ◌+◌, ◌*◌, ◌^◌, ◌∙◌, ◌∷◌, [], ap, sym, refl, drop, unsigned_abs, pos, arith, to_z, of_z, ◌*ℤ◌, w128, to_z-of_z, Term, terms_total, scaled, products_with, fills_as, fills_more, fills_same, rest_more, rest_room, room_as, room_first, room_next, room_same}
 use Rattle.penalty_layer.proofs.SquareSteps.{part_at, square_step, square_small, once_small, scaled_size}
 use Rattle.penalty_layer.proofs.squares.add_square.Goals as goal
 
@@ -32,10 +26,8 @@ gather-requires g c =
     to_z-of_z w128 c.squared.result (search rules) ∙ c.squared.ensures ∙ ap (λ z. pos n *ℤ (z *ℤ z)) same in
     room_as g.T.Gather.takes c.loop-i.terms u.0 _ (pos n *ℤ (a *ℤ a)) _ refl own
     (room_first g.T.Gather.takes c.loop-i.terms ((u.0, pos n *ℤ (a *ℤ a)) ∷ row) ((u.0, pos n *ℤ (a *ℤ a)) ∷ []) row refl
-    (rest_room g.T.Gather.takes g.T.Gather.holds c.args.terms.now c.loop-i.terms
-    (square_terms n (drop i us)) (square_terms n (drop (i + 1) us)) (square_terms n us)
-    ((u.0, pos n *ℤ (a *ℤ a)) ∷ row) (square_step n us i u c.at-coefficient.ensures) c.loop-i.invariant.rest
-    c.requires.room))
+    (rest_room _ _ _ _ _ _ _ ((u.0, pos n *ℤ (a *ℤ a)) ∷ row)
+    (square_step n us i u c.at-coefficient.ensures) c.loop-i.invariant.rest c.requires.room))
 
 pub scaled-requires-clause-small : goal.scaled-requires-clause-small
 scaled-requires-clause-small g c =
@@ -89,9 +81,8 @@ add_row-requires-clause-room g c =
     c.in_ok-gather.ensures.takes in
     room_same g.T.Gather.takes next row _ (ap (λ z. products_with (u.0, z) (drop (i + 1) us)) (sym twice))
     (room_next g.T.Gather.takes g.T.Gather.holds now next (square ∷ row) (square ∷ []) row refl first
-    (rest_room g.T.Gather.takes g.T.Gather.holds c.args.terms.now now
-    (square_terms n (drop i us)) (square_terms n (drop (i + 1) us)) (square_terms n us)
-    (square ∷ row) (square_step n us i u c.at-coefficient.ensures) c.loop-i.invariant.rest c.requires.room))
+    (rest_room _ _ _ _ _ _ _ (square ∷ row) (square_step n us i u c.at-coefficient.ensures)
+    c.loop-i.invariant.rest c.requires.room))
 
 pub loop-i-preserved : goal.loop-i-preserved
 loop-i-preserved g c =
@@ -121,12 +112,7 @@ loop-i-preserved g c =
     let both = fills_more Takes Holds now next new (square ∷ []) row first second in
     record {
       rest =
-          rest_more Takes Holds c.args.terms.now now new (square_terms n (drop i us))
-          (square_terms n (drop (i + 1) us)) (square_terms n us) _
-          (square_step n us i u c.at-coefficient.ensures) both c.loop-i.invariant.rest;
-      small =
-          omega (
-            arith,
-            square_small n us i u (2 ^ 97) c.at-coefficient.ensures c.loop-i.invariant.small,
-          );
+          rest_more _ _ _ _ _ _ _ _ _ (square_step n us i u c.at-coefficient.ensures) both
+          c.loop-i.invariant.rest;
+      small = omega (arith, square_small n us i u (2 ^ 97) c.at-coefficient.ensures c.loop-i.invariant.small);
     }

@@ -1,7 +1,4 @@
-use Rattle.std.proofs.Common.{◌*◌, ◌≤◌, ◌^◌, drop}
-use Rattle.term_table.specs.Terms.{terms_total}
-use Rattle.penalty_layer.specs.Squares.{square_terms}
-use Rattle.term_table.proofs.Filling.{Rest}
+use Rattle.penalty_layer.proofs.Common.{◌*◌, ◌≤◌, ◌^◌, drop, terms_total, square_terms, Rest}
 use Rattle.penalty_layer.proofs.squares.add_square.Given as goal
 
 -- the terms so far were added, and the square of the parts that are left is small

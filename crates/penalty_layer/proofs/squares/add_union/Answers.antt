@@ -1,19 +1,4 @@
-use Rattle.std.proofs.Common.{rules, arith, ◌≡◌, ℤ, ◌∷◌, ◌++◌, [], refl, List, Bool, true, false, length, get_or, if◌then◌else◌, subst, sym, ap, ◌∙◌}
-use Rattle.std.specs.Result.{OnOk}
-use Rattle.std.specs.Int.{w128}
-use Rattle.std.proofs.lemmas.Int.{to_z-of_z}
-use Rattle.std.proofs.lemmas.Bool.{eqb-true}
-use Rattle.std.proofs.lemmas.List.{nil_from_length}
-use Rattle.std.specs.List.Sorted.{IsStrictlySortedBy}
-use Rattle.literal_lists.specs.declared.literal.Literal.{Literal}
-use Rattle.literal_lists.specs.Literals.{literal_cmp, has_clash}
-use Rattle.literal_lists.proofs.LiteralSets.{literal_set-ascends}
-use Rattle.term_table.specs.Terms.{Term}
-use Rattle.term_table.specs.Products.{union, union_terms}
-use Rattle.term_table.specs.Rooms.{Fills}
-use Rattle.term_table.proofs.PairUnions.{union_apart}
-use Rattle.term_table.proofs.Filled.{fills_if_ok}
-use Rattle.term_table.proofs.Filling.{fills_none, fills_same, room_as, room_same}
+use Rattle.penalty_layer.proofs.Common.{nat_tests, rules, arith, ◌≡◌, ℤ, ◌∷◌, [], refl, List, false, length, get_or, sym, ap, ◌∙◌, w128, to_z-of_z, eqb-true, nil_from_length, Literal, has_clash, literal_set-ascends, union, union_terms, union_apart, fills_if_ok, fills_none, fills_same, room_as, room_same}
 use Rattle.penalty_layer.proofs.SquareSteps.{union_empty-left, union_empty-right}
 use Rattle.penalty_layer.proofs.squares.add_union.Given.{Over}
 use Rattle.penalty_layer.proofs.squares.add_union.Goals.{Then-is_empty, Then-is_empty-2, Else-clashes}
@@ -33,21 +18,10 @@ first_ones : (ls ks : List Literal) (c d : ℤ) → length ls ≡ 1 → length k
 first_ones ls ks c d one other same = λ i. union_terms (lone ls one i) (lone ks other i) (sym same i)
 
 pub add_pair-requires : goal.add_pair-requires
-add_pair-requires g c =
-    let one : length c.args.ls.now ≡ 1 = omega arith in
-    let other : length c.args.ks.now ≡ 1 = omega arith in
-    room_same g.T.Gather.takes c.args.terms.now _ _
-    (first_ones c.args.ls.now c.args.ks.now c.args.coefficient _ one other
-    (to_z-of_z w128 c.args.coefficient (search rules))) c.requires.room
+add_pair-requires g c = grind (arith, nat_tests, room_same, first_ones, to_z-of_z)
 
 pub returns-then-ks-eq1 : goal.returns-then-ks-eq1
-returns-then-ks-eq1 g c =
-    let one : length c.args.ls.now ≡ 1 = omega arith in
-    let other : length c.args.ks.now ≡ 1 = omega arith in
-    subst
-    (λ (ts : List Term). OnOk c.add_pair.result (Fills g.T.Gather.takes g.T.Gather.holds c.args.terms.now c.add_pair.new.terms ts))
-    (sym (first_ones c.args.ls.now c.args.ks.now c.args.coefficient _ one other
-    (to_z-of_z w128 c.args.coefficient (search rules)))) c.add_pair.ensures
+returns-then-ks-eq1 g c = grind (arith, nat_tests, first_ones, to_z-of_z)
 
 -- where the second set is empty, the first is the union
 first_alone : (g : Over) (c : Then-is_empty g)
@@ -68,8 +42,7 @@ second_alone g c =
     ∙ union_empty-left c.args.ks.now c.args.coefficient c.requires.right
 
 -- where there is no clash, the literals of both are
-both : (g : Over) (c : Else-clashes g)
-    → union_terms c.args.ls.now c.args.ks.now c.args.coefficient
+both : (g : Over) (c : Else-clashes g) → union_terms c.args.ls.now c.args.ks.now c.args.coefficient
     ≡ (union c.args.ls.now c.args.ks.now, c.args.coefficient) ∷ []
 both g c =
     union_apart c.args.ls.now c.args.ks.now _ c.args.coefficient refl
@@ -107,30 +80,13 @@ returns-then-is_empty-2 g c =
     own.ensures.added own.ensures.takes)
 
 pub clashes-requires : goal.clashes-requires
-clashes-requires g c =
-    subst (λ (us : List Literal). IsStrictlySortedBy literal_cmp us) (sym (c.deref.ensures.value ∙ c.in_ok-unite.ensures))
-    (literal_set-ascends (c.args.ls.now ++ c.args.ks.now))
+clashes-requires g c = grind (arith, nat_tests, literal_set-ascends)
 
 pub returns-then-clashes : goal.returns-then-clashes
-returns-then-clashes g c =
-    let clash : has_clash (union c.args.ls.now c.args.ks.now) ≡ true =
-    ap has_clash (sym (c.deref.ensures.value ∙ c.in_ok-unite.ensures)) ∙ sym c.clashes.ensures ∙ c.if-clashes.true in
-    fills_same g.T.Gather.takes g.T.Gather.holds c.args.terms.now c.args.terms.now [] _
-    (sym (ap (λ (b : Bool). if b then [] else (union c.args.ls.now c.args.ks.now, c.args.coefficient) ∷ []) clash))
-    (fills_none g.T.Gather.takes g.T.Gather.holds c.args.terms.now)
+returns-then-clashes g c = grind (arith, nat_tests, fills_same, fills_none)
 
 pub gather-requires-2 : goal.gather-requires-2
-gather-requires-2 g c =
-    room_as g.T.Gather.takes c.args.terms.now (union c.args.ls.now c.args.ks.now) _
-    c.args.coefficient _ (c.deref-2.ensures.value ∙ c.in_ok-unite.ensures)
-    (to_z-of_z w128 c.args.coefficient (search rules))
-    (room_same g.T.Gather.takes c.args.terms.now _ _
-    (both g (goal.at.gather-requires-2 g c).Else-clashes) c.requires.room)
+gather-requires-2 g c = grind (arith, nat_tests, room_as, to_z-of_z, room_same, both)
 
 pub returns : goal.returns
-returns g c =
-    rw (both g (goal.at.returns g c).Else-clashes)
-    (fills_if_ok g.T.Gather.takes g.T.Gather.holds c.args.terms.now c.gather-2.new.self c.gather-2.result
-    _ _ c.args.coefficient _ (c.deref-2.ensures.value ∙ c.in_ok-unite.ensures)
-    (to_z-of_z w128 c.args.coefficient (search rules)) c.gather-2.ensures.added
-    c.gather-2.ensures.takes)
+returns g c = grind (arith, nat_tests, both, fills_if_ok, to_z-of_z)

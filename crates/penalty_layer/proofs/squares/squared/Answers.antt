@@ -1,7 +1,4 @@
-use Rattle.std.proofs.Common.{rules, ◌≡◌, ◌*◌, ◌∙◌, ap, unsigned_abs, pos, ◌*ℤ◌, arith, to_z, of_z}
-use Rattle.std.specs.Int.{w128}
-use Rattle.std.proofs.lemmas.Int.{to_z-of_z}
-use Rattle.base.proofs.Products.{times_assoc}
+use Rattle.penalty_layer.proofs.Common.{rules, ◌≡◌, ◌*◌, ◌∙◌, ap, unsigned_abs, pos, ◌*ℤ◌, arith, to_z, of_z, w128, to_z-of_z, times_assoc}
 use Rattle.penalty_layer.proofs.SquareSteps.{once_small, scaled_size}
 use Rattle.penalty_layer.proofs.squares.squared.Goals as goal
 

@@ -1,7 +1,4 @@
-use Rattle.std.proofs.Common.{◌≡◌, ◌≤◌, unsigned_abs, take}
-use Rattle.base.specs.Sums.{total_by}
-use Rattle.bits_model.specs.Output.{bits_energy, weight_total}
-use Rattle.quad_form.specs.Quads.{node_entries}
+use Rattle.quad_form.proofs.Common.{◌≡◌, ◌≤◌, unsigned_abs, take, total_by, bits_energy, weight_total, node_entries}
 use Rattle.quad_form.proofs.energy.diagonal_energy.Given as goal
 
 -- the energy of the nodes so far, and that it is within their weights

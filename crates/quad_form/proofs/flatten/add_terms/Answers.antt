@@ -1,8 +1,5 @@
-use Rattle.std.proofs.Common.{rules, ◌≡◌, ◌∷◌, [], refl}
-use Rattle.std.specs.Int.{w128}
-use Rattle.std.proofs.lemmas.Int.{to_z-of_z}
+use Rattle.quad_form.proofs.Common.{rules, ◌≡◌, ◌∷◌, [], refl, w128, to_z-of_z, fills_as, rest_more, rest_room, room_as}
 use Rattle.std.proofs.lemmas.Map.Iter.{rest_more as items_more}
-use Rattle.term_table.proofs.Filling.{fills_as, rest_more, rest_room, room_as}
 use Rattle.quad_form.proofs.flatten.add_terms.Given.{Over}
 use Rattle.quad_form.proofs.flatten.add_terms.Goals.{In-Some}
 use Rattle.quad_form.proofs.flatten.add_terms.Goals as goal

@@ -1,5 +1,4 @@
-use Rattle.std.proofs.Common.{ℕ, [], subst}
-use Rattle.quad_form.specs.Sums.{AreSummed}
+use Rattle.quad_form.proofs.Common.{arith, nat_tests, ℕ, [], subst, AreSummed}
 use Rattle.quad_form.proofs.HeldSums.{room-table}
 use Rattle.quad_form.proofs.flatten.sums_of.Goals.{In_ok-sums}
 use Rattle.quad_form.proofs.flatten.sums_of.Goals as goal
@@ -11,10 +10,7 @@ none c =
     c.in_ok-sums.ensures.empty
 
 pub add_terms-requires : goal.add_terms-requires
-add_terms-requires c =
-    rw c.terms-terms.ensures.terms
-    (room-table c.args.table.now.content c.in_ok-sums.sums c.terms-terms.ensures.kept c.terms-terms.ensures.low
-    c.requires.total (none (goal.at.add_terms-requires c).In_ok-sums))
+add_terms-requires c = grind (arith, nat_tests, room-table, none)
 
 pub returns-clause-summed : goal.returns-clause-summed
 returns-clause-summed c =

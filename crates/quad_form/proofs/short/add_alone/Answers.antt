@@ -1,7 +1,4 @@
-use Rattle.std.proofs.Common.{rules, ◌≡◌, ◌≤◌, ◌∙◌, ap, arith, to_z, of_z, unsigned_abs}
-use Rattle.std.specs.Int.{w128}
-use Rattle.std.proofs.lemmas.Int.{to_z-of_z}
-use Rattle.quad_form.specs.Short.{signed}
+use Rattle.quad_form.proofs.Common.{rules, ◌≡◌, ◌≤◌, ◌∙◌, ap, arith, to_z, of_z, unsigned_abs, w128, to_z-of_z, signed}
 use Rattle.quad_form.proofs.HeldSums.{gain-one}
 use Rattle.quad_form.proofs.ShortTerms.{size-signed}
 use Rattle.quad_form.proofs.short.add_alone.Goals as goal

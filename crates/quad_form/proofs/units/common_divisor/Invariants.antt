@@ -1,5 +1,4 @@
-use Rattle.std.proofs.Common.{ℕ}
-use Rattle.std.specs.Int.{IsGcd}
+use Rattle.quad_form.proofs.Common.{ℕ, IsGcd}
 use Rattle.quad_form.proofs.units.common_divisor.Given as goal
 
 -- the numbers left have no other greatest common divisor than those at first

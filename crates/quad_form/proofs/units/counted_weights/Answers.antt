@@ -1,8 +1,4 @@
-use Rattle.std.proofs.Common.{◌≡◌, ℤ, List, pos, ◌≤ℤ◌, map, FitsSigned, to_z, of_z, sym, ap, ◌∙◌, subst, rules}
-use Rattle.std.specs.Int.{w128}
-use Rattle.std.proofs.lemmas.Int.{to_z-of_z}
-use Rattle.bits_model.specs.declared.output.Entry.{Entry}
-use Rattle.quad_form.specs.Units.{unit_of, weights_of, counted_in, entry_in}
+use Rattle.quad_form.proofs.Common.{arith, nat_tests, ◌≡◌, ℤ, List, pos, ◌≤ℤ◌, FitsSigned, to_z, of_z, sym, ap, ◌∙◌, subst, rules, w128, to_z-of_z, Entry, unit_of, weights_of}
 use Rattle.quad_form.proofs.Divisors.{numbers_in-one, couplers_in-one}
 use Rattle.quad_form.proofs.ReducedForms.{one_le_quad_unit}
 use Rattle.quad_form.proofs.units.counted_weights.Goals as goal
@@ -31,17 +27,7 @@ divide-requires c =
     unit_low _ _ _ c.args.couplers (search rules) c.greatest_unit-unit.ensures c.as_slice.ensures
 
 pub returns-then-unit-eq1-clause-nodes : goal.returns-then-unit-eq1-clause-nodes
-returns-then-unit-eq1-clause-nodes c =
-    let one : c.greatest_unit-unit.result ≡ pos 1 = search rules in
-    let found = c.greatest_unit-unit.ensures
-    ∙ ap (λ ws. unit_of (weights_of ws c.args.couplers)) c.as_slice.ensures in
-    sym (ap (λ u. map (counted_in u) c.args.nodes) (sym found ∙ one) ∙ numbers_in-one c.args.nodes)
+returns-then-unit-eq1-clause-nodes c = grind (arith, nat_tests, numbers_in-one)
 
 pub returns-then-unit-eq1-clause-couplers : goal.returns-then-unit-eq1-clause-couplers
-returns-then-unit-eq1-clause-couplers c =
-    let one : c.greatest_unit-unit.result ≡ pos 1 = search rules in
-    let found = c.greatest_unit-unit.ensures
-    ∙ ap (λ ws. unit_of (weights_of ws c.args.couplers)) c.as_slice.ensures in
-    sym
-    (ap (λ u. map (entry_in u) c.args.couplers) (sym found ∙ one)
-    ∙ couplers_in-one c.args.couplers)
+returns-then-unit-eq1-clause-couplers c = grind (arith, nat_tests, couplers_in-one)

@@ -1,8 +1,4 @@
-use Rattle.std.proofs.Common.{◌≡◌, to_z, of_z, rules, ℤ, pos, unsigned_abs, List, take, drop, get_or, subst, ap, ◌∙◌}
-use Rattle.std.specs.Int.{w128}
-use Rattle.std.proofs.lemmas.Int.{to_z-of_z}
-use Rattle.std.proofs.lemmas.List.{take_more, take-append-drop}
-use Rattle.quad_form.specs.Units.{IsCommonDivisor}
+use Rattle.quad_form.proofs.Common.{◌≡◌, to_z, of_z, rules, ℤ, pos, unsigned_abs, List, take, drop, get_or, subst, ap, ◌∙◌, w128, to_z-of_z, take_more, take-append-drop, IsCommonDivisor}
 use Rattle.quad_form.proofs.Divisors.{divisor_more, divisor_stays_one}
 use Rattle.quad_form.proofs.units.divisor_of_nodes.Goals as goal
 

@@ -1,5 +1,4 @@
-use Rattle.std.proofs.Common.{take}
-use Rattle.quad_form.specs.Units.{IsCommonDivisor}
+use Rattle.quad_form.proofs.Common.{take, IsCommonDivisor}
 use Rattle.quad_form.proofs.units.divisor_of_nodes.Given as goal
 
 -- it is that of the weights so far

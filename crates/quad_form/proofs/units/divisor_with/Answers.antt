@@ -1,15 +1,10 @@
-use Rattle.std.proofs.Common.{◌≡◌, [], ℕ, ℤ, List, map, unsigned_abs, to_z, of_z, subst, sym, ap, ◌∙◌, rules}
-use Rattle.std.specs.Int.{w128, IsGcd}
-use Rattle.std.proofs.lemmas.Int.{to_z-of_z}
-use Rattle.quad_form.specs.Units.{IsCommonDivisor, weight_of}
+use Rattle.quad_form.proofs.Common.{arith, ints, nat_tests, ◌≡◌, ℤ, List, map, unsigned_abs, to_z, of_z, subst, sym, ap, ◌∙◌, rules, w128, IsGcd, to_z-of_z, IsCommonDivisor, weight_of}
 use Rattle.quad_form.proofs.Divisors.{divisor_before, divisor_of_one, divisor_at_first}
 use Rattle.quad_form.proofs.units.divisor_with.Goals as goal
 
 pub returns-then-divisor-eq1 : goal.returns-then-divisor-eq1
 returns-then-divisor-eq1 c =
-    c.loop-coupler.invariant 1
-    (subst (λ (k : ℕ). IsCommonDivisor k (map weight_of c.loop-coupler.coupler-iterator) 1) (sym c.if-divisor-eq1.true)
-    (divisor_of_one (map weight_of c.loop-coupler.coupler-iterator)))
+    grind (arith, nat_tests, divisor_of_one (map weight_of c.loop-coupler.coupler-iterator))
 
 pub loop-coupler-preserved : goal.loop-coupler-preserved
 loop-coupler-preserved c =
@@ -23,8 +18,4 @@ loop-coupler-preserved c =
     (divisor_before c.loop-coupler.divisor e.weight (map weight_of c.next.new.self) c.divisor_after-divisor.result d gcd rest))
 
 pub returns : goal.returns
-returns c =
-    let none : map weight_of c.loop-coupler.coupler-iterator ≡ [] = ap (map weight_of) c.in-None.ensures.steps.0 in
-    c.loop-coupler.invariant c.loop-coupler.divisor
-    (subst (λ (ws : List ℤ). IsCommonDivisor c.loop-coupler.divisor ws c.loop-coupler.divisor) (sym none)
-    (divisor_at_first c.loop-coupler.divisor))
+returns c = grind (arith, nat_tests, ints, divisor_at_first c.loop-coupler.divisor)

@@ -1,5 +1,4 @@
-use Rattle.std.proofs.Common.{ℕ, map}
-use Rattle.quad_form.specs.Units.{IsCommonDivisor, weight_of}
+use Rattle.quad_form.proofs.Common.{ℕ, map, IsCommonDivisor, weight_of}
 use Rattle.quad_form.proofs.units.divisor_with.Given as goal
 
 -- with the couplers that are left it makes up that of all

@@ -1,6 +1,4 @@
-use Rattle.std.proofs.Common.{◌≤◌, ◌^◌, ℕ, sym, subst, arith}
-use Rattle.std.proofs.lemmas.Int.{ints}
-use Rattle.quad_form.specs.Units.{IsCommonDivisor, weights_of}
+use Rattle.quad_form.proofs.Common.{◌≤◌, ◌^◌, ℕ, sym, subst, arith, ints, IsCommonDivisor, weights_of}
 use Rattle.quad_form.proofs.Divisors.{unit_from_zero, unit_from_divisor}
 use Rattle.quad_form.proofs.UnitEntries.{divisor_of_weights, divisor_low}
 use Rattle.quad_form.proofs.units.greatest_unit.Goals as goal

@@ -1,15 +1,11 @@
-use Rattle.std.proofs.Common.{◌≡◌, ◌++◌, ◌∷◌, [], ◌-◌, ◌<◌, length, arith, ap, sym, ◌∙◌, subst}
-use Rattle.std.specs.Prelude.{All}
-use Rattle.std.proofs.lemmas.List.{append-nil}
-use Rattle.rosenberg_layer.specs.Buckets.{chain}
+use Rattle.rosenberg_layer.proofs.Common.{◌≡◌, ◌++◌, ◌∷◌, [], ◌-◌, ◌<◌, length, arith, ap, sym, ◌∙◌, subst, All, append-nil, chain}
 use Rattle.rosenberg_layer.proofs.Chains.{chain_appended, chain_first, chain_rest}
 use Rattle.rosenberg_layer.proofs.buckets.append_list.Goals as goal
 
 pub loop-done-init : goal.loop-done-init
 loop-done-init c =
     let nexts = c.args.nexts.now in
-    let n = c.args.head.count in
-    let all : n - 0 ≡ n = omega arith in
+    let all : c.args.head.count - 0 ≡ c.args.head.count = omega arith in
     record {
       whole = ap (λ k. c.args.list.now.items ++ chain nexts k c.args.head.first) all;
       within =
@@ -38,9 +34,7 @@ loop-done-preserved c =
 
 pub returns : goal.returns
 returns c =
-    let nexts = c.args.nexts.now in
-    let past = c.loop-done-test.false in
-    let none : c.args.head.count - c.loop-done._done ≡ 0 = omega (arith, past) in
+    let none : c.args.head.count - c.loop-done._done ≡ 0 = omega (arith, c.loop-done-test.false) in
     sym (append-nil c.loop-done.list.items)
-    ∙ sym (ap (λ k. c.loop-done.list.items ++ chain nexts k c.loop-done.term) none)
+    ∙ sym (ap (λ k. c.loop-done.list.items ++ chain c.args.nexts.now k c.loop-done.term) none)
     ∙ c.loop-done.invariant.whole

@@ -1,6 +1,4 @@
-use Rattle.std.proofs.Common.{◌≡◌, ◌++◌, ◌<◌, ◌-◌, length}
-use Rattle.std.specs.Prelude.{All}
-use Rattle.rosenberg_layer.specs.Buckets.{chain}
+use Rattle.rosenberg_layer.proofs.Common.{◌≡◌, ◌++◌, ◌<◌, ◌-◌, length, All, chain}
 use Rattle.rosenberg_layer.proofs.buckets.append_list.Given as goal
 
 -- the terms so far, and those that are left

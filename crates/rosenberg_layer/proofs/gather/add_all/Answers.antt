@@ -1,8 +1,5 @@
-use Rattle.std.proofs.Common.{◌∷◌, ◌+◌, [], drop, rules, List}
-use Rattle.std.specs.Int.{w128}
-use Rattle.std.proofs.lemmas.Int.{to_z-of_z}
-use Rattle.term_table.specs.Terms.{Term}
-use Rattle.term_table.proofs.Filling.{fills_as, rest_more, rest_room, room_as}
+use Rattle.rosenberg_layer.proofs.Common.{◌∷◌, ◌+◌, [], drop, rules, List, w128, to_z-of_z, Term, fills_as, rest_room, room_as}
+use Rattle.term_table.proofs.Filling.{rest_more}
 use Rattle.rosenberg_layer.proofs.Gathered.{next-left}
 use Rattle.rosenberg_layer.proofs.gather.add_all.Goals as goal
 

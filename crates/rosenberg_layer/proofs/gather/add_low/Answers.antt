@@ -1,11 +1,5 @@
-use Rattle.std.proofs.Common.{◌≡◌, ◌∷◌, [], ap, sym, rules}
-use Rattle.std.specs.Int.{w128}
-use Rattle.std.specs.List.{filter}
-use Rattle.std.proofs.lemmas.Int.{to_z-of_z}
-use Rattle.std.proofs.lemmas.Map.Iter.{rest_more}
-use Rattle.term_table.specs.Terms.{Term}
+use Rattle.rosenberg_layer.proofs.Common.{◌≡◌, ◌∷◌, [], ap, sym, rules, w128, filter, to_z-of_z, rest_more, Term, is_short}
 use Rattle.term_table.proofs.Filling as filling
-use Rattle.rosenberg_layer.specs.Steps.{is_short}
 use Rattle.rosenberg_layer.proofs.Gathered.{rest-start, short-split}
 use Rattle.rosenberg_layer.proofs.gather.add_low.Goals as goal
 
@@ -37,16 +31,15 @@ loop-literals-preserved g c =
     let Takes = g.G.Gather.takes in
     let Holds = g.G.Gather.holds in
     let u : Term = (c.in-Some.literals.now, c.in-Some.coefficient) in
-    let now = c.loop-literals.terms in
     let new = c.add_short.new.terms in
     let left =
     rest_more _ c.loop-literals.literals-iterator c.next.new.self c.next.result
     (c.in-Some.literals, c.in-Some.coefficient) c.in-Some.is c.next.ensures.steps in
     let back = to_z-of_z w128 c.in-Some.coefficient (search rules) in
     let one =
-    filling.fills_same Takes Holds now new _ (filter is_short (u ∷ []))
+    filling.fills_same Takes Holds c.loop-literals.terms new _ (filter is_short (u ∷ []))
     (ap (λ z. filter is_short ((u.0, z) ∷ [])) back) c.in_ok-add_short.ensures in
-    filling.rest_more Takes Holds c.args.terms.now now new
+    filling.rest_more Takes Holds c.args.terms.now c.loop-literals.terms new
     (filter is_short c.loop-literals.literals-iterator) (filter is_short c.next.new.self)
     (filter is_short c.args.table.now.content.terms) (filter is_short (u ∷ []))
     (short-split u _ _ left) one c.loop-literals.invariant

@@ -1,6 +1,4 @@
-use Rattle.std.specs.List.{filter}
-use Rattle.term_table.proofs.Filling.{Rest}
-use Rattle.rosenberg_layer.specs.Steps.{is_short}
+use Rattle.rosenberg_layer.proofs.Common.{filter, Rest, is_short}
 use Rattle.rosenberg_layer.proofs.gather.add_low.Given as goal
 
 -- the terms of degree 2 or less so far were added

@@ -1,10 +1,4 @@
-use Rattle.std.proofs.Common.{◌≡◌, ◌++◌, arith, ap, sym}
-use Rattle.std.proofs.lemmas.Result.{on_ok_weaker}
-use Rattle.term_table.specs.Terms.{terms_total}
-use Rattle.term_table.proofs.Additions.{terms_total-append}
-use Rattle.term_table.proofs.Filling.{fills_more, fills_same, room_first, room_next}
-use Rattle.rosenberg_layer.specs.Parts.{ties_of}
-use Rattle.rosenberg_layer.specs.Added.{moved_of}
+use Rattle.rosenberg_layer.proofs.Common.{◌≡◌, ◌++◌, arith, ap, sym, on_ok_weaker, terms_total, terms_total-append, fills_more, fills_same, room_first, room_next, ties_of, moved_of}
 use Rattle.rosenberg_layer.proofs.gather.add_moved.Given.{Over}
 use Rattle.rosenberg_layer.proofs.gather.add_moved.Goals.{After-deref-3}
 use Rattle.rosenberg_layer.proofs.gather.add_moved.Goals as goal
@@ -34,12 +28,7 @@ pub add_ties-requires-clause-small : goal.add_ties-requires-clause-small
 add_ties-requires-clause-small g c =
     let all = whole g (goal.at.add_ties-requires-clause-small g c).After-deref-3 in
     let ties = ties_of c.args.start c.deref-2.result.now c.deref-3.result.now in
-    omega (
-      arith,
-      c.requires.small,
-      terms_total-append c.deref.result.now ties,
-      ap terms_total all,
-    )
+    omega (arith, terms_total-append, ap terms_total all)
 
 pub returns : goal.returns
 returns g c =

@@ -1,10 +1,5 @@
-use Rattle.std.proofs.Common.{ℕ, [], drop, arith, refl}
-use Rattle.std.proofs.lemmas.Int.{ints}
-use Rattle.std.proofs.lemmas.Result.{on_ok_weaker}
-use Rattle.literal_lists.specs.declared.literal.Literal.{Literal}
-use Rattle.term_table.proofs.Filled.{fills_if_ok}
-use Rattle.term_table.proofs.Filling.{rest_all, rest_more, rest_none, Rest}
-use Rattle.rosenberg_layer.specs.Rosenberg.{tie_terms, Pair}
+use Rattle.rosenberg_layer.proofs.Common.{ℕ, [], drop, arith, refl, ints, on_ok_weaker, Literal, fills_if_ok, rest_none, Rest, tie_terms, Pair}
+use Rattle.term_table.proofs.Filling.{rest_all, rest_more}
 use Rattle.rosenberg_layer.proofs.Gathered.{rest_term, room_term}
 use Rattle.rosenberg_layer.proofs.gather.add_tie.Given.{Over}
 use Rattle.rosenberg_layer.proofs.gather.add_tie.Goals.{In_ok-gather, In_ok-gather-2, In_ok-gather-3}
@@ -80,9 +75,8 @@ returns g c =
     let third = three g (goal.at.returns g c).In_ok-gather-3 second in
     let Takes = g.G.Gather.takes in
     let Holds = g.G.Gather.holds in
-    let last = c.gather-4.ensures in
     on_ok_weaker c.gather-4.result
     (λ more.
     rest_all Takes Holds _ _ _ _ refl (rest_more Takes Holds _ _ _ _ [] _ _ refl more third))
     (fills_if_ok Takes Holds c.gather-3.new.self c.gather-4.new.self c.gather-4.result _ _ _ _ refl
-    (omega (arith, ints, c.requires.small)) last.added last.takes)
+    (omega (arith, ints, c.requires.small)) c.gather-4.ensures.added c.gather-4.ensures.takes)

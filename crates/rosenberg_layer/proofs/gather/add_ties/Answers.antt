@@ -1,10 +1,5 @@
-use Rattle.std.proofs.Common.{◌≡◌, ◌+◌, ◌++◌, ℕ, List, arith, ap, get_or, drop, false}
-use Rattle.literal_lists.specs.declared.literal.Literal.{Literal}
-use Rattle.term_table.specs.Terms.{terms_total, Term}
-use Rattle.term_table.proofs.Additions.{terms_total-append}
-use Rattle.term_table.proofs.Filling.{rest_more, rest_room}
-use Rattle.rosenberg_layer.specs.Rosenberg.{Pair, tie_terms}
-use Rattle.rosenberg_layer.specs.Parts.{ties_of}
+use Rattle.rosenberg_layer.proofs.Common.{◌≡◌, ◌+◌, ◌++◌, ℕ, List, arith, ap, get_or, drop, false, Literal, terms_total, Term, terms_total-append, rest_room, Pair, tie_terms, ties_of}
+use Rattle.term_table.proofs.Filling.{rest_more}
 use Rattle.rosenberg_layer.proofs.Gathered.{rest-start, ties-next}
 use Rattle.rosenberg_layer.proofs.gather.add_ties.Given.{Over}
 use Rattle.rosenberg_layer.proofs.gather.add_ties.Goals.{After-node}

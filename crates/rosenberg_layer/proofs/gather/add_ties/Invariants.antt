@@ -1,7 +1,4 @@
-use Rattle.std.proofs.Common.{◌+◌, ◌≤◌, ◌^◌, drop}
-use Rattle.term_table.specs.Terms.{terms_total}
-use Rattle.term_table.proofs.Filling.{Rest}
-use Rattle.rosenberg_layer.specs.Parts.{ties_of}
+use Rattle.rosenberg_layer.proofs.Common.{◌+◌, ◌≤◌, ◌^◌, drop, terms_total, Rest, ties_of}
 use Rattle.rosenberg_layer.proofs.gather.add_ties.Given as goal
 
 -- the ties so far were added, and those that are left are small

@@ -1,12 +1,4 @@
-use Rattle.std.proofs.Common.{◌≡◌, ◌++◌, arith, refl, List}
-use Rattle.std.specs.List.{filter}
-use Rattle.term_table.specs.Terms.{Term}
-use Rattle.term_table.specs.Tables.{TableContent, AreAdditions, with_more}
-use Rattle.term_table.proofs.Additions.{terms_total-append}
-use Rattle.term_table.proofs.Filling.{room_first, room_next}
-use Rattle.term_table.proofs.RoomForTerms.{room-additions}
-use Rattle.rosenberg_layer.specs.Steps.{is_short}
-use Rattle.rosenberg_layer.specs.Added.{moved_of}
+use Rattle.rosenberg_layer.proofs.Common.{◌≡◌, ◌++◌, arith, refl, List, filter, Term, TableContent, AreAdditions, with_more, terms_total-append, room_first, room_next, room-additions, is_short, moved_of}
 use Rattle.rosenberg_layer.proofs.gather.gathered.Goals as goal
 
 -- for which additions a table that is being gathered has room, and what it holds

@@ -1,5 +1,4 @@
-use Rattle.std.proofs.Common.{zero, suc}
-use Rattle.rosenberg_layer.specs.laws.Kept.{run_keeps}
+use Rattle.rosenberg_layer.proofs.Common.{zero, suc, run_keeps}
 use Rattle.rosenberg_layer.proofs.Ends.{image-low, image-next, substituted-takes, IsLow-image, nodes-few}
 use Rattle.rosenberg_layer.proofs.laws.laws_of_substitutions.Goals as goal
 

@@ -1,15 +1,4 @@
-use Rattle.std.proofs.Common.{◌≡◌, ◌++◌, ◌∙◌, ◌∷◌, [], All, ap, sym, subst, unsigned_abs, rules, arith}
-use Rattle.std.specs.Int.{w128}
-use Rattle.std.specs.List.{filter}
-use Rattle.std.proofs.lemmas.Int.{to_z-of_z}
-use Rattle.std.proofs.lemmas.List.{append-nil}
-use Rattle.std.proofs.lemmas.List.Elements.{All-filter, All-head, All-rest, All-same}
-use Rattle.std.proofs.lemmas.Map.Iter.{rest_all, rest_more}
-use Rattle.term_table.specs.Terms.{Term, terms_total, with_additions, IsTermSet}
-use Rattle.term_table.specs.Tables.{kept_at_once, TableContent}
-use Rattle.term_table.proofs.Additions.{terms_total-cons}
-use Rattle.term_table.proofs.KeptTerms.{IsNonzero}
-use Rattle.rosenberg_layer.specs.Rosenberg.{is_long}
+use Rattle.rosenberg_layer.proofs.Common.{◌≡◌, ◌++◌, ◌∙◌, ◌∷◌, [], All, ap, sym, subst, unsigned_abs, rules, arith, w128, filter, to_z-of_z, append-nil, All-filter, All-head, All-rest, All-same, rest_all, rest_more, Term, terms_total, with_additions, IsTermSet, kept_at_once, TableContent, terms_total-cons, IsNonzero, is_long}
 use Rattle.rosenberg_layer.proofs.LongParts.{passed_more, total_more, total-long}
 use Rattle.rosenberg_layer.proofs.Parts.{filter-ascends, with_additions-itself}
 use Rattle.rosenberg_layer.proofs.pairs.long_part.Goals as goal
@@ -83,13 +72,7 @@ gather_long-requires-clause-small c =
     rest_more _ c.loop-literals.literals-iterator c.next.new.self c.next.result
     (c.in-Some.literals, c.in-Some.coefficient) c.in-Some.is c.next.ensures.steps in
     let back = to_z-of_z w128 c.in-Some.coefficient (search rules) in
-    omega (
-      arith,
-      c.loop-literals.invariant.small,
-      ap terms_total left,
-      terms_total-cons t c.next.new.self,
-      ap unsigned_abs back,
-    )
+    omega (arith, ap terms_total left, terms_total-cons, ap unsigned_abs back)
 
 pub returns-in_err-gather_long-clause-kept : goal.returns-in_err-gather_long-clause-kept
 returns-in_err-gather_long-clause-kept c = c.terms-literals-items.ensures.kept

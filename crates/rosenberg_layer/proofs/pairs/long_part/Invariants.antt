@@ -1,8 +1,4 @@
-use Rattle.std.proofs.Common.{◌≡◌, ◌++◌, ◌+◌, ◌≤◌, ◌^◌}
-use Rattle.std.specs.Prelude.{All}
-use Rattle.std.specs.List.{filter}
-use Rattle.term_table.specs.Terms.{Term, terms_total, IsTermSet}
-use Rattle.rosenberg_layer.specs.Rosenberg.{is_long}
+use Rattle.rosenberg_layer.proofs.Common.{◌≡◌, ◌++◌, ◌+◌, ◌≤◌, ◌^◌, All, filter, Term, terms_total, IsTermSet, is_long}
 use Rattle.rosenberg_layer.proofs.pairs.long_part.Given as goal
 
 -- the long terms so far, and those that are left

@@ -1,17 +1,4 @@
-use Rattle.std.proofs.Common.{◌≡◌, ◌+◌, ◌++◌, ◌∙◌, ◌∷◌, [], All, ap, sym, subst, rules, arith, true, unsigned_abs, ℤ}
-use Rattle.std.specs.Int.{w128}
-use Rattle.std.specs.List.{AllByRecursion}
-use Rattle.std.proofs.lemmas.Int.{to_z-of_z}
-use Rattle.std.proofs.lemmas.List.{append-nil}
-use Rattle.std.proofs.lemmas.List.Elements.{All-head, All-rest, All-same, recursion_from_All}
-use Rattle.std.proofs.lemmas.Map.Iter.{rest_all, rest_more}
-use Rattle.literal_lists.specs.declared.literal.Literal.{Literal}
-use Rattle.term_table.specs.Terms.{Term, terms_total, with_additions, IsTermSet}
-use Rattle.term_table.specs.Tables.{kept_at_once, TableContent}
-use Rattle.term_table.proofs.Additions.{terms_total-cons}
-use Rattle.term_table.proofs.KeptTerms.{OfSet}
-use Rattle.rosenberg_layer.specs.Rosenberg.{is_long, new_term, node}
-use Rattle.rosenberg_layer.specs.LongParts.{long_after}
+use Rattle.rosenberg_layer.proofs.Common.{◌≡◌, ◌+◌, ◌++◌, ◌∙◌, ◌∷◌, [], All, ap, sym, subst, rules, arith, true, unsigned_abs, ℤ, w128, AllByRecursion, to_z-of_z, append-nil, All-head, All-rest, All-same, recursion_from_All, rest_all, rest_more, Literal, Term, terms_total, with_additions, IsTermSet, kept_at_once, TableContent, terms_total-cons, OfSet, is_long, new_term, node, long_after}
 use Rattle.rosenberg_layer.proofs.LongParts.{after_more, pair_is, set_after, total-after, total_more}
 use Rattle.rosenberg_layer.proofs.pairs.replaced.Goals as goal
 
@@ -89,13 +76,7 @@ gather_replaced-requires-clause-small c =
     rest_more _ c.loop-literals.literals-iterator c.next.new.self c.next.result
     (c.in-Some.literals, c.in-Some.coefficient) c.in-Some.is c.next.ensures.steps in
     let back = to_z-of_z w128 c.in-Some.coefficient (search rules) in
-    omega (
-      arith,
-      c.loop-literals.invariant.small,
-      ap terms_total left,
-      terms_total-cons t c.next.new.self,
-      ap unsigned_abs back,
-    )
+    omega (arith, ap terms_total left, terms_total-cons, ap unsigned_abs back)
 
 pub returns : goal.returns
 returns c =

@@ -1,8 +1,4 @@
-use Rattle.std.proofs.Common.{◌≡◌, ◌++◌, ◌+◌, ◌≤◌, ◌^◌, true}
-use Rattle.std.specs.Prelude.{All}
-use Rattle.term_table.specs.Terms.{Term, terms_total, IsTermSet}
-use Rattle.rosenberg_layer.specs.Rosenberg.{is_long, node}
-use Rattle.rosenberg_layer.specs.LongParts.{long_after}
+use Rattle.rosenberg_layer.proofs.Common.{◌≡◌, ◌++◌, ◌+◌, ◌≤◌, ◌^◌, true, All, Term, terms_total, IsTermSet, is_long, node, long_after}
 use Rattle.rosenberg_layer.proofs.pairs.replaced.Given as goal
 
 -- what became of the terms so far, and the terms that are left

@@ -1,11 +1,4 @@
-use Rattle.std.proofs.Common.{◌≡◌, ℕ, ◌+◌, ◌++◌, [], arith, sym, ap, ◌∙◌, subst, length, true}
-use Rattle.std.specs.Prelude.{All}
-use Rattle.std.specs.List.{filter}
-use Rattle.std.proofs.lemmas.List.Elements.{All-from_recursion}
-use Rattle.term_table.specs.Terms.{Term}
-use Rattle.term_table.specs.Tables.{TableContent, KeptTable}
-use Rattle.rosenberg_layer.specs.Rosenberg.{front_pair, is_long, next_before, pairs_of, run}
-use Rattle.rosenberg_layer.specs.LongParts.{after_turn, long_part}
+use Rattle.rosenberg_layer.proofs.Common.{◌≡◌, ℕ, ◌+◌, ◌++◌, [], arith, sym, ap, ◌∙◌, subst, length, true, All, filter, All-from_recursion, Term, TableContent, KeptTable, front_pair, is_long, next_before, pairs_of, run, after_turn, long_part}
 use Rattle.rosenberg_layer.proofs.LongParts.{long-turn}
 use Rattle.rosenberg_layer.proofs.Parts.{filter-yes}
 use Rattle.rosenberg_layer.proofs.Turns.{pairs-next, run-next, width-grows, width-pairs}
@@ -27,12 +20,10 @@ loop-done-init c = record {
 
 pub turn-requires-clause-number : goal.turn-requires-clause-number
 turn-requires-clause-number c =
-    let k = c.loop-done._done in
-    let t = c.args.table.now.content in
     omega (
       arith,
       ap length c.loop-done.invariant.pairs,
-      width-pairs k t,
+      width-pairs c.loop-done._done c.args.table.now.content,
       ap (λ (u : TableContent). u.width) c.loop-done.invariant.long,
       c.requires.width,
     )
@@ -41,11 +32,10 @@ pub turn-requires-clause-narrow : goal.turn-requires-clause-narrow
 turn-requires-clause-narrow c =
     let k = c.loop-done._done in
     let t = c.args.table.now.content in
-    let more = c.loop-done-test.true in
     omega (
       arith,
       ap (λ (u : TableContent). u.width) (next_long k t c.loop-done.long.content c.loop-done.invariant.long),
-      width-grows (k + 1) c.args.turns t (omega (arith, more)),
+      width-grows (k + 1) c.args.turns t (omega (arith, c.loop-done-test.true)),
       c.requires.narrow,
     )
 

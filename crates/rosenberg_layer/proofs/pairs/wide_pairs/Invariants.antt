@@ -1,6 +1,4 @@
-use Rattle.std.proofs.Common.{◌≡◌}
-use Rattle.rosenberg_layer.specs.Rosenberg.{pairs_of, run}
-use Rattle.rosenberg_layer.specs.LongParts.{long_part}
+use Rattle.rosenberg_layer.proofs.Common.{◌≡◌, pairs_of, run, long_part}
 use Rattle.rosenberg_layer.proofs.pairs.wide_pairs.Given as goal
 
 -- the long terms after the turns so far, and their pairs

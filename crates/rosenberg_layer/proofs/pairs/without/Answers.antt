@@ -1,8 +1,4 @@
-use Rattle.std.proofs.Common.{◌++◌, ◌+◌, ◌∷◌, [], ◌∙◌, false, not, drop, get_or, ap, sym}
-use Rattle.std.proofs.lemmas.List.{append-nil, append_assoc, drop_all, drop_more}
-use Rattle.std.proofs.lemmas.List.Elements.{filter-append}
-use Rattle.literal_lists.specs.declared.literal.Literal.{Literal}
-use Rattle.rosenberg_layer.specs.Rosenberg.{is_literal, without}
+use Rattle.rosenberg_layer.proofs.Common.{◌++◌, ◌+◌, ◌∷◌, [], ◌∙◌, false, not, drop, get_or, ap, sym, append-nil, append_assoc, drop_all, drop_more, filter-append, Literal, is_literal, without}
 use Rattle.rosenberg_layer.proofs.pairs.without.Goals as goal
 
 pub loop-other-preserved : goal.loop-other-preserved
@@ -22,8 +18,7 @@ loop-other-preserved c =
 
 pub returns : goal.returns
 returns c =
-    let left = c.loop-other.left.items in
-    sym (append-nil left)
-    ∙ ap (λ ys. left ++ without c.args.literal ys)
+    sym (append-nil c.loop-other.left.items)
+    ∙ ap (λ ys. c.loop-other.left.items ++ without c.args.literal ys)
     (sym (drop_all c.loop-other.other-index c.args.literals.now c.loop-other-test.false))
     ∙ c.loop-other.invariant

@@ -1,5 +1,4 @@
-use Rattle.std.proofs.Common.{◌≡◌, ◌++◌, drop}
-use Rattle.rosenberg_layer.specs.Rosenberg.{without}
+use Rattle.rosenberg_layer.proofs.Common.{◌≡◌, ◌++◌, drop, without}
 use Rattle.rosenberg_layer.proofs.pairs.without.Given as goal
 
 -- the literals so far, and those that are left

@@ -1,13 +1,4 @@
-use Rattle.std.proofs.Common.{◌≡◌, ◌+◌, ◌*◌, ◌/◌, ◌^◌, ℕ, List, [], ◌∷◌, ◌++◌, length, get_or, drop, set, refl, sym, ap, ◌∙◌, subst, arith, rules, unsigned_abs, Some, Option}
-use Rattle.std.specs.List.{filter}
-use Rattle.std.specs.Option.{unwrap_or}
-use Rattle.std.proofs.lemmas.List.{drop_more, get_or_read, length-append, length-set}
-use Rattle.term_table.specs.Terms.{Term}
-use Rattle.rosenberg_layer.specs.Rosenberg.{is_long, node, Pair}
-use Rattle.rosenberg_layer.specs.Steps.{front_term, is_short, IsStep}
-use Rattle.rosenberg_layer.specs.Rings.{term_at}
-use Rattle.rosenberg_layer.specs.Buckets.{IsApart, TermLists}
-use Rattle.rosenberg_layer.specs.Waiting.{first_pair, keys_left, lists_with, AreWaiting, IsBeyond}
+use Rattle.rosenberg_layer.proofs.Common.{◌≡◌, ◌+◌, ◌*◌, ◌/◌, ◌^◌, ℕ, List, [], ◌∷◌, ◌++◌, length, get_or, drop, set, refl, sym, ap, ◌∙◌, subst, arith, rules, unsigned_abs, Some, Option, filter, unwrap_or, drop_more, get_or_read, length-append, length-set, Term, is_long, node, Pair, front_term, is_short, IsStep, term_at, IsApart, TermLists, first_pair, keys_left, lists_with, AreWaiting, IsBeyond}
 use Rattle.rosenberg_layer.proofs.PartlyTerms.{partly_small}
 use Rattle.rosenberg_layer.proofs.PutBack.{length_with}
 use Rattle.rosenberg_layer.proofs.Under.{IsReady, under_end, under_ready, under_start, under_step, wait_stepped, pair_at, IsUnder}
@@ -126,13 +117,10 @@ overflow_add-weight c =
     let some = (goal.at.overflow_add-weight c).In-Some in
     let size : c.unsigned_abs-weight.result ≡ unsigned_abs c.coefficient.result = search rules in
     let after = stepped some _ _ _ refl refl refl in
-    omega (
-      arith,
-      size,
-      ap unsigned_abs c.coefficient.ensures,
-      partly_small (pair_at (start some) (key some)) (node c.args.number) _ _ _ _ _ after.place
-          (2 ^ 124) after.partly c.requires.small,
-    )
+    let small =
+    partly_small (pair_at (start some) (key some)) (node c.args.number) _ _ _ _ _ after.place
+    (2 ^ 124) after.partly c.requires.small in
+    omega (arith, size, ap unsigned_abs c.coefficient.ensures, small)
 
 pub replace-requires-clause-within : goal.replace-requires-clause-within
 replace-requires-clause-within c =
@@ -171,12 +159,11 @@ loop-term-preserved c =
     let size : c.unsigned_abs-weight.result ≡ unsigned_abs c.coefficient.result = search rules in
     let u = replaced some in
     let placed = done.lists ∙ ap (λ (b : TermLists). lists_with b.lists t u) c.pop.ensures.buckets in
-    let count = old.lists in
     let listed = (ready some).listed in
     let after =
     wait_stepped (now some) c.replace.new.long (lists some) new.lists (cursor some) (k some) t
     (rest some) u (ready some).first done.terms placed (ready some).later
-    (omega (arith, listed, count)) in
+    (omega (arith, listed, old.lists)) in
     let same = ap length done.terms ∙ length-set (now some) t u in
     record {
       wait = record {
@@ -189,7 +176,7 @@ loop-term-preserved c =
         narrow = let narrow = old.wait.narrow in omega (arith, narrow, same);
         place = c.pop.ensures.place;
       };
-      lists = ap length placed ∙ length_with (lists some) t u ∙ count;
+      lists = ap length placed ∙ length_with (lists some) t u ∙ old.lists;
       under =
           subst (λ (i : ℕ). IsUnder (start some) (key some) c.args.number (low some)
           c.replace.new.long c.replace.new.low.items

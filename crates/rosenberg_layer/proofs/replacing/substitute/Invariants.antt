@@ -1,5 +1,4 @@
-use Rattle.std.proofs.Common.{◌≡◌, ◌+◌, ◌*◌, length, get_or}
-use Rattle.rosenberg_layer.specs.Waiting.{keys_left, Wait}
+use Rattle.rosenberg_layer.proofs.Common.{◌≡◌, ◌+◌, ◌*◌, length, get_or, keys_left, Wait}
 use Rattle.rosenberg_layer.proofs.Under.{IsUnder}
 use Rattle.rosenberg_layer.proofs.replacing.substitute.Given as goal
 

@@ -1,7 +1,4 @@
-use Rattle.std.proofs.Common.{◌≡◌, ◌++◌, ◌∷◌, [], ◌∙◌, Bool, true, false, Result, Ok, Err, cond, is_ok, is_err, map, take, get_or, ap, sym, refl, arith}
-use Rattle.std.proofs.lemmas.List.{append_assoc, map-append, take_all, take_at, take_more}
-use Rattle.literal_lists.specs.declared.literal.Literal.{Literal}
-use Rattle.literal_lists.specs.Codes.{code_of}
+use Rattle.rosenberg_layer.proofs.Common.{◌≡◌, ◌++◌, ◌∷◌, [], ◌∙◌, Bool, true, false, Result, Ok, Err, cond, is_ok, is_err, map, take, get_or, ap, sym, refl, arith, append_assoc, map-append, take_all, take_at, take_more, Literal, code_of}
 use Rattle.rosenberg_layer.proofs.rings.append_codes.Goals as goal
 
 -- what a test of an answer says of it

@@ -1,5 +1,4 @@
-use Rattle.std.proofs.Common.{◌≡◌, ◌++◌, map, take}
-use Rattle.literal_lists.specs.Codes.{code_of}
+use Rattle.rosenberg_layer.proofs.Common.{◌≡◌, ◌++◌, map, take, code_of}
 use Rattle.rosenberg_layer.proofs.rings.append_codes.Given as goal
 
 -- the codes so far stand behind those that were there

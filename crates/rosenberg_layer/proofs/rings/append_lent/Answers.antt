@@ -1,7 +1,4 @@
-use Rattle.std.proofs.Common.{◌≡◌, ◌++◌, ◌∷◌, ◌<◌, ◌^◌, [], map, List, ℕ, ap, ◌∙◌, sym, rules, append_assoc}
-use Rattle.std.proofs.lemmas.List.Elements.{All-rest}
-use Rattle.literal_lists.specs.declared.literal.Literal.{Literal}
-use Rattle.literal_lists.specs.Codes.{code_of}
+use Rattle.rosenberg_layer.proofs.Common.{◌≡◌, ◌++◌, ◌∷◌, ◌<◌, ◌^◌, [], map, List, ℕ, ap, ◌∙◌, sym, rules, append_assoc, All-rest, Literal, code_of}
 use Rattle.rosenberg_layer.proofs.rings.append_lent.Goals as goal
 
 pub loop-literal-preserved : goal.loop-literal-preserved

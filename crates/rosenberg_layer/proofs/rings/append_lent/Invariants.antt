@@ -1,7 +1,4 @@
-use Rattle.std.proofs.Common.{◌≡◌, ◌++◌, ◌<◌, ◌^◌, map}
-use Rattle.std.specs.Prelude.{All}
-use Rattle.literal_lists.specs.declared.literal.Literal.{Literal}
-use Rattle.literal_lists.specs.Codes.{code_of}
+use Rattle.rosenberg_layer.proofs.Common.{◌≡◌, ◌++◌, ◌<◌, ◌^◌, map, All, Literal, code_of}
 use Rattle.rosenberg_layer.proofs.rings.append_lent.Given as goal
 
 -- the codes so far and those that are left stand behind those that were there

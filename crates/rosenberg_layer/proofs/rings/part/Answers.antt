@@ -1,6 +1,4 @@
-use Rattle.std.proofs.Common.{length, get_or, ap, ◌∙◌, sym, arith}
-use Rattle.std.specs.List.{slice_range}
-use Rattle.base.proofs.FlatParts.{part_lies}
+use Rattle.rosenberg_layer.proofs.Common.{length, get_or, ap, ◌∙◌, sym, arith, slice_range, part_lies}
 use Rattle.rosenberg_layer.proofs.FlatSets.{part-at}
 use Rattle.rosenberg_layer.proofs.rings.part.Goals as goal
 
@@ -16,8 +14,7 @@ lent_part-requires-clause-within c =
 
 pub returns : goal.returns
 returns c =
-    let codes = c.args.codes.now in
     let ends = c.args.ends.now in
     c.lent_part.ensures
-    ∙ ap (λ s. slice_range codes s (get_or ends c.args.i 0)) c.start_of-start.ensures
-    ∙ sym (part-at codes ends c.args.i c.requires.within)
+    ∙ ap (λ s. slice_range c.args.codes.now s (get_or ends c.args.i 0)) c.start_of-start.ensures
+    ∙ sym (part-at c.args.codes.now ends c.args.i c.requires.within)

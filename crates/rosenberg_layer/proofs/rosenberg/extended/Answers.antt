@@ -1,6 +1,4 @@
-use Rattle.std.proofs.Common.{◌≡◌, ◌+◌, ◌-◌, ◌∙◌, ap, arith, fold, rules, List, Bool}
-use Rattle.rosenberg_layer.specs.Rosenberg.{image, excess, with_product}
-use Rattle.rosenberg_layer.specs.laws.Kept.{width-run-le}
+use Rattle.rosenberg_layer.proofs.Common.{◌≡◌, ◌+◌, ◌-◌, ◌∙◌, ap, arith, fold, rules, List, Bool, image, excess, with_product, width-run-le}
 use Rattle.rosenberg_layer.proofs.Finish.{width-le, all-pairs}
 use Rattle.rosenberg_layer.proofs.rosenberg.extended.Goals as goal
 
@@ -11,14 +9,7 @@ overflow_sub-bits c =
 
 pub pairs_of-requires-clause-narrow : goal.pairs_of-requires-clause-narrow
 pairs_of-requires-clause-narrow c =
-    let t = c.args.table.now.content in
-    omega (
-      arith,
-      c.requires.source,
-      c.requires.target,
-      width-run-le (excess t.terms) t,
-      width-le (c.args.bits - c.args.variables) t,
-    )
+    omega (arith, width-run-le, width-le)
 
 pub returns : goal.returns
 returns c =

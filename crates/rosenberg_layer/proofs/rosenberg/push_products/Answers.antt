@@ -1,15 +1,10 @@
-use Rattle.std.proofs.Common.{◌≡◌, ◌++◌, ◌∷◌, [], ◌∙◌, ◌&&◌, false, rules, ap, sym, get_or}
-use Rattle.std.proofs.lemmas.List.Sums.{fold_more}
-use Rattle.rosenberg_layer.specs.Rosenberg.{Pair, with_product}
-use Rattle.literal_lists.specs.declared.literal.Literal.{Literal}
-use Rattle.literal_lists.specs.Literals.{holds}
+use Rattle.rosenberg_layer.proofs.Common.{◌≡◌, ◌++◌, ◌∷◌, [], ◌∙◌, ◌&&◌, false, rules, ap, sym, get_or, fold_more, Pair, with_product, Literal, holds}
 use Rattle.rosenberg_layer.proofs.rosenberg.push_products.Goals as goal
 use Rattle.rosenberg_layer.proofs.rosenberg.push_products.Goals.{then-holds, else-holds}
 
 pub loop-first-preserved : goal.loop-first-preserved
 loop-first-preserved c =
     let y = c.loop-first.bits.items in
-    let start = c.args.bits.now.items in
     let pairs = c.args.pairs.now in
     let i = c.loop-first.first-index in
     let none : Literal = record { variable = 0; negated = false } in
@@ -19,4 +14,4 @@ loop-first-preserved c =
     c.in_ok-push.ensures.items
     ∙ ap (λ b. y ++ b ∷ []) product
     ∙ ap (λ z. with_product z pair) c.loop-first.invariant
-    ∙ sym (fold_more with_product start pairs i (none, none) c.loop-first-test.true)
+    ∙ sym (fold_more with_product c.args.bits.now.items pairs i (none, none) c.loop-first-test.true)

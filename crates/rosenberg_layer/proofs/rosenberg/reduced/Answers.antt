@@ -1,12 +1,4 @@
-use Rattle.std.proofs.Common.{◌≡◌, ◌++◌, arith, ap, length, List, ◌∙◌, refl}
-use Rattle.std.specs.List.{filter}
-use Rattle.std.proofs.lemmas.Result.{IfOk-weaker}
-use Rattle.term_table.specs.Terms.{Term}
-use Rattle.term_table.specs.Tables.{kept_at_once}
-use Rattle.rosenberg_layer.specs.Rosenberg.{is_long, pairs_of, run}
-use Rattle.rosenberg_layer.specs.Steps.{is_short}
-use Rattle.rosenberg_layer.specs.Parts.{ties_of, weights}
-use Rattle.rosenberg_layer.specs.Added.{moved_of}
+use Rattle.rosenberg_layer.proofs.Common.{◌≡◌, ◌++◌, arith, ap, length, List, ◌∙◌, refl, filter, IfOk-weaker, Term, kept_at_once, is_long, pairs_of, run, is_short, ties_of, weights, moved_of}
 use Rattle.rosenberg_layer.proofs.Turns.{excess-size, width-pairs}
 use Rattle.rosenberg_layer.proofs.Finish.{width-le, made-image, adds-fit}
 use Rattle.rosenberg_layer.proofs.rosenberg.reduced.Goals as goal
@@ -16,17 +8,7 @@ run_of-requires-clause-turns c = omega (arith, c.excess.ensures)
 
 pub gathered-requires-clause-narrow : goal.gathered-requires-clause-narrow
 gathered-requires-clause-narrow c =
-    let t = c.args.table.now.content in
-    omega (
-      arith,
-      width-pairs c.excess.result t,
-      ap length c.in_ok-made.ensures.pairs,
-      width-le c.excess.result t,
-      c.excess.ensures,
-      c.width-width.ensures,
-      excess-size t.terms,
-      c.requires.size,
-    )
+    omega (arith, width-pairs, ap length c.in_ok-made.ensures.pairs, width-le, excess-size)
 
 pub gathered-requires-clause-additions : goal.gathered-requires-clause-additions
 gathered-requires-clause-additions c =

@@ -1,9 +1,4 @@
-use Rattle.std.proofs.Common.{arith, rules, sym}
-use Rattle.std.specs.Int.{w128}
-use Rattle.std.proofs.lemmas.Int.{to_z-of_z}
-use Rattle.std.proofs.lemmas.Map.Iter.{rest_more}
-use Rattle.std.proofs.lemmas.List.Elements.{All-head, All-rest, All-same}
-use Rattle.term_table.specs.Terms.{Term, IsTermSet}
+use Rattle.rosenberg_layer.proofs.Common.{arith, rules, sym, w128, to_z-of_z, rest_more, All-head, All-rest, All-same, Term, IsTermSet}
 use Rattle.rosenberg_layer.proofs.LongRuns.{long_added, set_narrow}
 use Rattle.rosenberg_layer.proofs.run.long_terms.Goals as goal
 
@@ -14,8 +9,7 @@ add_long-requires-clause-short c =
     rest_more _ c.loop-literals.literals-iterator c.next.new.self c.next.result
     (c.in-Some.literals, c.in-Some.coefficient) c.in-Some.is c.next.ensures.steps in
     let set = All-head P _ _ (All-same P _ _ (sym left) c.loop-literals.invariant.sets) in
-    let short = set.short in
-    omega (arith, short)
+    omega (arith, set.short)
 
 pub add_long-requires-clause-narrow : goal.add_long-requires-clause-narrow
 add_long-requires-clause-narrow c =

@@ -1,8 +1,4 @@
-use Rattle.std.proofs.Common.{◌≡◌, ◌++◌}
-use Rattle.std.specs.Prelude.{All}
-use Rattle.std.specs.List.{filter}
-use Rattle.term_table.specs.Terms.{Term, IsTermSet}
-use Rattle.rosenberg_layer.specs.Rosenberg.{is_long}
+use Rattle.rosenberg_layer.proofs.Common.{◌≡◌, ◌++◌, All, filter, Term, IsTermSet, is_long}
 use Rattle.rosenberg_layer.proofs.run.long_terms.Given as goal
 
 -- the terms so far, and those that are left

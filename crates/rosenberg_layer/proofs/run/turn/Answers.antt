@@ -1,13 +1,4 @@
-use Rattle.std.proofs.Common.{◌≡◌, ◌+◌, ◌<◌, ◌∙◌, ◌∷◌, [], List, inl, inr, rules, arith, refl, ap, sym, subst, length, length-append, Some}
-use Rattle.std.specs.List.{filter, AllByRecursion}
-use Rattle.std.proofs.lemmas.Bool.{cases_lt}
-use Rattle.std.proofs.lemmas.List.{drop_all}
-use Rattle.std.proofs.lemmas.Result.{IfOk-from_err}
-use Rattle.term_table.specs.Terms.{Term, IsTermSet}
-use Rattle.rosenberg_layer.specs.Rosenberg.{is_long, node, Pair}
-use Rattle.rosenberg_layer.specs.declared.waiting.Waiting.{Waiting}
-use Rattle.rosenberg_layer.specs.Steps.{IsStep}
-use Rattle.rosenberg_layer.specs.Waiting.{first_pair, keys_left, AreWaiting}
+use Rattle.rosenberg_layer.proofs.Common.{◌∷◌, ◌≡◌, ◌+◌, ◌<◌, ◌∙◌, [], List, inl, inr, rules, arith, refl, ap, sym, subst, length, length-append, Some, filter, AllByRecursion, cases_lt, drop_all, IfOk-from_err, Term, IsTermSet, is_long, node, Pair, Waiting, IsStep, first_pair, keys_left, AreWaiting}
 use Rattle.rosenberg_layer.proofs.PartlyTerms.{first_none, none-long}
 use Rattle.rosenberg_layer.proofs.WaitingTerms.{wait_end}
 use Rattle.rosenberg_layer.proofs.run.turn.Goals as goal
@@ -37,13 +28,7 @@ substitute-requires-clause-some c =
 
 pub substitute-requires-clause-lists : goal.substitute-requires-clause-lists
 substitute-requires-clause-lists c =
-    omega (
-      arith,
-      c.in_ok-next_pair.ensures.lists,
-      c.requires.lists,
-      c.len.ensures,
-      c.args.made.now.pairs.ok.0,
-    )
+    omega (arith, c.in_ok-next_pair.ensures.lists, c.requires.lists, c.args.made.now.pairs.ok.0)
 
 pub substitute-requires-clause-narrow : goal.substitute-requires-clause-narrow
 substitute-requires-clause-narrow c =
@@ -68,14 +53,9 @@ returns-in_ok-push-in-Some-2-clause-wait c = c.in_ok-weight-in-Some.ensures.wait
 pub returns-in_ok-push-in-Some-2-clause-lists : goal.returns-in_ok-push-in-Some-2-clause-lists
 returns-in_ok-push-in-Some-2-clause-lists c =
     let pairs = c.args.made.now.pairs in
-    omega (
-      arith,
-      c.in_ok-weight-in-Some.ensures.lists,
-      c.len.ensures,
-      pairs.ok.0,
-      ap length c.in_ok-push-in-Some.ensures.items,
-      length-append pairs.items (c.in-Some.pair ∷ []),
-    )
+    let more = length-append pairs.items (c.in-Some.pair ∷ []) in
+    let lists = c.in_ok-weight-in-Some.ensures.lists in
+    omega (arith, lists, c.len.ensures, pairs.ok.0, ap length c.in_ok-push-in-Some.ensures.items, more)
 
 pub returns-in_ok-push-in-Some-2-clause-few : goal.returns-in_ok-push-in-Some-2-clause-few
 returns-in_ok-push-in-Some-2-clause-few c = c.in_ok-weight-in-Some.ensures.count
@@ -140,14 +120,13 @@ returns-in-None-clause-turn c =
 pub returns-in_ok-push-in-Some-2-clause-turn : goal.returns-in_ok-push-in-Some-2-clause-turn
 returns-in_ok-push-in-Some-2-clause-turn c =
     let ts = c.args.long.now in
-    let made = c.args.made.now in
-    let n = c.args.width + length made.pairs.items in
+    let n = c.args.width + length c.args.made.now.pairs.items in
     let w = c.next_pair.new.self in
     let pair = c.in-Some.pair in
     let is : first_pair ts (keys_left w) ≡ Some pair = sym c.in_ok-next_pair.ensures.pair ∙ c.in-Some.is in
     let number : c.args.width + c.len.result ≡ n = search rules in
     let step =
-    subst (λ k. IsStep pair (node k) (filter is_long ts) made.low.items
+    subst (λ k. IsStep pair (node k) (filter is_long ts) c.args.made.now.low.items
     (filter is_long c.substitute.new.long) c.substitute.new.low.items c.in_ok-weight-in-Some.weight) number
     (c.in_ok-weight-in-Some.ensures.step pair is) in
     (c.in_ok-weight-in-Some.weight, step, c.in_ok-push-in-Some.ensures.items, c.in_ok-push-in-Some-2.ensures.items)

@@ -1,13 +1,4 @@
-use Rattle.std.proofs.Common.{◌≡◌, ◌+◌, ◌*◌, ◌<◌, ◌++◌, arith, refl, sym, ap, ◌∙◌, subst, length, true}
-use Rattle.std.specs.List.{filter, AllByRecursion}
-use Rattle.std.proofs.lemmas.List.Elements.{All-from_recursion, recursion_from_All}
-use Rattle.term_table.specs.Terms.{Term, IsTermSet}
-use Rattle.term_table.specs.Tables.{TableContent}
-use Rattle.term_table.proofs.KeptTerms.{OfSet}
-use Rattle.rosenberg_layer.specs.Rosenberg.{is_long, pairs_of, run}
-use Rattle.rosenberg_layer.specs.Steps.{is_short}
-use Rattle.rosenberg_layer.specs.Rings.{code_at}
-use Rattle.rosenberg_layer.specs.Parts.{ties_of, weights, AreParts}
+use Rattle.rosenberg_layer.proofs.Common.{◌≡◌, ◌+◌, ◌*◌, ◌<◌, ◌++◌, arith, refl, sym, ap, ◌∙◌, subst, length, true, filter, AllByRecursion, All-from_recursion, recursion_from_All, Term, IsTermSet, TableContent, OfSet, is_long, pairs_of, run, is_short, code_at, ties_of, weights, AreParts}
 use Rattle.rosenberg_layer.proofs.Bags.{held-small}
 use Rattle.rosenberg_layer.proofs.Parts.{filter-yes}
 use Rattle.rosenberg_layer.proofs.LongRuns.{alone, run_begins, run_width, turn_made}
@@ -42,14 +33,11 @@ loop-done-init c =
 
 pub turn-requires-clause-narrow : goal.turn-requires-clause-narrow
 turn-requires-clause-narrow c =
-    let made = c.loop-done.invariant.made in
-    let more = c.loop-done-test.true in
-    omega (arith, made, more, c.requires.narrow)
+    omega (arith, c.loop-done.invariant.made, c.loop-done-test.true, c.requires.narrow)
 
 pub turn-requires-clause-few : goal.turn-requires-clause-few
 turn-requires-clause-few c =
-    let count = c.loop-done.invariant.count in
-    omega (arith, count, c.requires.few)
+    omega (arith, c.loop-done.invariant.count, c.requires.few)
 
 pub turn-requires-clause-sets : goal.turn-requires-clause-sets
 turn-requires-clause-sets c =
@@ -71,16 +59,15 @@ turn-requires-clause-small c =
 
 pub loop-done-preserved : goal.loop-done-preserved
 loop-done-preserved c =
-    let k = c.loop-done._done in
     let n = c.args.width + length c.loop-done.made.pairs.items in
     let old = c.loop-done.invariant in
     let turn = c.in_ok-turn.ensures in
     record {
       runs = λ t table width e.
           let so_far = old.runs t table width e in
-          turn-run t k c.args.width n _ _ _ _ _ _ _ _ _ (weights t.terms) _ so_far
+          turn-run t c.loop-done._done c.args.width n _ _ _ _ _ _ _ _ _ (weights t.terms) _ so_far
           (filter-yes is_long c.loop-done.long)
-          (run_width t k c.args.width _ _ _ _ _ _ so_far width) refl turn.turn;
+          (run_width t c.loop-done._done c.args.width _ _ _ _ _ _ so_far width) refl turn.turn;
       wait = turn.wait;
       lists = turn.lists;
       few = turn-few _ n _ _ _ _ _ _ _ _ _ old.few turn.turn;

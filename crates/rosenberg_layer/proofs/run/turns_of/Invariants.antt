@@ -1,10 +1,4 @@
-use Rattle.std.proofs.Common.{◌≡◌, ◌+◌, ◌*◌, ◌≤◌, length}
-use Rattle.std.specs.List.{filter}
-use Rattle.term_table.specs.Tables.{IsTable, TableContent}
-use Rattle.rosenberg_layer.specs.Rosenberg.{is_long}
-use Rattle.rosenberg_layer.specs.Steps.{is_short}
-use Rattle.rosenberg_layer.specs.Parts.{weights}
-use Rattle.rosenberg_layer.specs.Waiting.{Wait}
+use Rattle.rosenberg_layer.proofs.Common.{◌≡◌, ◌+◌, ◌*◌, ◌≤◌, length, filter, IsTable, TableContent, is_long, is_short, weights, Wait}
 use Rattle.rosenberg_layer.proofs.Turns.{IsRun}
 use Rattle.rosenberg_layer.proofs.run.turns_of.Given as goal
 

@@ -1,5 +1,4 @@
-use Rattle.std.proofs.Common.{◌≡◌, ◌++◌, map, take, drop}
-use Rattle.rosenberg_layer.specs.Waiting.{key_of}
+use Rattle.rosenberg_layer.proofs.Common.{◌≡◌, ◌++◌, map, take, drop, key_of}
 use Rattle.rosenberg_layer.proofs.waiting.add_seconds.Given as goal
 
 -- the keys so far, and the terms that are left

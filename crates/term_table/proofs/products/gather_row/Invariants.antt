@@ -1,6 +1,4 @@
-use Rattle.std.proofs.Common.{◌≡◌, ◌≢◌, ◌+◌, ◌*◌, ◌≤◌, ◌^◌, ◌++◌, unsigned_abs, pos, All}
-use Rattle.term_table.specs.Terms.{terms_total}
-use Rattle.term_table.specs.Products.{pairs_with, pair_products, IsFactor}
+use Rattle.term_table.proofs.Common.{◌≡◌, ◌≢◌, ◌+◌, ◌*◌, ◌≤◌, ◌^◌, ◌++◌, unsigned_abs, pos, All, terms_total, pairs_with, pair_products, IsFactor}
 use Rattle.term_table.proofs.products.gather_row.Given as goal
 
 -- the products so far, and those of the pairs that are left, are all; and those that are left fit

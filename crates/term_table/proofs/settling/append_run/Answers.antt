@@ -1,6 +1,4 @@
-use Rattle.std.proofs.Common.{List, sym, subst}
-use Rattle.term_table.specs.Runs.{Run}
-use Rattle.term_table.specs.Newest.{AreSettling}
+use Rattle.term_table.proofs.Common.{List, sym, subst, Run, AreSettling}
 use Rattle.term_table.proofs.settling.append_run.Goals as goal
 
 pub settle-requires : goal.settle-requires

@@ -1,12 +1,4 @@
-use Rattle.std.proofs.Common.{◌∙◌, ap, sym, subst, arith}
-use Rattle.std.specs.Prelude.{pos}
-use Rattle.form_steps.specs.declared.layer.BitsLink.{BitsLink}
-use Rattle.form_steps.specs.Links.{first_bits}
-use Rattle.form_steps.specs.Relations.{Keeps}
-use Rattle.term_table.specs.Terms.{terms_total}
-use Rattle.term_table.specs.Tables.{KeptTable, IsLow, form_of, table_size}
-use Rattle.monomial_layer.specs.Monomials.{Fits}
-use Rattle.monomial_layer.specs.laws.Kept.{mono_keeps}
+use Rattle.monomial_layer.proofs.Common.{nat_tests, ◌∙◌, ap, sym, subst, arith, pos, BitsLink, first_bits, Keeps, KeptTable, IsLow, form_of, table_size, Fits, mono_keeps}
 use Rattle.monomial_layer.proofs.Sets.{IsLow-image}
 use Rattle.monomial_layer.proofs.Sizes.{all_nodes-le, total-image_terms, size-image}
 use Rattle.monomial_layer.proofs.monomials.MonomialsLayer.lower.Goals as goal
@@ -34,10 +26,7 @@ returns-clause-keeps c =
     (sym (c.known_low.ensures ∙ made)) (mono_keeps link t fits)
 
 pub returns-clause-total : goal.returns-clause-total
-returns-clause-total c =
-    let t = c.args.source.now.content in
-    let same = ap (λ (u : KeptTable). terms_total u.content.terms) (c.known_low.ensures ∙ c.in_ok-target.ensures.made) in
-    omega (arith, same, total-image_terms t c.in_ok-target.ensures.kept)
+returns-clause-total c = grind (arith, nat_tests, total-image_terms)
 
 pub returns-clause-size : goal.returns-clause-size
 returns-clause-size c =

@@ -27,13 +27,11 @@ returns-then-place-literals-clause-takes g c more room =
     let ls = c.args.literals.now in
     let k = c.args.coefficient in
     let back = to_z-of_z w128 k (search rules) in
-    on_ok_weaker c.gather.result
-    (λ one. (
+    on_ok_weaker c.gather.result (λ one. (
       takes-alone g.T.Gather.takes g.T.Gather.holds ls c.first_complement-place.result k (search rules)
           c.first_complement-place.ensures.before _ _ one.room more room.0,
       All-tail IsSmall (ls, k) more room.1,
-    ))
-    (fills_if_ok g.T.Gather.takes g.T.Gather.holds _ _ _ _ _ _ _ refl back c.gather.ensures.added
+    )) (fills_if_ok g.T.Gather.takes g.T.Gather.holds _ _ _ _ _ _ _ refl back c.gather.ensures.added
     c.gather.ensures.takes)
 
 pub gather_plain_terms-requires-clause-room : goal.gather_plain_terms-requires-clause-room
@@ -67,11 +65,9 @@ returns-clause-takes g c more room =
     let k = c.args.coefficient in
     let back = to_z-of_z w128 k (search rules) in
     let now = c.args.self.now.terms in
-    on_ok_weaker c.gather_plain_terms.result
-    (λ fills. (
+    on_ok_weaker c.gather_plain_terms.result (λ fills. (
       takes-multiplied g.T.Gather.takes g.T.Gather.holds _ _ c.clear.new.self.items ls
           (to_z w128 (of_z w128 k)) (search rules) fills more
           (subst (λ z. g.T.Gather.takes now (contributions ((ls, z) ∷ more))) (sym back) room.0),
       All-tail IsSmall (ls, k) more room.1,
-    ))
-    c.gather_plain_terms.ensures.gathered
+    )) c.gather_plain_terms.ensures.gathered

@@ -1,6 +1,4 @@
-use Rattle.std.proofs.Common.{◌≡◌, ◌≢◌, ◌++◌, ◌∷◌, [], List, sym, subst, rules, pos}
-use Rattle.bits_model.specs.declared.output.Entry.{Entry}
-use Rattle.pair_sums.specs.PairLists.{AreGathered}
+use Rattle.pair_sums.proofs.Common.{◌≡◌, ◌≢◌, ◌++◌, ◌∷◌, [], List, sym, subst, rules, pos, Entry, AreGathered}
 use Rattle.pair_sums.proofs.PairSums.{gathered-push}
 use Rattle.pair_sums.proofs.gathered_pairs.GatheredPairs.push.Goals as goal
 

@@ -1,8 +1,4 @@
-use Rattle.std.proofs.Common.{List}
-use Rattle.std.specs.List.Sorted.{IsPermutation}
-use Rattle.std.proofs.lemmas.List.Sorted.{IsPermutation-trans}
-use Rattle.std.proofs.lemmas.Result.{IfOk-weaker}
-use Rattle.bits_model.specs.declared.output.Entry.{Entry}
+use Rattle.pair_sums.proofs.Common.{List, IsPermutation, IsPermutation-trans, IfOk-weaker, Entry}
 use Rattle.pair_sums.proofs.PairSums.{joined-permuted}
 use Rattle.pair_sums.proofs.gathered_pairs.GatheredPairs.sorted.Goals as goal
 

@@ -1,10 +1,4 @@
-use Rattle.std.proofs.Common.{◌≡◌, ◌^◌, List, sym, subst, arith, length}
-use Rattle.std.specs.Prelude.{All}
-use Rattle.std.proofs.lemmas.List.{nil_from_length}
-use Rattle.std.proofs.lemmas.List.Sorted.{All-permutation}
-use Rattle.std.proofs.lemmas.Result.{IfOk-weaker}
-use Rattle.bits_model.specs.declared.output.Entry.{Entry}
-use Rattle.pair_sums.specs.Pairs.{IsPair, AreSummed}
+use Rattle.pair_sums.proofs.Common.{◌≡◌, ◌^◌, List, sym, subst, arith, length, All, nil_from_length, All-permutation, IfOk-weaker, Entry, IsPair, AreSummed}
 use Rattle.pair_sums.proofs.PairSums.{joined-permuted, summed-ordered, summed-permuted}
 use Rattle.pair_sums.proofs.gathered_pairs.GatheredPairs.summed.Goals as goal
 

@@ -1,9 +1,4 @@
-use Rattle.std.proofs.Common.{List, map, subst, length, ◌<◌}
-use Rattle.std.specs.List.Sorted.{IsPermutation}
-use Rattle.std.proofs.lemmas.List.Sorted.{All-permutation, IsPermutation-map}
-use Rattle.bits_model.specs.declared.output.Entry.{Entry}
-use Rattle.bits_model.specs.PairNumbers.{pair_number}
-use Rattle.pair_sums.specs.Codes.{listed, low_of}
+use Rattle.pair_sums.proofs.Common.{List, map, subst, length, ◌<◌, IsPermutation, All-permutation, IsPermutation-map, Entry, pair_number, listed, low_of}
 use Rattle.pair_sums.proofs.PairSums.{codes-ordered, ordered-map}
 use Rattle.pair_sums.proofs.listed.ListedPairs.sorted.Goals as goal
 

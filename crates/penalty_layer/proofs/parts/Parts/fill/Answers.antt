@@ -1,5 +1,4 @@
-use Rattle.std.proofs.Common.{arith}
-use Rattle.problem_form.proofs.CountedNumbers.{slack_range-le}
+use Rattle.penalty_layer.proofs.Common.{arith, slack_range-le}
 use Rattle.penalty_layer.proofs.parts.Parts.fill.Goals as goal
 
 pub push_slack-requires-clause-range : goal.push_slack-requires-clause-range

@@ -1,7 +1,4 @@
-use Rattle.std.proofs.Common.{◌≡◌, ◌++◌, ◌∷◌, [], rules, ◌∙◌}
-use Rattle.problem_form.specs.WeighedLists.{zip_with}
-use Rattle.problem_form.proofs.WeighedParts.{zip_with-push}
-use Rattle.penalty_layer.specs.Gathered.{term_of}
+use Rattle.penalty_layer.proofs.Common.{◌≡◌, ◌++◌, ◌∷◌, [], rules, ◌∙◌, zip_with, zip_with-push, term_of}
 use Rattle.penalty_layer.proofs.parts.Parts.push.Goals as goal
 
 pub returns : goal.returns

@@ -1,12 +1,10 @@
+use Rattle.penalty_layer.proofs.Common.{nat_tests}
 use Rattle.std.proofs.Common.{arith}
 use Rattle.penalty_layer.proofs.SlackSteps.{push_weight, power_small, power_more}
 use Rattle.penalty_layer.proofs.parts.Parts.push_doubled.Goals as goal
 
 pub push_slack_bit-requires : goal.push_slack_bit-requires
-push_slack_bit-requires c =
-    let inside = c.loop-test.true in
-    let few = c.requires.count in
-    omega (arith, power_small c.loop.counter (omega arith), c.loop.invariant.weight)
+push_slack_bit-requires c = grind (arith, nat_tests, power_small)
 
 pub overflow_mul-weight : goal.overflow_mul-weight
 overflow_mul-weight c =

@@ -1,6 +1,4 @@
-use Rattle.std.proofs.Common.{◌≡◌, ◌+◌, ◌-◌, ◌^◌, ◌++◌}
-use Rattle.penalty_layer.specs.Slack.{doubled}
-use Rattle.penalty_layer.specs.Squares.{slack_terms}
+use Rattle.penalty_layer.proofs.Common.{◌≡◌, ◌+◌, ◌-◌, ◌^◌, ◌++◌, doubled, slack_terms}
 use Rattle.penalty_layer.proofs.parts.Parts.push_doubled.Given as goal
 
 -- the bits so far, and those of the weights that are left, are all

@@ -1,5 +1,4 @@
-use Rattle.std.proofs.Common.{◌≡◌, ◌++◌, map}
-use Rattle.penalty_layer.specs.Squares.{product_term}
+use Rattle.penalty_layer.proofs.Common.{◌≡◌, ◌++◌, map, product_term}
 use Rattle.penalty_layer.proofs.parts.Parts.push_products.Given as goal
 
 -- the parts, with the products that are left, are all

@@ -1,10 +1,4 @@
-use Rattle.std.proofs.Common.{◌≡◌, [], rules, ap, ◌∙◌}
-use Rattle.std.specs.Int.{w128}
-use Rattle.std.proofs.lemmas.Int.{to_z-of_z}
-use Rattle.form_steps.specs.declared.layer.BitsLink.{BitsLink}
-use Rattle.problem_form.specs.Problems.{ProblemContent}
-use Rattle.term_table.specs.Tables.{kept_at_once}
-use Rattle.penalty_layer.specs.Penalty.{image, Fits}
+use Rattle.penalty_layer.proofs.Common.{arith, nat_tests, ◌≡◌, [], rules, ap, ◌∙◌, w128, to_z-of_z, BitsLink, ProblemContent, kept_at_once, image, Fits}
 use Rattle.penalty_layer.proofs.Admitted.{made_image, made_total, made_size, made_relaxes, threshold_within}
 use Rattle.penalty_layer.proofs.RoomForTerms.{room-contributions}
 use Rattle.penalty_layer.proofs.penalty.PenaltyGuard.guard.Goals as goal
@@ -29,18 +23,10 @@ returns-clause-relaxes c =
     (to_z-of_z w128 c.upper.result (search rules) ∙ c.upper.ensures)
 
 pub returns-clause-threshold_high : goal.returns-clause-threshold_high
-returns-clause-threshold_high c =
-    threshold_within c.args.source.now _ c.requires
-    (to_z-of_z w128 c.upper.result (search rules) ∙ c.upper.ensures)
+returns-clause-threshold_high c = grind (arith, nat_tests, threshold_within, to_z-of_z)
 
 pub returns-clause-total : goal.returns-clause-total
-returns-clause-total c =
-    let p = c.args.source.now in
-    made_total p c.into_table.result c.requires.within
-    (made_image p c.add_contributions.new.terms c.into_table.result c.in_ok-add_contributions.ensures c.into_table.ensures)
+returns-clause-total c = grind (arith, nat_tests, made_total, made_image)
 
 pub returns-clause-size : goal.returns-clause-size
-returns-clause-size c =
-    let p = c.args.source.now in
-    made_size p c.into_table.result c.requires
-    (made_image p c.add_contributions.new.terms c.into_table.result c.in_ok-add_contributions.ensures c.into_table.ensures)
+returns-clause-size c = grind (arith, nat_tests, made_size, made_image)

@@ -1,13 +1,6 @@
-use Rattle.std.proofs.Common.{◌≡◌, ◌+ℤ◌, ℤ, List, to_z, of_z, ap, ◌∙◌, arith}
-use Rattle.std.specs.Int.{w128}
-use Rattle.std.proofs.lemmas.Int.{ints}
-use Rattle.base.specs.Sums.{total_by}
-use Rattle.base.proofs.Totals.{total_by-append}
+use Rattle.quad_form.proofs.Common.{◌≡◌, ◌+ℤ◌, ℤ, List, to_z, of_z, ap, ◌∙◌, arith, w128, ints, total_by, total_by-append, bits_energy, size-energy, weights-append, QuadContent, node_entries, quad_value}
 use Rattle.base.specs.declared.costs.Cost.TheVariants.{Whole}
 use Rattle.bits_model.specs.declared.output.Kind.TheVariants.{Qubo}
-use Rattle.bits_model.specs.Output.{bits_energy}
-use Rattle.bits_model.proofs.Energies.{size-energy, weights-append}
-use Rattle.quad_form.specs.Quads.{QuadContent, node_entries, quad_value}
 use Rattle.quad_form.proofs.energy.QuadCosted.cost.Goals as goal
 
 pub overflow_add-result : goal.overflow_add-result

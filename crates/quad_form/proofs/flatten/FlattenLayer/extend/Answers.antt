@@ -1,5 +1,4 @@
-use Rattle.std.proofs.Common.{◌≡◌, rules}
-use Rattle.quad_form.specs.laws.Flattened.{flat_reaches}
+use Rattle.quad_form.proofs.Common.{◌≡◌, rules, flat_reaches}
 use Rattle.quad_form.proofs.flatten.FlattenLayer.extend.Goals as goal
 
 pub returns-clause-reaches : goal.returns-clause-reaches

@@ -1,16 +1,10 @@
-use Rattle.std.proofs.Common.{ap, ◌∙◌, arith}
-use Rattle.form_steps.specs.declared.layer.BitsLink.{BitsLink}
-use Rattle.quad_form.specs.Quads.{quad_total, quad_size}
-use Rattle.quad_form.specs.Flat.{image, Fits}
-use Rattle.quad_form.specs.laws.Flattened.{flat_keeps}
+use Rattle.quad_form.proofs.Common.{nat_tests, ap, arith, BitsLink, quad_total, quad_size, Fits, flat_keeps}
 use Rattle.quad_form.proofs.FlatForms.{quad_total-image, quad_size-image}
 use Rattle.quad_form.proofs.SummedForms.{table_of-table}
 use Rattle.quad_form.proofs.flatten.FlattenLayer.lower.Goals as goal
 
 pub returns-clause-image : goal.returns-clause-image
-returns-clause-image c =
-    let t = c.args.source.now.content in
-    c.in_ok-into_quad.ensures t c.in_ok-sums.ensures.summed ∙ ap image (table_of-table t c.sums_of.ensures.kept)
+returns-clause-image c = grind (arith, nat_tests, table_of-table)
 
 pub returns-clause-keeps : goal.returns-clause-keeps
 returns-clause-keeps c =

@@ -1,8 +1,4 @@
-use Rattle.std.proofs.Common.{◌≡◌, pos, neg_ℤ, ◌-ℤ◌, to_z, of_z, sym, ap, ◌∙◌, subst, arith, rules}
-use Rattle.std.specs.Int.{w128}
-use Rattle.std.proofs.lemmas.Int.{ints, to_z-of_z}
-use Rattle.quad_form.specs.Quads.{QuadContent, IsQuad}
-use Rattle.quad_form.specs.Units.{quad_unit, reduced}
+use Rattle.quad_form.proofs.Common.{nat_tests, ◌≡◌, pos, neg_ℤ, ◌-ℤ◌, to_z, of_z, sym, ap, ◌∙◌, subst, arith, w128, ints, to_z-of_z, QuadContent, IsQuad}
 use Rattle.quad_form.proofs.ReducedForms.{bits_linear, reduced_is_quad, made_of_weights, made_reduces, made_total, made_is_reduced}
 use Rattle.quad_form.proofs.quad.Quad.reduce.Goals as goal
 
@@ -14,16 +10,10 @@ invariant_of-result c =
     (reduced_is_quad _ c.self.invariant)
 
 pub returns-clause-target : goal.returns-clause-target
-returns-clause-target c =
-    made_of_weights c.self.inside.constant _ _ _ _ c.counted_weights-counted.ensures.nodes
-    c.counted_weights-counted.ensures.couplers
-    ∙ ap reduced c.self.view_is
+returns-clause-target c = grind (arith, nat_tests, ints, made_of_weights)
 
 pub returns-clause-unit : goal.returns-clause-unit
-returns-clause-unit c =
-    to_z-of_z w128 _ (search rules)
-    ∙ c.counted_weights-counted.ensures.unit
-    ∙ ap quad_unit c.self.view_is
+returns-clause-unit c = grind (arith, nat_tests, ints, to_z-of_z)
 
 pub returns-clause-reduces : goal.returns-clause-reduces
 returns-clause-reduces c =

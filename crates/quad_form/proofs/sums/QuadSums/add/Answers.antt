@@ -1,13 +1,4 @@
-use Rattle.std.proofs.Common.{rules, ◌≡◌, ◌+◌, ◌*◌, ◌≤◌, ◌^◌, ◌∙◌, take, drop, ap, sym, subst, length, ℤ, ◌+ℤ◌, unsigned_abs, to_z, of_z, ◌++◌, List, Result, Ok, Err, OnErr, arith}
-use Rattle.std.specs.Int.{w128}
-use Rattle.std.proofs.lemmas.Int.{ints, to_z-of_z, fits_signed_from_abs}
-use Rattle.std.proofs.Math.Seq.{take-append_seam}
-use Rattle.std.proofs.lemmas.Result.{IfOk-from_err}
-use Rattle.bits_model.specs.declared.output.Entry.{Entry}
-use Rattle.term_table.specs.Terms.{IsTermSet}
-use Rattle.term_table.specs.Tables.{with_appended}
-use Rattle.quad_form.specs.Short.{short_shares}
-use Rattle.quad_form.specs.Sums.{SumsContent, AreSummed, Gain, IsSums, size_of}
+use Rattle.quad_form.proofs.Common.{elements, nat_tests, rules, ◌≡◌, ◌+◌, ◌*◌, ◌≤◌, ◌^◌, ◌∙◌, take, drop, ap, sym, subst, length, ℤ, ◌+ℤ◌, unsigned_abs, to_z, of_z, ◌++◌, List, Result, Ok, Err, OnErr, arith, w128, ints, to_z-of_z, take-append_seam, IfOk-from_err, IsTermSet, with_appended, short_shares, SumsContent, AreSummed, Gain, IsSums}
 use Rattle.quad_form.proofs.HeldSums.{Added, few-more, fits-more, held-more}
 use Rattle.quad_form.proofs.ShortTerms.{short_constant-size}
 use Rattle.quad_form.proofs.sums.QuadSums.add.Goals.{After-unsigned_abs}
@@ -44,9 +35,7 @@ pub returns-in_err-push_short-clause-pairs : goal.returns-in_err-push_short-clau
 returns-in_err-push_short-clause-pairs c = IfOk-from_err _ _ c.from_residual.ensures.0
 
 pub returns-in_err-push_short-clause-unchanged : goal.returns-in_err-push_short-clause-unchanged
-returns-in_err-push_short-clause-unchanged c =
-    let held : List Entry → SumsContent = λ ps. record { total = c.self.inside.total; constant = c.self.inside.constant; weights = c.self.inside.weights.items; pairs = ps } in
-    on_err c.from_residual.result (ap held c.in_err-push_short.ensures.unchanged ∙ c.self.view_is)
+returns-in_err-push_short-clause-unchanged c = grind (arith, nat_tests, ints, on_err)
 
 pub add_short_shares-requires-clause-within : goal.add_short_shares-requires-clause-within
 add_short_shares-requires-clause-within c =
@@ -54,24 +43,11 @@ add_short_shares-requires-clause-within c =
     λ k d inside. omega (arith, c.requires.set.set.within k d inside, ap length c.deref_mut.ensures.value, wide)
 
 pub add_short_shares-requires-clause-small : goal.add_short_shares-requires-clause-small
-add_short_shares-requires-clause-small c =
-    omega (
-      arith,
-      c.requires.small,
-      ap unsigned_abs (to_z-of_z w128 c.args.coefficient (search rules)),
-      ap (λ (k : SumsContent). k.total) c.self.view_is,
-      c.self.invariant.weights,
-      ap size_of c.deref_mut.ensures.value,
-    )
+add_short_shares-requires-clause-small c = grind (arith, nat_tests, ints, to_z-of_z)
 
 pub overflow_add-self : goal.overflow_add-self
 overflow_add-self c =
-    let z : ℤ = to_z w128 (of_z w128 c.args.coefficient) in
-    let is : z ≡ c.args.coefficient = to_z-of_z w128 c.args.coefficient (search rules) in
-    let low : c.self.inside.total + unsigned_abs z ≤ 2 ^ 122 =
-    omega (arith, c.requires.small, ap unsigned_abs is, ap (λ (k : SumsContent). k.total) c.self.view_is) in
-    fits_signed_from_abs w128 _
-    (omega (arith, ints, c.constant_of.ensures, short_constant-size (c.args.literals.now, z), c.self.invariant.constant, low))
+    grind (arith, nat_tests, ints, to_z-of_z w128 c.args.coefficient (search rules))
 
 -- ---- what was added
 
@@ -128,23 +104,10 @@ returns-clause-width c =
     ap length (whole d) ∙ (gain d).width ∙ ap (λ (k : SumsContent). length k.weights) c.self.view_is
 
 pub returns-clause-total : goal.returns-clause-total
-returns-clause-total c =
-    let d = (goal.at.returns-clause-total c).After-unsigned_abs in
-    omega (
-      arith,
-      ap unsigned_abs (is d),
-      ap (λ (k : SumsContent). k.total) c.self.view_is,
-      c.unsigned_abs.ensures.value,
-    )
+returns-clause-total c = grind (arith, nat_tests, ints, goal.at.returns-clause-total c)
 
 pub returns-clause-pairs : goal.returns-clause-pairs
-returns-clause-pairs c =
-    let d = (goal.at.returns-clause-pairs c).After-unsigned_abs in
-    omega (
-      arith,
-      few-more (before d) (after d c.add_short_shares.new.weights) c.args.literals.now (z d) (set d) (added d) c.requires.short,
-      ap (λ (k : SumsContent). length k.pairs) c.self.view_is,
-    )
+returns-clause-pairs c = grind (arith, nat_tests, ints, elements, few-more)
 
 pub invariant_of-self-2 : goal.invariant_of-self-2
 invariant_of-self-2 c =

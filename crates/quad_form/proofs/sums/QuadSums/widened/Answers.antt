@@ -1,7 +1,4 @@
-use Rattle.std.proofs.Common.{rules, ◌≡◌, ◌≤◌, ap, arith, length, refl, subst, sym, to_z, of_z}
-use Rattle.std.specs.Int.{w128}
-use Rattle.std.proofs.lemmas.Int.{to_z-of_z}
-use Rattle.quad_form.specs.Sums.{SumsContent, AreSummed}
+use Rattle.quad_form.proofs.Common.{rules, ◌≡◌, ◌≤◌, ap, arith, length, refl, subst, sym, to_z, of_z, w128, to_z-of_z, SumsContent, AreSummed}
 use Rattle.quad_form.proofs.HeldSums.{fits-wider, held-wider}
 use Rattle.quad_form.proofs.sums.QuadSums.widened.Goals as goal
 

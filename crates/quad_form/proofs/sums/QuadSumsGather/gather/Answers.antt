@@ -1,9 +1,4 @@
-use Rattle.std.proofs.Common.{rules, ◌≤◌, ap, arith, length, unsigned_abs}
-use Rattle.std.specs.Int.{w128}
-use Rattle.std.proofs.lemmas.Int.{to_z-of_z}
-use Rattle.std.proofs.lemmas.List.Elements.{All-head}
-use Rattle.term_table.specs.Terms.{Term, IsTermSet}
-use Rattle.term_table.proofs.Additions.{terms_total-cons}
+use Rattle.quad_form.proofs.Common.{rules, ◌≤◌, ap, arith, length, unsigned_abs, w128, to_z-of_z, All-head, Term, IsTermSet, terms_total-cons}
 use Rattle.quad_form.proofs.HeldSums.{room_if_ok}
 use Rattle.quad_form.proofs.sums.QuadSumsGather.gather.Goals as goal
 
@@ -18,12 +13,7 @@ add-requires-clause-short c =
 
 pub add-requires-clause-small : goal.add-requires-clause-small
 add-requires-clause-small c =
-    omega (
-      arith,
-      ap unsigned_abs (to_z-of_z w128 c.args.coefficient (search rules)),
-      terms_total-cons (c.args.literals.now, c.args.coefficient) c.requires.0,
-      c.requires.1.total,
-    )
+    omega (arith, ap unsigned_abs (to_z-of_z w128 c.args.coefficient (search rules)), terms_total-cons)
 
 pub returns-clause-takes : goal.returns-clause-takes
 returns-clause-takes c more room =

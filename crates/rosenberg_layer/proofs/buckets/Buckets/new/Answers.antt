@@ -1,7 +1,4 @@
-use Rattle.std.proofs.Common.{◌≡◌, ◌<◌, List, ℕ, [], length, map, replicate, sym, ap, ◌∙◌, subst, arith, rules}
-use Rattle.std.specs.Prelude.{All}
-use Rattle.std.proofs.lemmas.List.Elements.{All-replicate}
-use Rattle.rosenberg_layer.specs.Buckets.{list_of}
+use Rattle.rosenberg_layer.proofs.Common.{◌≡◌, ◌<◌, List, ℕ, [], length, map, replicate, sym, ap, ◌∙◌, subst, arith, rules, All, All-replicate, list_of}
 use Rattle.rosenberg_layer.proofs.Chains.{map-none}
 use Rattle.rosenberg_layer.proofs.buckets.Buckets.new.Goals as goal
 

@@ -1,6 +1,4 @@
-use Rattle.std.proofs.Common.{◌≡◌, ◌+◌, ◌∷◌, ◌<◌, length, map, set, refl, sym, ap, ◌∙◌, subst, arith, rules}
-use Rattle.std.proofs.lemmas.List.{length-map, length-set}
-use Rattle.rosenberg_layer.specs.Buckets.{list_at, list_of, listed_count, IsApart, TermLists}
+use Rattle.rosenberg_layer.proofs.Common.{◌≡◌, ◌+◌, ◌∷◌, ◌<◌, length, map, set, refl, sym, ap, ◌∙◌, subst, arith, rules, length-map, length-set, list_at, list_of, listed_count, IsApart, TermLists}
 use Rattle.rosenberg_layer.proofs.Chains.{count_le, put_lists, put_room}
 use Rattle.rosenberg_layer.proofs.buckets.Buckets.put.Goals.{After-index-head}
 use Rattle.rosenberg_layer.proofs.buckets.Buckets.put.Goals as goal

@@ -1,7 +1,4 @@
-use Rattle.std.proofs.Common.{◌≡◌, ◌<◌, List, ℕ, [], length, map, get_or, set, refl, sym, ap, ◌∙◌, subst, arith, rules}
-use Rattle.std.specs.Prelude.{All}
-use Rattle.std.proofs.lemmas.List.{length-map}
-use Rattle.rosenberg_layer.specs.Buckets.{chain, list_of, TermLists}
+use Rattle.rosenberg_layer.proofs.Common.{◌≡◌, ◌<◌, List, ℕ, [], length, map, get_or, set, refl, sym, ap, ◌∙◌, subst, arith, rules, All, length-map, chain, list_of, TermLists}
 use Rattle.rosenberg_layer.proofs.Chains.{list_room, take_lists, take_room}
 use Rattle.rosenberg_layer.proofs.buckets.Buckets.take.Goals as goal
 
@@ -27,8 +24,6 @@ invariant_of-self c =
 
 pub returns-clause-lists : goal.returns-clause-lists
 returns-clause-lists c =
-    let nexts = c.self.inside.nexts.items in
-    let heads = c.self.inside.heads.items in
     let is = ap (λ (k : TermLists). k.lists) c.self.view_is in
-    take_lists nexts heads _ c.args.list refl
+    take_lists c.self.inside.nexts.items c.self.inside.heads.items _ c.args.list refl
     ∙ ap (λ (ls : List (List ℕ)). set ls c.args.list []) is

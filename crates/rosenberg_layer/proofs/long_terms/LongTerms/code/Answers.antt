@@ -1,5 +1,4 @@
-use Rattle.std.proofs.Common.{◌≡◌, ◌+◌, ◌*◌, ◌++◌, length, get_or, take, ap, ◌∙◌, arith, rules}
-use Rattle.std.proofs.lemmas.List.{get_or_read}
+use Rattle.rosenberg_layer.proofs.Common.{◌≡◌, ◌+◌, ◌*◌, ◌++◌, length, get_or, take, ap, ◌∙◌, arith, rules, get_or_read}
 use Rattle.rosenberg_layer.proofs.RingTerms.{kept_at, kept_code, IsKept}
 use Rattle.rosenberg_layer.proofs.long_terms.LongTerms.code.Goals.{After-ring}
 use Rattle.rosenberg_layer.proofs.long_terms.LongTerms.code.Goals as goal

@@ -1,23 +1,10 @@
-use Rattle.std.proofs.Common.{◌≡◌, ◌<◌, pos, List, length, get_or, ap, ◌∙◌, arith, rules, sym}
-use Rattle.std.specs.Int.{w128}
-use Rattle.std.proofs.lemmas.Int.{to_z-of_z}
-use Rattle.std.proofs.lemmas.List.{get_or_read}
-use Rattle.term_table.specs.Terms.{Term}
-use Rattle.rosenberg_layer.specs.Rings.{term_at}
+use Rattle.rosenberg_layer.proofs.Common.{◌≡◌, ◌<◌, pos, List, length, get_or, ap, ◌∙◌, arith, rules, sym, w128, to_z-of_z, get_or_read, Term, term_at}
 use Rattle.rosenberg_layer.proofs.RingTerms.{length-terms, terms-at}
 use Rattle.rosenberg_layer.proofs.long_terms.LongTerms.coefficient.Goals as goal
 
 pub index-requires : goal.index-requires
 index-requires c =
-    let old = c.self.inside in
-    let same = c.self.invariant.1 in
-    omega (
-      arith,
-      c.requires,
-      ap length c.self.view_is,
-      same,
-      length-terms old.rings old.turns.items old.coefficients.items c.self.invariant.0 same,
-    )
+    omega (arith, ap length c.self.view_is, c.self.invariant.1, length-terms)
 
 pub returns : goal.returns
 returns c =
@@ -26,12 +13,7 @@ returns c =
     let i = c.args.i in
     let same = c.self.invariant.1 in
     let within : i < length old.turns.items =
-    omega (
-      arith,
-      c.requires,
-      ap length c.self.view_is,
-      length-terms old.rings old.turns.items cs c.self.invariant.0 same,
-    ) in
+    omega (arith, ap length c.self.view_is, length-terms) in
     let read : c.index.result.now ≡ get_or cs i c.index.result.now = search rules in
     to_z-of_z w128 c.index.result.now (search rules)
     ∙ get_or_read cs i c.index.result.now (omega (arith, within, same)) read (pos 0)

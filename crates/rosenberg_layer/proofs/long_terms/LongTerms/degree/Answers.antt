@@ -1,6 +1,4 @@
-use Rattle.std.proofs.Common.{◌≡◌, ◌+◌, ◌≤◌, length, ap, arith, rules}
-use Rattle.std.proofs.lemmas.List.{get_or_read}
-use Rattle.rosenberg_layer.specs.Rings.{term_at}
+use Rattle.rosenberg_layer.proofs.Common.{◌≡◌, ◌+◌, ◌≤◌, length, ap, arith, rules, get_or_read, term_at}
 use Rattle.rosenberg_layer.proofs.RingTerms.{kept_at}
 use Rattle.rosenberg_layer.proofs.long_terms.LongTerms.degree.Goals.{After-index}
 use Rattle.rosenberg_layer.proofs.long_terms.LongTerms.degree.Goals as goal
@@ -13,9 +11,7 @@ left c =
     let kept = kept_at _ _ _ _ _ c.self.invariant.0 c.self.invariant.1 c.self.view_is c.requires in
     let turns = get_or_read _ c.args.i c.index.result.now kept.turns_within (search rules) 0 in
     let ring = ap length c.ring.ensures in
-    let degree = kept.degree in
-    let two = kept.two.0 in
-    (omega (arith, degree, turns, ring), omega (arith, two, turns, ring))
+    (omega (arith, kept.degree, turns, ring), omega (arith, kept.two.0, turns, ring))
 
 pub ring-requires : goal.ring-requires
 ring-requires c =

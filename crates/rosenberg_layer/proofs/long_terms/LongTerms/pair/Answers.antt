@@ -1,5 +1,4 @@
-use Rattle.std.proofs.Common.{◌∙◌}
-use Rattle.rosenberg_layer.specs.Rings.{term_at}
+use Rattle.rosenberg_layer.proofs.Common.{◌∙◌, term_at}
 use Rattle.rosenberg_layer.proofs.RingTerms.{pair-codes}
 use Rattle.rosenberg_layer.proofs.long_terms.LongTerms.pair.Goals as goal
 

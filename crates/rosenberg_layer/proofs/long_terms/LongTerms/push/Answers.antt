@@ -1,10 +1,4 @@
-use Rattle.std.proofs.Common.{◌++◌, ◌∷◌, [], length, map, ap, ◌∙◌, sym, arith, subst}
-use Rattle.std.specs.Int.{w128}
-use Rattle.std.specs.List.{AllZip}
-use Rattle.std.proofs.lemmas.Int.{to_z-of_z}
-use Rattle.std.proofs.lemmas.List.{length-append, length-map}
-use Rattle.literal_lists.specs.Codes.{code_of}
-use Rattle.rosenberg_layer.specs.Rings.{terms_in, HasTwo}
+use Rattle.rosenberg_layer.proofs.Common.{◌++◌, ◌∷◌, [], length, map, ap, ◌∙◌, sym, arith, subst, w128, AllZip, to_z-of_z, length-append, length-map, code_of, terms_in, HasTwo}
 use Rattle.rosenberg_layer.proofs.RingTerms.{terms-push, two-push, untouched}
 use Rattle.rosenberg_layer.proofs.long_terms.LongTerms.push.Goals as goal
 
@@ -18,17 +12,12 @@ invariant_of-self c =
     let both = two-push old.rings old.turns.items codes 0 c.self.invariant.0 two in (
       subst (λ rs. AllZip HasTwo rs c.append.new.turns.items) (sym new.rings)
           (subst (AllZip HasTwo (old.rings ++ codes ∷ [])) (sym new.turns) both),
-      let same = c.self.invariant.1 in
-          let back = to_z-of_z w128 c.args.coefficient c.ranges.coefficient in
+      let back = to_z-of_z w128 c.args.coefficient c.ranges.coefficient in
           let more = new.coefficients ∙ ap (λ k. old.coefficients.items ++ k ∷ []) back in
-          omega (
-            arith,
-            same,
-            ap length new.turns,
-            ap length more,
-            length-append old.turns.items (0 ∷ []),
-            length-append old.coefficients.items (c.args.coefficient ∷ []),
-          ),
+          let same = c.self.invariant.1 in
+          let one = length-append old.turns.items (0 ∷ []) in
+          let two = length-append old.coefficients.items (c.args.coefficient ∷ []) in
+          omega (arith, same, one, two, ap length new.turns, ap length more),
     )
 
 pub returns-in-Ok : goal.returns-in-Ok

@@ -1,6 +1,4 @@
-use Rattle.std.proofs.Common.{◌≡◌, ◌+◌, ◌≤◌, [], length, get_or, refl, arith, rules, sym, subst}
-use Rattle.std.proofs.lemmas.List.{get_or_read, length-set}
-use Rattle.rosenberg_layer.specs.Rings.{HasTwo}
+use Rattle.rosenberg_layer.proofs.Common.{◌≡◌, ◌+◌, ◌≤◌, [], length, get_or, refl, arith, rules, sym, subst, get_or_read, length-set, HasTwo}
 use Rattle.rosenberg_layer.proofs.RingTerms.{kept_at, replaced_two, replaced_terms, IsKept}
 use Rattle.rosenberg_layer.proofs.long_terms.LongTerms.replace.Goals.{After-index-turns}
 use Rattle.rosenberg_layer.proofs.long_terms.LongTerms.replace.Goals as goal
@@ -14,10 +12,9 @@ kept : (c : After-index-turns)
 kept c =
     let req = c.requires.within in
     let own = kept_at _ _ _ _ _ c.self.invariant.0 c.self.invariant.1 c.self.view_is req in
-    let degree = own.degree in
     let turns =
     get_or_read _ c.args.i c.index-turns.result.now own.turns_within (search rules) 0 in
-    (own, turns, omega (arith, degree, turns, c.requires.long))
+    (own, turns, omega (arith, own.degree, turns, c.requires.long))
 
 pub index-turns-requires : goal.index-turns-requires
 index-turns-requires c =

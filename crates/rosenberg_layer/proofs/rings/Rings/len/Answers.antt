@@ -1,5 +1,4 @@
-use Rattle.std.proofs.Common.{◌≡◌, rules, length, sym, ap, ◌∙◌}
-use Rattle.base.proofs.FlatParts.{length-parts}
+use Rattle.rosenberg_layer.proofs.Common.{◌≡◌, rules, length, sym, ap, ◌∙◌, length-parts}
 use Rattle.rosenberg_layer.proofs.rings.Rings.len.Goals as goal
 
 pub returns : goal.returns

@@ -1,6 +1,4 @@
-use Rattle.std.proofs.Common.{◌≡◌, ◌++◌, ◌∷◌, [], length, map, ap, ◌∙◌, rules}
-use Rattle.base.proofs.FlatParts.{pushed}
-use Rattle.literal_lists.specs.Codes.{code_of}
+use Rattle.rosenberg_layer.proofs.Common.{◌≡◌, ◌++◌, ◌∷◌, [], length, map, ap, ◌∙◌, rules, pushed, code_of}
 use Rattle.rosenberg_layer.proofs.rings.Rings.push.Goals as goal
 
 pub invariant_of-self-else-is_err : goal.invariant_of-self-else-is_err

@@ -1,6 +1,4 @@
-use Rattle.std.proofs.Common.{◌++◌, ◌∷◌, [], map, ap, ◌∙◌}
-use Rattle.base.proofs.FlatParts.{pushed}
-use Rattle.literal_lists.specs.Codes.{code_of}
+use Rattle.rosenberg_layer.proofs.Common.{◌++◌, ◌∷◌, [], map, ap, ◌∙◌, pushed, code_of}
 use Rattle.rosenberg_layer.proofs.rings.Rings.push_lent.Goals as goal
 
 pub invariant_of-self : goal.invariant_of-self

@@ -1,6 +1,4 @@
-use Rattle.std.proofs.Common.{◌≡◌, ◌+◌, ◌<◌, ℕ, List, [], length, get_or, set, refl, ap, ◌∙◌, arith, sym, subst}
-use Rattle.base.specs.FlatLists.{parts, start_of}
-use Rattle.base.proofs.FlatParts.{length-parts}
+use Rattle.rosenberg_layer.proofs.Common.{◌≡◌, ◌+◌, ◌<◌, ℕ, List, [], length, get_or, set, refl, ap, ◌∙◌, arith, sym, subst, parts, start_of, length-parts}
 use Rattle.rosenberg_layer.proofs.FlatSets.{put_within, put_parts}
 use Rattle.rosenberg_layer.proofs.rings.Rings.put.Goals.{After-start_of-start}
 use Rattle.rosenberg_layer.proofs.rings.Rings.put.Goals as goal
@@ -26,13 +24,7 @@ found c =
 
 pub start_of-start-requires : goal.start_of-start-requires
 start_of-start-requires c =
-    omega (
-      arith,
-      c.requires.list,
-      ap length c.self.view_is,
-      length-parts c.self.inside.codes.items 0 c.self.inside.ends.items,
-      ap length c.deref.ensures.value,
-    )
+    omega (arith, ap length c.self.view_is, length-parts, ap length c.deref.ensures.value)
 
 pub overflow_add-start : goal.overflow_add-start
 overflow_add-start c =

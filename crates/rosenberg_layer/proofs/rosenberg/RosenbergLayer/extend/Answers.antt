@@ -1,11 +1,4 @@
-use Rattle.std.proofs.Common.{sym, subst}
-use Rattle.std.specs.Prelude.{pos}
-use Rattle.std.proofs.lemmas.Result.{IfOk-weaker}
-use Rattle.form_steps.specs.Links.{first_bits}
-use Rattle.form_steps.specs.Relations.{Extends}
-use Rattle.term_table.specs.Tables.{form_of}
-use Rattle.rosenberg_layer.specs.Rosenberg.{image}
-use Rattle.rosenberg_layer.specs.laws.Kept.{rosen_reaches}
+use Rattle.rosenberg_layer.proofs.Common.{sym, subst, pos, IfOk-weaker, first_bits, Extends, form_of, image, rosen_reaches}
 use Rattle.rosenberg_layer.proofs.rosenberg.RosenbergLayer.extend.Goals as goal
 
 pub returns-clause-reaches : goal.returns-clause-reaches

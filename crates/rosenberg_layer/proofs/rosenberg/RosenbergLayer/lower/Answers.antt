@@ -1,12 +1,4 @@
-use Rattle.std.proofs.Common.{◌∙◌, ap, sym, subst, arith}
-use Rattle.std.specs.Prelude.{pos}
-use Rattle.form_steps.specs.declared.layer.BitsLink.{BitsLink}
-use Rattle.form_steps.specs.Links.{first_bits}
-use Rattle.form_steps.specs.Relations.{Keeps}
-use Rattle.term_table.specs.Terms.{terms_total}
-use Rattle.term_table.specs.Tables.{KeptTable, IsLow, form_of, table_size}
-use Rattle.rosenberg_layer.specs.Rosenberg.{Fits}
-use Rattle.rosenberg_layer.specs.laws.Kept.{rosen_keeps}
+use Rattle.rosenberg_layer.proofs.Common.{◌∙◌, ap, sym, subst, arith, pos, BitsLink, first_bits, Keeps, terms_total, KeptTable, IsLow, form_of, table_size, Fits, rosen_keeps}
 use Rattle.rosenberg_layer.proofs.Ends.{IsLow-image, nodes-few}
 use Rattle.rosenberg_layer.proofs.Turns.{excess-size}
 use Rattle.rosenberg_layer.proofs.Growth.{total-image, size-image}
@@ -14,15 +6,8 @@ use Rattle.rosenberg_layer.proofs.rosenberg.RosenbergLayer.lower.Goals as goal
 
 pub width-requires-2 : goal.width-requires-2
 width-requires-2 c =
-    let t = c.args.source.now.content in
     let width = ap (λ (u : KeptTable). u.content.width) c.in_ok-target.ensures.made in
-    omega (
-      arith,
-      width,
-      nodes-few t c.in_ok-target.ensures.kept.terms,
-      excess-size t.terms,
-      c.requires.size,
-    )
+    omega (arith, width, nodes-few, excess-size)
 
 pub known_low-requires : goal.known_low-requires
 known_low-requires c =
@@ -44,14 +29,12 @@ returns-clause-keeps c =
 
 pub returns-clause-total : goal.returns-clause-total
 returns-clause-total c =
-    let t = c.args.source.now.content in
     let same =
     ap (λ (u : KeptTable). terms_total u.content.terms)
     (c.known_low.ensures ∙ c.in_ok-target.ensures.made) in
-    omega (arith, same, total-image t c.in_ok-target.ensures.kept.terms)
+    omega (arith, same, total-image c.args.source.now.content c.in_ok-target.ensures.kept.terms)
 
 pub returns-clause-size : goal.returns-clause-size
 returns-clause-size c =
-    let t = c.args.source.now.content in
     let same = ap (λ (u : KeptTable). table_size u.content) (c.known_low.ensures ∙ c.in_ok-target.ensures.made) in
-    omega (arith, same, size-image t c.in_ok-target.ensures.kept.terms)
+    omega (arith, same, size-image c.args.source.now.content c.in_ok-target.ensures.kept.terms)

@@ -1,5 +1,4 @@
-use Rattle.std.proofs.Common.{◌≡◌, ◌-◌, length}
-use Rattle.rosenberg_layer.specs.Waiting.{Wait}
+use Rattle.rosenberg_layer.proofs.Common.{◌≡◌, ◌-◌, length, Wait}
 use Rattle.rosenberg_layer.proofs.waiting.Waiting.advance.Given as goal
 
 -- all terms still wait

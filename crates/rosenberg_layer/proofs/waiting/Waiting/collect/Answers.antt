@@ -1,8 +1,4 @@
-use Rattle.std.proofs.Common.{◌≡◌, ◌++◌, ℕ, List, [], length, map, ap, ◌∙◌, subst, arith}
-use Rattle.std.proofs.lemmas.List.{length-set}
-use Rattle.std.proofs.lemmas.List.Sorted.{IsNonDecreasingBy-from_sort}
-use Rattle.rosenberg_layer.specs.Buckets.{list_at}
-use Rattle.rosenberg_layer.specs.Waiting.{key_of, keys_left, AreWaiting}
+use Rattle.rosenberg_layer.proofs.Common.{◌≡◌, ◌++◌, ℕ, List, [], length, map, ap, ◌∙◌, subst, arith, length-set, IsNonDecreasingBy-from_sort, list_at, key_of, keys_left, AreWaiting}
 use Rattle.rosenberg_layer.proofs.WaitingTerms.{listed_within, wait_collected}
 use Rattle.rosenberg_layer.proofs.waiting.Waiting.collect.Goals as goal
 

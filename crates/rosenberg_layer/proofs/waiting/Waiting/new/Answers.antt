@@ -1,11 +1,4 @@
-use Rattle.std.proofs.Common.{◌≡◌, ◌<◌, ℕ, List, [], pos, true, length, refl, sym, ap, ◌∙◌, subst, arith}
-use Rattle.std.proofs.lemmas.List.{length-set, length-replicate}
-use Rattle.std.proofs.lemmas.List.Elements.{All-get_or}
-use Rattle.term_table.specs.Terms.{Term}
-use Rattle.rosenberg_layer.specs.Rosenberg.{is_long}
-use Rattle.rosenberg_layer.specs.Rings.{code_at}
-use Rattle.rosenberg_layer.specs.Buckets.{list_at, listed_count}
-use Rattle.rosenberg_layer.specs.Waiting.{AreWaiting}
+use Rattle.rosenberg_layer.proofs.Common.{◌≡◌, ◌<◌, ℕ, List, [], pos, true, length, refl, sym, ap, ◌∙◌, subst, arith, length-set, length-replicate, All-get_or, Term, is_long, code_at, list_at, listed_count, AreWaiting}
 use Rattle.rosenberg_layer.proofs.WaitingTerms.{apart_start, wait_none, wait_more, none-at, none-count}
 use Rattle.rosenberg_layer.proofs.waiting.Waiting.new.Goals as goal
 
@@ -40,9 +33,8 @@ put-requires-clause-apart c =
 
 pub put-requires-clause-few : goal.put-requires-clause-few
 put-requires-clause-few c =
-    let old = c.loop-term.invariant.wait.few in
     let below = c.loop-term-test.true in
-    omega (arith, old, below, c.len.ensures, c.requires.narrow)
+    omega (arith, c.loop-term.invariant.wait.few, below, c.len.ensures, c.requires.narrow)
 
 pub loop-term-preserved : goal.loop-term-preserved
 loop-term-preserved c =
@@ -65,16 +57,14 @@ loop-term-preserved c =
 pub returns-clause-wait : goal.returns-clause-wait
 returns-clause-wait c =
     let ts = c.args.terms.now in
-    let lists = c.loop-term.buckets.lists in
     let old = c.loop-term.invariant in
-    let keys = c.new-2.result.items in
-    let none : [] ≡ keys = sym c.new-2.ensures.items in
+    let none : [] ≡ c.new-2.result.items = sym c.new-2.ensures.items in
     let count : c.loop-term.term ≡ length ts =
     let past = c.loop-term-test.false in omega (arith, past, c.len-term-end.ensures, c.loop-term.auto.term-end) in
     record {
       all =
-          subst (λ n. AreWaiting ts n lists 0 keys) count
-          (subst (AreWaiting ts c.loop-term.term lists 0) none old.wait);
+          subst (λ n. AreWaiting ts n c.loop-term.buckets.lists 0 c.new-2.result.items) count
+          (subst (AreWaiting ts c.loop-term.term c.loop-term.buckets.lists 0) none old.wait);
       room = old.room;
       narrow = omega (arith, c.requires.narrow);
       place = omega arith;

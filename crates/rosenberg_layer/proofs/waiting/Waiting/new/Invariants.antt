@@ -1,5 +1,4 @@
-use Rattle.std.proofs.Common.{◌≡◌, [], length}
-use Rattle.rosenberg_layer.specs.Waiting.{AreWaiting}
+use Rattle.rosenberg_layer.proofs.Common.{◌≡◌, [], length, AreWaiting}
 use Rattle.rosenberg_layer.proofs.waiting.Waiting.new.Given as goal
 
 -- the terms so far wait

@@ -1,8 +1,4 @@
-use Rattle.std.proofs.Common.{◌≡◌, ◌+◌, ◌%◌, ◌^◌, ◌<◌, ◌∷◌, length, get_or, drop, sym, ap, ◌∙◌, subst, arith, rules, true}
-use Rattle.std.proofs.lemmas.List.{drop_more}
-use Rattle.rosenberg_layer.specs.Rosenberg.{is_long}
-use Rattle.rosenberg_layer.specs.Rings.{term_at}
-use Rattle.rosenberg_layer.specs.Waiting.{keys_left, AreWaiting}
+use Rattle.rosenberg_layer.proofs.Common.{◌≡◌, ◌+◌, ◌%◌, ◌^◌, ◌<◌, ◌∷◌, length, get_or, drop, sym, ap, ◌∙◌, subst, arith, rules, true, drop_more, is_long, term_at, keys_left, AreWaiting}
 use Rattle.rosenberg_layer.proofs.PairOrder.{two-long}
 use Rattle.rosenberg_layer.proofs.WaitingTerms.{keyed_first}
 use Rattle.rosenberg_layer.proofs.waiting.Waiting.next_pair.Goals.{After-index}
@@ -18,8 +14,7 @@ keyed c =
     let wait = c.in_ok-advance.ensures.wait in
     let key = c.index.result.now in
     let other = c.if-self-len.false in
-    let place = wait.place in
-    let inside : w.at < length w.keys.items = omega (arith, other, place, c.len.ensures) in
+    let inside : w.at < length w.keys.items = omega (arith, other, wait.place, c.len.ensures) in
     let read : key ≡ get_or w.keys.items w.at key = search rules in
     let rest = drop (w.at + 1) w.keys.items in
     let left : keys_left w ≡ key ∷ rest =

@@ -1,23 +1,10 @@
-use Rattle.std.proofs.Common.{◌≡◌, length, sym, ap, subst, ◌∙◌, refl, arith, List, [], ◌∷◌, pos, ℤ, to_z, of_z, cond, true, false, Bool, map, rules, FitsSigned}
-use Rattle.std.specs.Int.{w128}
-use Rattle.std.specs.Option.{option_copied}
-use Rattle.std.specs.Ordering.{int_eq}
-use Rattle.std.specs.Bool.{Decides}
-use Rattle.std.proofs.lemmas.Bool.Decides.{Decides-int_eq}
-use Rattle.std.proofs.lemmas.Int.{ints, to_z-of_z}
-use Rattle.term_table.specs.Terms.{with_additions}
-use Rattle.term_table.specs.Runs.{Run, entries, merged_terms, sum_over}
-use Rattle.term_table.specs.Rests.{rests_of, without, AreRests}
+use Rattle.term_table.proofs.Common.{false_from_ne_true, of_z, to_z, entries, Run, List, length, nat_tests, ◌≡◌, sym, ap, ◌∙◌, arith, [], ◌∷◌, pos, ℤ, cond, true, false, Bool, map, rules, FitsSigned, w128, option_copied, int_eq, Decides-int_eq, ints, to_z-of_z, merged_terms, sum_over, rests_of, without}
 use Rattle.term_table.proofs.MergedRests.{merged_terms-least, AreRests-without, length-least}
 use Rattle.term_table.proofs.RestSteps.{least_is, least_none}
 use Rattle.term_table.proofs.rests.Rests.next_term.Goals as goal
 
 not_zero : (z : ℤ) → (z ≡ pos 0 → ⊥) → int_eq z (pos 0) ≡ false
-not_zero z other = go (int_eq z (pos 0)) (Decides-int_eq z (pos 0))
-  where
-    go : (zero : Bool) → Decides zero (z ≡ pos 0) → zero ≡ false
-    go true d = absurd (other (d.0 refl))
-    go false d = refl
+not_zero z other = false_from_ne_true (int_eq z (pos 0)) (λ same. other ((Decides-int_eq z (pos 0)).0 same))
 
 pub take_set-sum-requires-clause-least : goal.take_set-sum-requires-clause-least
 take_set-sum-requires-clause-least c =
@@ -30,7 +17,7 @@ invariant_of-self c =
     let least =
     least_is rests c.in-Some.least.now (sym c.least_of.ensures ∙ ap option_copied c.in-Some.is) in (
       c.loop-least.invariant.few,
-      subst AreRests (sym c.take_set-sum.ensures.taken)
+      rw c.take_set-sum.ensures.taken
           (AreRests-without c.in-Some.least.now.0 rests c.loop-least.invariant.rests least),
     )
 
@@ -46,21 +33,15 @@ returns-then-sum-ne0 c =
     to_z-of_z w128 c.take_set-sum.result (search rules) ∙ c.take_set-sum.ensures.sum in
     let some : int_eq (sum_over ls rests) (pos 0) ≡ false =
     not_zero (sum_over ls rests) (λ e. c.if-sum-ne0.true (ap (of_z w128) (c.take_set-sum.ensures.sum ∙ e))) in
-    sym start
-    ∙ first
-    ∙ ap (λ (zero : Bool). cond zero (merged_terms (map (without ls) rests)) ((ls, sum_over ls rests) ∷ merged_terms (map (without ls) rests))) some
-    ∙ (λ i. (sym c.as_slice.ensures i, sym back i) ∷ merged_terms (sym c.take_set-sum.ensures.taken i))
+    grind (arith, nat_tests, ints)
 
 pub loop-least-smaller : goal.loop-least-smaller
 loop-least-smaller c =
     let rests = rests_of c.loop-least.self-inside.places c.loop-least.self-inside.runs.now in
     let least =
     least_is rests c.in-Some.least.now (sym c.least_of.ensures ∙ ap option_copied c.in-Some.is) in
-    omega (
-      arith,
-      length-least c.in-Some.least.now.0 rests least,
-      ap (λ (rs : List Run). length (entries rs)) c.take_set-sum.ensures.taken,
-    )
+    let fewer = length-least c.in-Some.least.now.0 rests least in
+    omega (arith, fewer, ap (λ (rs : List Run). length (entries rs)) c.take_set-sum.ensures.taken)
 
 pub loop-least-preserved : goal.loop-least-preserved
 loop-least-preserved c =
@@ -75,19 +56,12 @@ loop-least-preserved c =
     (Decides-int_eq (sum_over ls rests) (pos 0)).1 (sym c.take_set-sum.ensures.sum ∙ zero) in
     record {
       whole =
-          c.loop-least.invariant.whole
-          ∙ first
+          c.loop-least.invariant.whole ∙ first
           ∙ ap (λ (zero : Bool). cond zero (merged_terms (map (without ls) rests)) ((ls, sum_over ls rests) ∷ merged_terms (map (without ls) rests))) none
           ∙ ap merged_terms (sym c.take_set-sum.ensures.taken);
       few = c.loop-least.invariant.few;
-      rests =
-          subst AreRests (sym c.take_set-sum.ensures.taken)
-          (AreRests-without ls rests c.loop-least.invariant.rests least);
+      rests = rw c.take_set-sum.ensures.taken (AreRests-without ls rests c.loop-least.invariant.rests least);
     }
 
 pub returns : goal.returns
-returns c =
-    let rests = rests_of c.loop-least.self-inside.places c.loop-least.self-inside.runs.now in
-    let none : merged_terms rests ≡ [] =
-    ap (with_additions []) (least_none rests (sym c.least_of.ensures ∙ ap option_copied c.in_default.is)) in
-    (sym c.self.view_is ∙ c.loop-least.invariant.whole ∙ none, none)
+returns c = grind (arith, nat_tests, ints, least_none)

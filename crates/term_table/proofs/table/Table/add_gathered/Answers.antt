@@ -1,12 +1,8 @@
-use Rattle.std.proofs.Common.{◌≡◌, ◌∙◌, ◌+◌, ◌≤◌, ◌^◌, ◌++◌, ◌∷◌, [], arith, ap, subst, sym, ℕ, List, All, OnOk}
-use Rattle.term_table.specs.Terms.{terms_total, with_additions, IsTermSet}
-use Rattle.term_table.specs.Runs.{Run, merged_terms, settled}
-use Rattle.term_table.specs.Newest.{AreSettling}
-use Rattle.term_table.specs.Tables.{TableContent, KeptTable, with_all}
+use Rattle.term_table.proofs.Common.{IsTermSet, All, ℕ, ap, ◌∙◌, AreSettling, merged_terms, terms_total, sym, ◌^◌, ◌≤◌, nat_tests, ◌≡◌, ◌+◌, ◌++◌, ◌∷◌, [], arith, subst, List, OnOk, with_additions, Run, settled, TableContent, KeptTable}
 use Rattle.term_table.proofs.Additions.{terms_total-with_additions}
 use Rattle.term_table.proofs.KeptTerms.{OfSet, Ascends-with_additions, nonzero-with_additions}
 use Rattle.term_table.proofs.SettlingRuns.{settling_run}
-use Rattle.term_table.proofs.KeptTables.{IsKept-with_sums, IsKept-by_result, sums-by_result}
+use Rattle.term_table.proofs.KeptTables.{IsKept-by_result, IsKept-with_sums, sums-by_result}
 use Rattle.term_table.proofs.table.Table.add_gathered.Goals as goal
 
 pub append_run-requires : goal.append_run-requires
@@ -14,10 +10,8 @@ append_run-requires c =
     let width = c.self.inside.width in
     let runs : List Run = c.self.inside.runs.items in
     let all : TableContent = record { width = c.gathered.inside.width; terms = c.gathered.inside.terms.items } in
-    let P : KeptTable → TableContent → Type 0 = λ t g. terms_total t.content.terms + terms_total g.terms ≤ 2 ^ 124 in
     let small : terms_total (merged_terms runs) + terms_total all.terms ≤ 2 ^ 124 =
-    subst (λ (t : KeptTable). P t all) (sym c.self.view_is)
-    (subst (P c.args.self.now) (sym c.gathered.view_is) c.requires.small) in
+    rw (← c.self.view_is, ← c.gathered.view_is) at c.requires.small in
     subst (AreSettling runs) (sym c.sorted_sums.ensures)
     (settling_run width runs (with_additions [] all.terms) c.self.invariant.runs
     (Ascends-with_additions all.terms) (nonzero-with_additions all.terms)
@@ -28,13 +22,10 @@ invariant_of-self c =
     let width = c.self.inside.width in
     let runs : List Run = c.self.inside.runs.items in
     let all : TableContent = record { width = c.gathered.inside.width; terms = c.gathered.inside.terms.items } in
-    let P : KeptTable → TableContent → Type 0 = λ t g. terms_total t.content.terms + terms_total g.terms ≤ 2 ^ 124 in
     let small : terms_total (merged_terms runs) + terms_total all.terms ≤ 2 ^ 124 =
-    subst (λ (t : KeptTable). P t all) (sym c.self.view_is)
-    (subst (P c.args.self.now) (sym c.gathered.view_is) c.requires.small) in
+    rw (← c.self.view_is, ← c.gathered.view_is) at c.requires.small in
     let wide : all.width ≡ width =
-    ap (λ (g : TableContent). g.width) c.gathered.view_is
-    ∙ c.requires.width
+    ap (λ (g : TableContent). g.width) c.gathered.view_is ∙ c.requires.width
     ∙ sym (ap (λ (t : KeptTable). t.content.width) c.self.view_is) in
     let sets : All (OfSet (IsTermSet width)) all.terms =
     subst (λ (n : ℕ). All (OfSet (IsTermSet n)) all.terms) wide c.gathered.invariant.sets in
@@ -47,18 +38,7 @@ invariant_of-self c =
     (IsKept-with_sums width runs all.terms c.self.invariant sets small) done c.append_run.ensures.unchanged
 
 pub returns-clause-added : goal.returns-clause-added
-returns-clause-added c =
-    let width = c.self.inside.width in
-    let runs : List Run = c.self.inside.runs.items in
-    let all : TableContent = record { width = c.gathered.inside.width; terms = c.gathered.inside.terms.items } in
-    let new : List Run = c.append_run.new.runs.items in
-    let r = c.append_run.result in
-    let done : OnOk r (new ≡ settled (runs ++ with_additions [] all.terms ∷ [])) =
-    subst (λ (s : Run). OnOk r (new ≡ settled (runs ++ s ∷ []))) c.sorted_sums.ensures c.append_run.ensures.settled in
-    let table : TableContent = record { width = width; terms = merged_terms new } in
-    subst (λ (g : TableContent). OnOk r (table ≡ with_all c.args.self.now.content g.terms)) c.gathered.view_is
-    (subst (λ (t : KeptTable). OnOk r (table ≡ with_all t.content all.terms)) c.self.view_is
-    (sums-by_result r width runs new all.terms done))
+returns-clause-added c = grind (arith, nat_tests, sums-by_result)
 
 pub returns-clause-settled : goal.returns-clause-settled
 returns-clause-settled c =

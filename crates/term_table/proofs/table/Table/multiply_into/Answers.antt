@@ -1,11 +1,4 @@
-use Rattle.std.proofs.Common.{rules, ◌≡◌, ◌+◌, ◌++◌, ◌∙◌, ap, subst, sym, arith, to_z, of_z, ℕ, List, All}
-use Rattle.std.specs.Int.{w128}
-use Rattle.std.proofs.lemmas.Int.{to_z-of_z}
-use Rattle.std.proofs.lemmas.List.Elements.{All-head, All-tail}
-use Rattle.literal_lists.proofs.LentParts.{on_err}
-use Rattle.term_table.specs.Terms.{Term, terms_total}
-use Rattle.term_table.specs.Tables.{TableContent, with_more}
-use Rattle.term_table.specs.Products.{pairs_with, pairs_of, pair_products, IsFactor}
+use Rattle.term_table.proofs.Common.{pairs_of, terms_total, All-tail, nat_tests, rules, ◌≡◌, ◌+◌, ◌++◌, ◌∙◌, ap, subst, sym, arith, to_z, of_z, ℕ, List, All, w128, to_z-of_z, All-head, on_err, Term, TableContent, with_more, pairs_with, pair_products, IsFactor}
 use Rattle.term_table.proofs.Multiplying.{pair_products-append, all_small, row-total, nothing_added, prefix_by_result}
 use Rattle.term_table.proofs.Additions.{terms_total-append}
 use Rattle.term_table.proofs.Steps.{appended_more}
@@ -38,20 +31,16 @@ loop-ls-preserved c =
     let P : Term → Type 0 = λ v. IsFactor c.args.into.now.content.width v.0 in
     record {
       made =
-          appended_more now c.gather_row.new.into.terms row (pair_products n (pairs_of rest us))
-          (pair_products n (pairs_of left us)) _ pushed
+          appended_more now _ row _ _ _ pushed
           (ap (λ (ts : List Term). pair_products n (pairs_of ts us)) step
           ∙ pair_products-append n (pairs_with t us) (pairs_of rest us))
           c.loop-ls.invariant.made;
       width = ap (λ (v : TableContent). v.width) one ∙ c.loop-ls.invariant.width;
       small =
-          omega (
-            arith,
-            ap terms_total pushed ∙ terms_total-append now row,
-            row-total n a ls us,
-            all_small n (terms_total us) (terms_total c.args.into.now.content.terms + terms_total now) _ left rest t step
-                c.loop-ls.invariant.small,
-          );
+          let size = ap terms_total pushed ∙ terms_total-append now row in
+          let before = terms_total c.args.into.now.content.terms + terms_total now in
+          let few = all_small n (terms_total us) before _ left rest t step c.loop-ls.invariant.small in
+          omega (arith, size, row-total n a ls us, few);
       sets = All-tail P t rest (subst (λ (ts : List Term). All P ts) step c.loop-ls.invariant.sets);
     }
 
@@ -60,6 +49,4 @@ returns-in_err-gather_row-clause-prefix c =
     on_err c.from_residual.result (nothing_added c.args.into.now.content c.args.factor _)
 
 pub returns-clause-prefix : goal.returns-clause-prefix
-returns-clause-prefix c =
-    prefix_by_result c.add_gathered.result c.args.into.now c.add_gathered.new.self c.args.factor _
-    c.add_gathered.ensures.unchanged
+returns-clause-prefix c = grind (arith, nat_tests, prefix_by_result)

@@ -1,6 +1,0 @@
-use Rattle.direct_quad.proofs.LongTerms.{constants_close, shares_close, couplers_close}
-use Rattle.direct_quad.proofs.laws.laws_of_long_terms.Goals as goal
-
-pub returns : goal.returns
-returns c =
-    record { constants = constants_close; shares = shares_close; couplers = couplers_close }

@@ -1,9 +1,0 @@
-use Rattle.std.proofs.Common.{◌≡◌, ◌++◌, drop}
-use Rattle.std.specs.List.{flat_map}
-use Rattle.monomial_layer.specs.Monomials.{extension, new_bits}
-use Rattle.long_terms.proofs.long_table.LongTable.extended.Given as goal
-
--- the bits so far, and those of the terms that are left, are the extension
-abbrev pub invariant-loop-i : goal.invariant-loop-i
-invariant-loop-i l =
-    l.bits.items ++ flat_map (new_bits l.x) (drop l.i l.self.terms) ≡ extension l.x l.self.terms

@@ -1,4 +1,0 @@
-pub mod Apart
-pub mod Places
-pub mod Long
-pub mod Occurrences

@@ -1,0 +1,126 @@
+-- A form that has the sums of the parts is the image of the three steps.
+--
+-- The constant, the weight of each node and the sum of each pair of the image are what the parts
+-- give; couplers in order, none of them 0, are told by the sums of their pairs.
+use Rattle.quadratization.proofs.Common.{nat_tests, ◌≡◌, inl, inr, ℕ, ◌+◌, ◌*◌, ◌<◌, ◌≤◌, ◌^◌, arith, sym, ◌∙◌, refl, subst, List, [], ◌∷◌, length, get_or, pos, AllByRecursion, ints, cases_lt, same_lists, get_or_default, get_or-replicate, length-replicate, recursion_from_All, Entry, Literal, coefficient_of, terms_total, with_additions, TableContent, AreAdditions, table_size, coefficient_of-with_additions, node, IsLow-image, size-image, QuadContent, quad_total, quad_size, IsCoupler, IsQuad, zero_quad, weight_at, flat_sets, length-image, quad_total-image, quad_size-image, rising_from_ordered, couplers_are_pairs, nonzero_couplers, constant-fold, node-fold, pair-fold, IsQuad-image, same_entries, table_of, image, all_nodes, parts, sum_for, GivesSums, IsWithin, low_of, IsTable-low_of, total-low_of}
+use Rattle.term_table.specs.MultipliedOut.{contributions}
+use Rattle.quadratization.proofs.MultipliedOut.{sum_for-with_additions}
+use Rattle.quadratization.proofs.Split.{nodes-table, parts-give}
+
+-- the nodes of all parts
+pub width-low_of : (t : TableContent) → (low_of t).width ≡ all_nodes t
+width-low_of t = nodes-table t
+
+-- ---- how large the form is
+
+pub total-grows : (t : TableContent) → AreAdditions t
+    → quad_total (image t) + 1 ≤ (terms_total t.terms + 1) * 2 ^ 26
+total-grows t additions =
+    omega (arith, quad_total-image (low_of t) (IsLow-image (table_of t)), total-low_of t additions)
+
+pub size-grows : (t : TableContent) → quad_size (image t) ≤ table_size (table_of t) * 2 ^ 3
+size-grows t =
+    omega (arith, quad_size-image (low_of t) (IsLow-image (table_of t)), size-image (table_of t))
+
+-- ---- the sums of the image
+
+-- what is collected in between gives what the parts give
+sums-image : (ls : List Literal) (t : TableContent)
+    → coefficient_of ls (with_additions [] (contributions (low_of t).terms)) ≡ sum_for ls (parts t)
+sums-image ls t =
+    grind (arith, nat_tests, coefficient_of-with_additions, low_of, sum_for-with_additions, parts-give)
+
+pub constant-image : (t : TableContent) → (image t).constant ≡ sum_for [] (parts t)
+constant-image t = grind (arith, nat_tests, constant-fold, low_of, sums-image)
+
+pub weight-image : (t : TableContent) (i : ℕ) → AreAdditions t
+    → (terms_total t.terms + 1) * 2 ^ 26 ≤ 2 ^ 124 → i < (low_of t).width
+    → get_or (image t).diagonal i (pos 0) ≡ sum_for (node i ∷ []) (parts t)
+weight-image t i additions total within =
+    let low = low_of t in
+    let sets = recursion_from_All _ _ (flat_sets low (IsTable-low_of t additions total) (IsLow-image (table_of t))) in
+    let none = get_or-replicate low.width i (pos 0) (pos 0) within in
+    let folded = node-fold (zero_quad low.width) low.width i (with_additions [] (contributions low.terms)) (length-replicate low.width (pos 0)) sets in
+    omega (arith, ints, folded, none, sums-image (node i ∷ []) t)
+
+pub pair-image : (t : TableContent) (i j : ℕ) → AreAdditions t
+    → (terms_total t.terms + 1) * 2 ^ 26 ≤ 2 ^ 124
+    → weight_at i j (image t).couplers ≡ sum_for (node i ∷ node j ∷ []) (parts t)
+pair-image t i j additions total =
+    let low = low_of t in
+    let sets = recursion_from_All _ _ (flat_sets low (IsTable-low_of t additions total) (IsLow-image (table_of t))) in
+    let folded = pair-fold (zero_quad low.width) i j low.width (with_additions [] (contributions low.terms)) sets in
+    omega (arith, ints, folded, sums-image (node i ∷ node j ∷ []) t)
+
+-- ---- what has these sums
+
+-- the image is a quadratic form
+pub image-quad : (t : TableContent) → IsWithin t → IsQuad (image t)
+image-quad t within =
+    let additions = within.additions in
+    let total = within.total in
+    let narrow = within.narrow in
+    IsQuad-image (low_of t) (IsTable-low_of t additions total) (IsLow-image (table_of t))
+    (omega (arith, narrow, width-low_of t))
+    (omega (arith, total, total-low_of t additions))
+
+-- a pair that is none, or lies outside, has no weight
+weight-none : (n i j : ℕ) (es : List Entry) → AllByRecursion (IsCoupler n) es → (i < j → n ≤ j)
+    → weight_at i j es ≡ pos 0
+weight-none n i j [] all outside = refl
+weight-none n i j (e ∷ es) all outside =
+    grind (arith, nat_tests, weight-none n i j es all.1 outside)
+
+-- the image has a node for each that the parts have
+pub nodes-image : (t : TableContent) → length (image t).diagonal ≡ all_nodes t
+nodes-image t = length-image (low_of t) ∙ width-low_of t
+
+same_diagonals : (t : TableContent) (q : QuadContent) → IsWithin t
+    → GivesSums (all_nodes t) (parts t) q → q.diagonal ≡ (image t).diagonal
+same_diagonals t q within gives =
+    let wide = nodes-image t in
+    let lengths = gives.width ∙ sym wide in
+    same_lists q.diagonal (image t).diagonal lengths (λ k d in'.
+    let here : k < all_nodes t = subst (λ n. k < n) gives.width in' in
+    let low : k < (low_of t).width = subst (λ n. k < n) (sym (width-low_of t)) here in
+    get_or_default q.diagonal k d (pos 0) in'
+    ∙ gives.weights k here
+    ∙ sym (weight-image t k within.additions within.total low)
+    ∙ get_or_default (image t).diagonal k (pos 0) d (subst (λ n. k < n) lengths in'))
+
+same_pairs : (t : TableContent) (q : QuadContent) → IsWithin t
+    → GivesSums (all_nodes t) (parts t) q → (i j : ℕ)
+    → weight_at i j q.couplers ≡ weight_at i j (image t).couplers
+same_pairs t q within gives i j = elim (cases_lt i j) [
+  | inl up ↦ elim (cases_lt j (all_nodes t)) [
+    | inl in' ↦ gives.pairs i j up in' ∙ sym (pair-image t i j within.additions within.total)
+    | inr out ↦ none (λ h. out)
+  ]
+  | inr down ↦ none (λ h. absurd (omega (arith, down, h)))
+]
+  where
+    none : (i < j → all_nodes t ≤ j) → weight_at i j q.couplers ≡ weight_at i j (image t).couplers
+    none outside =
+        let couplers = recursion_from_All _ _ gives.couplers in
+        let others = recursion_from_All _ _ (image-quad t within).couplers in
+        weight-none (all_nodes t) i j q.couplers couplers outside
+        ∙ sym (weight-none (length (image t).diagonal) i j (image t).couplers others (rw (nodes-image t) outside))
+
+-- what has the sums of the parts is the image
+pub sums_give_image : (t : TableContent) (q : QuadContent) → IsWithin t
+    → GivesSums (all_nodes t) (parts t) q → q ≡ image t
+sums_give_image t q within gives =
+    let kept = image-quad t within in
+    let couplers = recursion_from_All _ _ gives.couplers in
+    let others = recursion_from_All _ _ kept.couplers in
+    let pairs = couplers_are_pairs _ q.couplers within.narrow couplers in
+    let other_pairs = couplers_are_pairs _ (image t).couplers kept.narrow others in
+    let constant : q.constant ≡ (image t).constant = gives.constant ∙ sym (constant-image t) in
+    let diagonal = same_diagonals t q within gives in
+    let same : q.couplers ≡ (image t).couplers =
+    same_entries q.couplers (image t).couplers pairs other_pairs
+    (rising_from_ordered q.couplers pairs gives.ordered)
+    (rising_from_ordered (image t).couplers other_pairs kept.ordered)
+    (nonzero_couplers _ q.couplers couplers) (nonzero_couplers _ (image t).couplers others)
+    (same_pairs t q within gives) in
+    λ k. record { constant = constant k; diagonal = diagonal k; couplers = same k }

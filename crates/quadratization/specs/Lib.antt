@@ -1,0 +1,15 @@
+pub mod Parts
+pub mod Places
+pub mod Gathered
+pub mod Rows
+pub mod Stated
+pub mod Direct
+pub mod ByPairs
+pub mod laws
+pub mod RowSums
+pub mod Held
+pub mod NewNodes
+pub mod Apart
+pub mod TermPlaces
+pub mod Long
+pub mod Occurrences
