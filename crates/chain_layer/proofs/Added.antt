@@ -1,14 +1,11 @@
 -- Steps of the layer's loops, over plain lists.
-use Rattle.chain_layer.proofs.Common.{nat_tests, elements, ◌≡◌, ◌≢◌, inl, inr, ℕ, zero, suc, ◌+◌, ◌*◌, ◌<◌, ◌≤◌, ◌^◌, Bool, cond, ◌||◌, List, [], ◌∷◌, ◌++◌, map, length, take, drop, get_or, set, replicate, fold, ℤ, pos, ◌+ℤ◌, unsigned_abs, neg_ℤ, sym, ap, subst, ◌∙◌, arith, append_assoc, append-nil, map-id, sum_by, flat_map, ◌==◌, All, AllByRecursion, AllZip, list_any, range_with_len, int_div_euclid, int_rem_euclid, ints, cases_eq, drop_more, drop_all, take_all, flat_map_more, get_or_past, get_or-set_same, get_or-set_other, length-set, length-map, length-replicate, get_or-replicate, fill_by_all, get_or-map-range_with_len, length-map-range_with_len, map-range_with_len_more, sum_by-cons, sum_by_push, sum_by-append, fold-append, if_so, total_by_push, Entry, weight_total, node_entries, IsCoupler, weights_within, Embedding, chain_of, nodes_of, field_of, strength, coupling_entry, field_at, equal_shares, shares, placed, ties, couplings_at, recursion_from_All, All-from_recursion, IsNode, shares_size, weights_of_equal, added, AllZip-long, list_any-append, get_or-map}
+use Rattle.chain_layer.proofs.Common.{nat_tests, elements, ◌≡◌, ◌≢◌, ℕ, zero, suc, ◌+◌, ◌*◌, ◌<◌, ◌≤◌, ◌^◌, Bool, cond, ◌||◌, List, [], ◌∷◌, ◌++◌, map, length, take, drop, get_or, set, replicate, fold, ℤ, pos, ◌+ℤ◌, unsigned_abs, neg_ℤ, sym, ap, subst, ◌∙◌, arith, append_assoc, append-nil, map-id, sum_by, flat_map, ◌==◌, All, AllByRecursion, AllZip, list_any, range_with_len, int_div_euclid, int_rem_euclid, ints, cases_eq, drop_more, drop_all, take_all, flat_map_more, get_or_past, get_or-set_same, get_or-set_other, length-set, length-map, length-replicate, get_or-replicate, fill_by_all, get_or-map-range_with_len, length-map-range_with_len, map-range_with_len_more, sum_by-cons, sum_by_push, sum_by-append, fold-append, if_so, total_by_push, Entry, weight_total, node_entries, IsCoupler, weights_within, Embedding, chain_of, nodes_of, field_of, strength, coupling_entry, field_at, equal_shares, shares, placed, ties, couplings_at, recursion_from_All, All-from_recursion, IsNode, shares_size, weights_of_equal, added, AllZip-long, list_any-append, get_or-map}
 use Rattle.chain_layer.proofs.Ordered.{ties_at}
 
 -- ---- fields
 
 pub length-added : (fields : List ℤ) (e : Entry) → length (added fields e) ≡ length fields
 length-added fields e = length-set fields e.first _
-
-quotient_small : (h : ℤ) (n : ℕ) → 0 < n → unsigned_abs (int_div_euclid h (pos n)) ≤ unsigned_abs h
-quotient_small h n some = grind (arith, nat_tests)
 
 -- the parts of a split field, as the code has them
 pub record IsSplit (chain : List ℕ) (h share : ℤ) (front back : List ℕ) : Type 0 where
@@ -25,13 +22,8 @@ pub split_weights : (chain : List ℕ) (h share : ℤ) (front back : List ℕ) �
     → IsSplit chain h share front back
     → length front * unsigned_abs (share +ℤ pos 1) + length back * unsigned_abs share ≡ unsigned_abs h
 split_weights chain h share front back filled split =
-    omega (
-      arith,
-      ap weight_total (split_shares chain h share front back split),
-      sum_by-append,
-      weights_of_equal,
-      shares_size,
-    )
+    let weights = ap weight_total (split_shares chain h share front back split) in
+    omega (arith, sum_by-append, weights_of_equal, shares_size)
 
 pub share_small : (chain : List ℕ) (h share : ℤ) (front back : List ℕ) → (chain ≢ [])
     → IsSplit chain h share front back → unsigned_abs share ≤ unsigned_abs h
@@ -68,8 +60,7 @@ fold_added : (n : ℕ) (es ds : List Entry) → AllByRecursion (λ e. e.first < 
     → fold added (map (field_at es) (range_with_len 0 n)) ds ≡ map (field_at (es ++ ds)) (range_with_len 0 n)
 fold_added n es [] h = ap (λ fs. map (field_at fs) (range_with_len 0 n)) (sym (append-nil es))
 fold_added n es (d ∷ ds) h =
-    ap (λ fs. fold added fs ds) (added_more n es d h.0)
-    ∙ fold_added n (es ++ d ∷ []) ds h.1
+    ap (λ fs. fold added fs ds) (added_more n es d h.0) ∙ fold_added n (es ++ d ∷ []) ds h.1
     ∙ ap (λ fs. map (field_at fs) (range_with_len 0 n)) (append_assoc es (d ∷ []) ds)
 
 -- entries that are added to fields of 0 give the sums
@@ -94,30 +85,28 @@ raised_both xs a b m i a_in b_in less i_in = grind (arith, nat_tests, elements)
 pub placed_more : (made whole : List Entry) (c : Entry) (cs : List Entry) (ps : List (ℕ × ℕ)) (i : ℕ)
     (p d : ℕ × ℕ) → i < length ps → p ≡ get_or ps i d → made ++ placed (c ∷ cs) (drop i ps) ≡ whole
     → (made ++ record { first = p.0; second = p.1; weight = c.weight } ∷ [])
-    ++ placed cs (drop (i + 1) ps)
-    ≡ whole
+    ++ placed cs (drop (i + 1) ps) ≡ whole
 placed_more made whole c cs ps i p d p_in is h =
     append_assoc made _ _
     ∙ ap (λ r. made ++ record { first = r.0; second = r.1; weight = c.weight } ∷ placed cs (drop (i + 1) ps)) is
-    ∙ sym (ap (λ l. made ++ placed (c ∷ cs) l) (drop_more ps i d p_in))
-    ∙ h
+    ∙ sym (ap (λ l. made ++ placed (c ∷ cs) l) (drop_more ps i d p_in)) ∙ h
 
 -- one more tie
-pub ties_more : (made whole : List Entry) (chain ps : List ℕ) (i n : ℕ) → i + 1 < length chain
-    → i < length ps → made ++ ties (λ _. n) (drop (i + 1) chain) (drop i ps) ≡ whole
+pub ties_of_more : (made whole : List Entry) (strong : ℕ → ℕ) (chain ps : List ℕ) (i n : ℕ)
+    → i + 1 < length chain → i < length ps → n ≡ strong (get_or chain (i + 1) 0)
+    → made ++ ties strong (drop (i + 1) chain) (drop i ps) ≡ whole
     → (made ++ coupling_entry (get_or chain (i + 1) 0) (get_or ps i 0) (neg_ℤ (pos n)) ∷ [])
-    ++ ties (λ _. n) (drop (i + 1 + 1) chain) (drop (i + 1) ps)
-    ≡ whole
-ties_more made whole chain ps i n q_in p_in h =
-    append_assoc made _ _
-    ∙ sym ((λ k. made ++ ties (λ _. n) (drop_more chain (i + 1) 0 q_in k) (drop_more ps i 0 p_in k)))
-    ∙ h
+    ++ ties strong (drop (i + 1 + 1) chain) (drop (i + 1) ps) ≡ whole
+ties_of_more made whole strong chain ps i n q_in p_in is h =
+    append_assoc made _ _ ∙ ap (λ m. made
+    ++ coupling_entry (get_or chain (i + 1) 0) (get_or ps i 0) (neg_ℤ (pos m))
+    ∷ ties strong (drop (i + 1 + 1) chain) (drop (i + 1) ps)) is ∙ sym ((λ k. made
+    ++ ties strong (drop_more chain (i + 1) 0 q_in k) (drop_more ps i 0 p_in k))) ∙ h
 
 -- the numbers up to one more
 pub range_more : (n : ℕ) → range_with_len 0 (n + 1) ≡ range_with_len 0 n ++ n ∷ []
 range_more n =
-    sym (map-id (range_with_len 0 (n + 1)))
-    ∙ map-range_with_len_more (λ i. i) 0 n n (omega arith)
+    sym (map-id (range_with_len 0 (n + 1))) ∙ map-range_with_len_more (λ i. i) 0 n n (omega arith)
     ∙ ap (λ l. l ++ n ∷ []) (map-id (range_with_len 0 n))
 
 pub flat_range : (f : ℕ → List Entry) (n : ℕ)
@@ -137,12 +126,8 @@ sum_within f k (suc n) h =
     let up : suc n ≡ n + 1 = omega arith in
     let rest = sum_within f k n in
     let more = sum_range f n in
-    elim (cases_eq k (suc n)) [
-      | inl same ↦ omega (arith, ap (λ m. sum_by f (range_with_len 0 m)) same)
-      | inr other ↦
-          let whole = ap (λ m. sum_by f (range_with_len 0 m)) up in
-          grind arith
-    ]
+    let cases = cases_eq k (suc n) in
+    grind (arith, nat_tests)
 
 -- ---- node by node
 
@@ -154,18 +139,15 @@ pub fields_more : (e : Embedding) (zeros fields next : List ℤ) (i : ℕ)
     → next ≡ fold added fields (shares_at e i)
     → next ≡ fold added zeros (flat_map (shares_at e) (range_with_len 0 (i + 1)))
 fields_more e zeros fields next i so_far step =
-    step
-    ∙ ap (λ fs. fold added fs (shares_at e i)) so_far
+    step ∙ ap (λ fs. fold added fs (shares_at e i)) so_far
     ∙ sym (fold-append added zeros (flat_map (shares_at e) (range_with_len 0 i)) (shares_at e i))
     ∙ ap (fold added zeros) (sym (flat_range (shares_at e) i))
 
 pub ties_more_nodes : (e : Embedding) (before made next : List Entry) (i : ℕ)
-    → made ≡ before ++ flat_map (ties_at e) (range_with_len 0 i)
-    → next ≡ made ++ ties_at e i
+    → made ≡ before ++ flat_map (ties_at e) (range_with_len 0 i) → next ≡ made ++ ties_at e i
     → next ≡ before ++ flat_map (ties_at e) (range_with_len 0 (i + 1))
 ties_more_nodes e before made next i so_far step =
-    step
-    ∙ ap (λ es. es ++ ties_at e i) so_far
+    step ∙ ap (λ es. es ++ ties_at e i) so_far
     ∙ append_assoc before (flat_map (ties_at e) (range_with_len 0 i)) (ties_at e i)
     ∙ ap (λ es. before ++ es) (sym (flat_range (ties_at e) i))
 
@@ -175,11 +157,9 @@ pub strength_at : (e : Embedding) (xs : List ℕ) (i : ℕ) → xs ≡ map (stre
 strength_at e xs i same within =
     let size : length xs ≡ length e.ising.fields =
     ap length same ∙ length-map-range_with_len (strength e) 0 (length e.ising.fields) in
-    let below : i < length e.ising.fields = omega (arith, within, size) in (
-      below,
-      ap (λ l. get_or l i 0) same
-          ∙ get_or-map-range_with_len (strength e) 0 (length e.ising.fields) i i 0 below (omega arith),
-    )
+    let below : i < length e.ising.fields = omega (arith, within, size) in
+    let get = get_or-map-range_with_len (strength e) 0 (length e.ising.fields) i i 0 below in
+    grind (arith, nat_tests)
 
 pub at_map : (f : ℤ → ℕ) (hs : List ℤ) (i : ℕ) → i < length hs
     → get_or (map f hs) i 0 ≡ f (get_or hs i (pos 0))
@@ -210,8 +190,7 @@ pub all_strengths : (e : Embedding) (xs ys : List ℕ) (cs : List Entry)
 all_strengths e xs ys cs same listed size sums =
     let hs = e.ising.fields in
     let wide : length xs ≡ length hs = ap length same ∙ length-map hs (λ (h : ℤ). unsigned_abs h + 1) in
-    fill_by_all (strength e) ys (length hs) 0 (size ∙ wide)
-    (λ k l.
+    fill_by_all (strength e) ys (length hs) 0 (size ∙ wide) (λ k l.
     omega (arith, ap (λ s. get_or s k 0) same, at_map, ap (couplings_at k) listed))
 
 -- ---- fields by steps
@@ -306,10 +285,7 @@ left_more old xs zs all left e es is so_far raised =
       same_length = raised.same_length ∙ so_far.same_length;
       within = All-from_recursion (IsCoupler n) es couplers.1;
       small = λ i l. raised.small i (omega (arith, l, so_far.same_length));
-      sums = λ i l.
-          raised.sums i (omega (arith, l, so_far.same_length))
-          ∙ ap (λ fs. get_or xs i 0 + couplings_at i fs) (sym is)
-          ∙ so_far.sums i l;
+      sums = λ i l. grind (arith, nat_tests);
     }
 
 -- a chain has one qubit more than parents

@@ -6,7 +6,7 @@ pub use Rattle.std.specs.Prelude.{◌==◌, nat_lt, count_by, ⊤}
 pub use Rattle.std.specs.List.{AllByRecursion, AllZip, list_any, range_with_len, slice_index_or, concat}
 pub use Rattle.std.specs.Int.{int_div_euclid, int_rem_euclid, w128}
 pub use Rattle.std.proofs.lemmas.Int.{ints, to_z-of_z, to_z_pos}
-pub use Rattle.std.proofs.lemmas.Bool.{cases_eq, ltb-true, ltb-false, or_cases, and_parts, false_from_ne_true, or_parts, cases_lt}
+pub use Rattle.std.proofs.lemmas.Bool.{cases_eq, ltb-true, ltb-false, or_parts, cases_lt}
 pub use Rattle.std.proofs.lemmas.List.{drop_more, drop_all, take_all, flat_map_more, get_or_past, get_or-set_same, get_or-set_other, length-set, length-map, length-replicate, get_or-replicate, length-drop, take-map, get_or-map}
 pub use Rattle.std.proofs.lemmas.List.FromFn.{fill_by_all, get_or-map-range_with_len, length-map-range_with_len, map-range_with_len_more}
 pub use Rattle.std.proofs.lemmas.List.Sums.{sum_by-cons, sum_by_push, sum_by-append, fold-append, sum_by-le-sum_by}
@@ -26,7 +26,7 @@ pub use Rattle.quad_form.proofs.NodeEnergies.{weights_within, weights_more}
 pub use Rattle.embedding_check.specs.Embeddings.{Embedding, IsEmbedding, IsTie, parent_in, climbed, embedding_size, form_of}
 pub use Rattle.chain_map.specs.Chains.{chain_of, IsBetween, occurrences, Joins}
 pub use Rattle.bits_model.specs.PairNumbers.{pair_number}
-pub use Rattle.pair_sums.specs.Pairs.{IsPair, weight_for, weight_at}
+pub use Rattle.pair_sums.specs.Pairs.{IsPair, weight_for}
 pub use Rattle.pair_sums.proofs.PairOrder.{ArePairs, Before, Rises, same_pair, ordered_from_rising, rising_from_ordered}
 pub use Rattle.pair_sums.proofs.UniqueSums.{Before-further, same_entries}
 pub use Rattle.ising_form.specs.Isings.{IsIsing, ising_total, ising_size, IsingContent}

@@ -3,7 +3,7 @@
 -- A placed coupling has its ends in the two chains of its nodes, a tie in one chain, and a qubit is in
 -- one chain at most. So only two ties of one chain could have one pair. Then each of two qubits would
 -- be the parent of the other, and steps to the parent would never lead to the chain's first qubit.
-use Rattle.chain_layer.proofs.Common.{◌≡◌, ◌≢◌, ◌⊎◌, inl, inr, ℕ, zero, suc, ◌+◌, ◌*◌, ◌<◌, ◌≤◌, ◌^◌, Bool, true, false, cond, ◌&&◌, ◌||◌, List, [], ◌∷◌, ◌++◌, length, drop, ℤ, pos, neg_ℤ, refl, sym, ap, subst, ◌∙◌, arith, All, ◌==◌, nat_lt, count_by, ⊤, AllByRecursion, AllZip, range_with_len, flat_map, ints, nat_tests, IsPermutation, IsNonDecreasingBy, All-permutation, sum_by-IsPermutation, total_by-IsPermutation, cases_eq, ltb-true, ltb-false, or_cases, and_parts, false_from_ne_true, recursion_from_All, All-from_recursion, length_all_zip, length-map-range_with_len, sum_by-cons, Entry, IsCoupler, pair_number, IsPair, weight_for, weight_at, ArePairs, Before, Rises, same_pair, ordered_from_rising, rising_from_ordered, Before-further, same_entries, all_append, total_by-in_order, IsIsing, ising_total, is_in, first_of, Embedding, IsEmbedding, IsTie, parent_in, climbed, IsBetween, chain_of, strength, coupling_entry, ties, all_shares, all_ties, placed, field_at, inserted, in_order, image, in_first, in_rest, node_at, each_of_range, chain_within, one_chain, each_at, rest_in, Once, chain_once, AreOwn, apart_qubits, own_parents}
+use Rattle.chain_layer.proofs.Common.{◌≡◌, ◌≢◌, ◌⊎◌, inl, inr, ℕ, zero, suc, ◌+◌, ◌*◌, ◌<◌, ◌≤◌, ◌^◌, Bool, true, false, cond, ◌&&◌, ◌||◌, List, [], ◌∷◌, ◌++◌, length, drop, ℤ, pos, neg_ℤ, refl, sym, ap, subst, ◌∙◌, arith, All, ◌==◌, nat_lt, count_by, ⊤, AllByRecursion, AllZip, range_with_len, flat_map, ints, nat_tests, IsPermutation, IsNonDecreasingBy, All-permutation, sum_by-IsPermutation, total_by-IsPermutation, cases_eq, ltb-true, ltb-false, recursion_from_All, All-from_recursion, length_all_zip, length-map-range_with_len, sum_by-cons, Entry, IsCoupler, pair_number, IsPair, weight_for, ArePairs, Before, Rises, same_pair, ordered_from_rising, rising_from_ordered, Before-further, same_entries, all_append, total_by-in_order, IsIsing, ising_total, is_in, first_of, Embedding, IsEmbedding, IsTie, parent_in, climbed, IsBetween, chain_of, strength, coupling_entry, ties, all_shares, all_ties, placed, field_at, inserted, in_order, image, in_first, in_rest, node_at, each_of_range, chain_within, one_chain, each_at, rest_in, Once, chain_once, AreOwn, apart_qubits, own_parents}
 use Rattle.chain_layer.proofs.Sizes.{total_grows}
 
 -- ---- entries of different pairs, in order
@@ -19,12 +19,8 @@ all_inserted : (P : Entry → Type 0) (e : Entry) (es : List Entry) → P e → 
     → AllByRecursion P (inserted e es)
 all_inserted P e [] here all = (here, tt)
 all_inserted P e (f ∷ fs) here all =
-    go (nat_lt (pair_number f) (pair_number e)) (all_inserted P e fs here all.1)
-  where
-    go : (b : Bool) → AllByRecursion P (inserted e fs)
-        → AllByRecursion P (cond b (f ∷ inserted e fs) (e ∷ f ∷ fs))
-    go true later = (all.0, later)
-    go false later = (here, all)
+    let all_is = all_inserted P e fs here all.1 in
+    grind (arith, nat_tests)
 
 pub all_in_order : (P : Entry → Type 0) (es : List Entry) → AllByRecursion P es
     → AllByRecursion P (in_order es)
@@ -60,8 +56,7 @@ rises_in_order (e ∷ es) apart =
 abbrev IsOn : List (List ℕ) → ℕ → ℕ → Entry → Type 0
 IsOn chains i j e =
     ((is_in (chain_of chains i) e.first && is_in (chain_of chains j) e.second)
-    || (is_in (chain_of chains j) e.first && is_in (chain_of chains i) e.second))
-    ≡ true
+    || (is_in (chain_of chains j) e.first && is_in (chain_of chains i) e.second)) ≡ true
 
 -- an entry of two qubits in the chains of these nodes
 record IsOf (e : Embedding) (i j : ℕ) (entry : Entry) : Type 0 where
@@ -124,13 +119,6 @@ qubit_below : (e : Embedding) → IsEmbedding e → (i q : ℕ) → i < length e
     → is_in (chain_of e.chains i) q ≡ true → q < e.qubits
 qubit_below e kept i q within in' =
     each_at (λ p. p < e.qubits) (chain_of e.chains i) q (chain_within e kept i within) in'
-
-ends_cases : (a b c d : Bool) → ((a && b) || (c && d)) ≡ true
-    → ((a ≡ true) × (b ≡ true)) ⊎ ((c ≡ true) × (d ≡ true))
-ends_cases a b c d h = elim (or_cases (a && b) (c && d) h) [
-  | inl both ↦ inl (and_parts a b both)
-  | inr both ↦ inr (and_parts c d both)
-]
 
 placed_of : (e : Embedding) → IsEmbedding e → (c : Entry) (p : ℕ × ℕ)
     → IsCoupler (length e.ising.fields) c
@@ -224,13 +212,12 @@ ties_of_node : (e : Embedding) → IsEmbedding e → (i : ℕ) → i < length e.
     → AllZip (IsTie (chain_of e.chains i)) qs ps → AllByRecursion (IsTied e i) (ties (λ _. n + 1) qs ps)
 ties_of_node e kept i within [] ps n ins all = tt
 ties_of_node e kept i within (q ∷ qs) [] n ins all = tt
-ties_of_node e kept i within (q ∷ qs) (p ∷ ps) n ins all = (
-  (
-    tie_of e kept i q p (neg_ℤ (pos (n + 1))) within ins.0 all.0.inside all.0.apart,
-    λ none. negative n (sym (tie_weight q p (neg_ℤ (pos (n + 1)))) ∙ none),
-  ),
-  ties_of_node e kept i within qs ps n ins.1 all.1,
-)
+ties_of_node e kept i within (q ∷ qs) (p ∷ ps) n ins all =
+    let tie = tie_of e kept i q p (neg_ℤ (pos (n + 1))) within ins.0 all.0.inside all.0.apart in
+    let weight = tie_weight q p (neg_ℤ (pos (n + 1))) in
+    let negative_is = negative n in
+    let node = ties_of_node e kept i within qs ps n ins.1 all.1 in
+    grind (arith, nat_tests, ints)
 
 -- ---- two ties of one chain
 
@@ -273,26 +260,17 @@ one_tie_apart : (e : Embedding) → IsEmbedding e → (i first : ℕ) (cs ds : L
     → Apart (coupling_entry q p (neg_ℤ (pos n))) (ties (λ _. n) qs ps)
 one_tie_apart e kept i first cs ds root within inside q p n q_in own tie [] ps ins out owns all = tt
 one_tie_apart e kept i first cs ds root within inside q p n q_in own tie (r ∷ rs) [] ins out owns all = tt
-one_tie_apart e kept i first cs ds root within inside q p n q_in own tie (r ∷ rs) (t ∷ ts) ins out owns all = (
-  λ same.
-      let r_in = ins r (in_first r rs) in
-      let here = tie_of e kept i q p (neg_ℤ (pos n)) within (inside q q_in) tie.inside tie.apart in
-      let there = tie_of e kept i r t (neg_ℤ (pos n)) within (inside r r_in) all.0.inside all.0.apart in
-      let pair = same_pair _ _ _ _ (omega (arith, here.pair.within, kept.few)) (omega (arith, there.pair.within, kept.few)) same in
-      elim (same_ties q p r t (neg_ℤ (pos n)) pair.0 pair.1) [
-        | inl both ↦ apart_qubits q r (r ∷ rs) (ap (is_in (r ∷ rs)) (sym both.0) ∙ out) (ap (is_in (r ∷ rs)) both.0 ∙ in_first r rs) (sym both.0)
-        | inr crossed ↦
-            not_round first cs ds root q p q_in
-            (ap (is_in cs) crossed.1 ∙ r_in)
-            own
-            (ap (parent_in cs ds) crossed.1 ∙ owns.0 ∙ sym crossed.0)
-      ],
-  one_tie_apart e kept i first cs ds root within inside q p n q_in own tie rs ts
-      (λ s in'. ins s (in_rest r s rs in'))
-      (false_from_ne_true _ (λ again. let both : true ≡ false = sym (in_rest r q rs again) ∙ out in cc))
-      owns.1
-      all.1,
-)
+one_tie_apart e kept i first cs ds root within inside q p n q_in own tie (r ∷ rs) (t ∷ ts) ins out owns all =
+    let first_is = in_first r rs in
+    let tie_is = tie_of e kept i q p (neg_ℤ (pos n)) within (inside q q_in) tie.inside tie.apart in
+    let fact = tie_of e kept i r t (neg_ℤ (pos n)) within in
+    let same_is = same_ties q p r t (neg_ℤ (pos n)) in
+    let apart = apart_qubits q r (r ∷ rs) in
+    let not = not_round first cs ds root q p q_in in
+    let rest = in_rest r in
+    let rest_is = in_rest r q rs in
+    let one = one_tie_apart e kept i first cs ds root within inside q p n q_in own tie rs ts in
+    grind (arith, nat_tests, ints)
 
 ties_apart : (e : Embedding) → IsEmbedding e → (i first : ℕ) (cs ds : List ℕ) → IsRooted first cs ds
     → i < length e.ising.fields
@@ -303,10 +281,7 @@ ties_apart e kept i first cs ds root within inside n [] ps ins once owns all = t
 ties_apart e kept i first cs ds root within inside n (q ∷ qs) [] ins once owns all = tt
 ties_apart e kept i first cs ds root within inside n (q ∷ qs) (p ∷ ps) ins once owns all = (
   one_tie_apart e kept i first cs ds root within inside q p n (ins q (in_first q qs)) owns.0 all.0 qs ps
-      (λ r in'. ins r (in_rest q r qs in'))
-      once.0
-      owns.1
-      all.1,
+      (λ r in'. ins r (in_rest q r qs in')) once.0 owns.1 all.1,
   ties_apart e kept i first cs ds root within inside n qs ps (λ r in'. ins r (in_rest q r qs in')) once.1 owns.1 all.1,
 )
 
@@ -329,15 +304,8 @@ node_ties_apart e kept i within =
     let once = rest_apart chain node.filled (chain_once e kept i within) in
     ties_apart e kept i (first_of chain) (drop 1 chain) parents
     (record { apart = once.0; leads = λ q in'. node.tree.rooted q (rest_inside chain q in') })
-    within
-    (rest_inside chain)
-    (strength e i)
-    (drop 1 chain)
-    parents
-    (λ r in'. in')
-    once.1
-    (own_parents (drop 1 chain) parents once.1 (length_all_zip _ _ _ node.tree.ties))
-    node.tree.ties
+    within (rest_inside chain) (strength e i) (drop 1 chain) parents (λ r in'. in') once.1
+    (own_parents (drop 1 chain) parents once.1 (length_all_zip _ _ _ node.tree.ties)) node.tree.ties
 
 -- the ties of a node
 abbrev pub ties_at : Embedding → ℕ → List Entry
@@ -347,8 +315,7 @@ tied_node : (e : Embedding) → IsEmbedding e → (i : ℕ) → i < length e.isi
     → AllByRecursion (IsTied e i) (ties_at e i)
 tied_node e kept i within =
     ties_of_node e kept i within (drop 1 (chain_of e.chains i)) (chain_of e.parents i) _
-    (rest_in (chain_of e.chains i))
-    (node_at e kept i within).tree.ties
+    (rest_in (chain_of e.chains i)) (node_at e kept i within).tree.ties
 
 tied_nodes : (e : Embedding) → IsEmbedding e → (a n : ℕ) → a + n ≤ length e.ising.fields
     → AllByRecursion (IsTiedFrom e a) (flat_map (ties_at e) (range_with_len a n))
@@ -370,14 +337,20 @@ all_ties_apart e kept a zero high = tt
 all_ties_apart e kept a (suc n) high =
     let within : a < length e.ising.fields = omega (arith, high) in
     apart-append (ties_at e a) (flat_map (ties_at e) (range_with_len (a + 1) n))
-    (node_ties_apart e kept a within)
-    (all_ties_apart e kept (a + 1) n (omega (arith, high)))
+    (node_ties_apart e kept a within) (all_ties_apart e kept (a + 1) n (omega (arith, high)))
     (apart_kinds (IsTied e a) (IsTiedFrom e (a + 1))
     (λ f g tied from. numbers_apart e kept a a from.0 from.0 f g tied.0 from.2.0 (λ same again. omega (arith, same, from.1)))
-    (ties_at e a)
-    (flat_map (ties_at e) (range_with_len (a + 1) n))
-    (tied_node e kept a within)
+    (ties_at e a) (flat_map (ties_at e) (range_with_len (a + 1) n)) (tied_node e kept a within)
     (tied_nodes e kept (a + 1) n (omega (arith, high))))
+
+-- couplings of the first n qubits are pairs of the first m
+pub as_pairs : (m n : ℕ) (es : List Entry) → n ≤ m → AllByRecursion (IsCoupler n) es
+    → AllByRecursion (IsPair m) es
+as_pairs m n [] few all = tt
+as_pairs m n (e ∷ es) few all =
+    let up = all.0.upward in
+    let below = all.0.within in
+    (record { upward = up; within = omega (arith, below, few) }, as_pairs m n es few all.1)
 
 -- no two of them have one pair
 pub couplings_apart : (e : Embedding) → IsEmbedding e
@@ -387,57 +360,42 @@ couplings_apart e kept =
     let n = length e.ising.fields in
     apart-append (placed e.ising.couplings e.places) (all_ties e)
     (placed_apart e kept e.ising.couplings e.places pairs kept.placed
-    (rising_from_ordered e.ising.couplings (couplers_as_pairs n e.ising.couplings kept.ising.narrow pairs) kept.ising.ordered))
-    (all_ties_apart e kept 0 n (omega arith))
-    (apart_kinds (IsPlaced e) (IsTiedFrom e 0)
+    (rising_from_ordered e.ising.couplings (as_pairs (2 ^ 32) n e.ising.couplings (omega (arith, kept.ising.narrow)) pairs) kept.ising.ordered))
+    (all_ties_apart e kept 0 n (omega arith)) (apart_kinds (IsPlaced e) (IsTiedFrom e 0)
     (λ f g one from. numbers_apart e kept one.0 one.1 from.0 from.0 f g one.3 from.2.0 (λ same again. omega (arith, same, again, one.2)))
-    (placed e.ising.couplings e.places)
-    (all_ties e)
+    (placed e.ising.couplings e.places) (all_ties e)
     (all_placed e kept e.ising.couplings e.places pairs kept.placed)
     (tied_nodes e kept 0 n (omega arith)))
-  where
-    couplers_as_pairs : (n : ℕ) (cs : List Entry) → n < 2 ^ 32 → AllByRecursion (IsCoupler n) cs → ArePairs cs
-    couplers_as_pairs n [] narrow h = tt
-    couplers_as_pairs n (c ∷ cs) narrow h =
-        let up = h.0.upward in
-        let below = h.0.within in
-        (record { upward = up; within = omega (arith, below, narrow) }, couplers_as_pairs n cs narrow h.1)
 
 -- each is a coupling of two qubits, and not 0
 pub all_couplers : (e : Embedding) → IsEmbedding e
     → AllByRecursion (IsCoupler e.qubits) (placed e.ising.couplings e.places ++ all_ties e)
 all_couplers e kept =
-    all_append (IsCoupler e.qubits) (placed e.ising.couplings e.places) (all_ties e)
-    (each (λ f one. record { upward = one.3.pair.upward; within = one.3.pair.within; nonzero = one.4 })
-    (placed e.ising.couplings e.places)
-    (all_placed e kept e.ising.couplings e.places (recursion_from_All _ _ kept.ising.couplings) kept.placed))
-    (each (λ f from. record { upward = from.2.0.pair.upward; within = from.2.0.pair.within; nonzero = from.2.1 })
-    (all_ties e)
-    (tied_nodes e kept 0 (length e.ising.fields) (omega arith)))
+    let all = all_placed e kept e.ising.couplings e.places in
+    let tied = tied_nodes e kept 0 (length e.ising.fields) in
+    let append = all_append (IsCoupler e.qubits) (placed e.ising.couplings e.places) (all_ties e) in
+    grind (arith, nat_tests, recursion_from_All, each)
 
-pub image_rises : (e : Embedding) → IsEmbedding e → Rises (image e).couplings
-image_rises e kept = rises_in_order (placed e.ising.couplings e.places ++ all_ties e) (couplings_apart e kept)
-
-pub image_couplers : (e : Embedding) → IsEmbedding e → AllByRecursion (IsCoupler e.qubits) (image e).couplings
-image_couplers e kept =
-    all_in_order (IsCoupler e.qubits) (placed e.ising.couplings e.places ++ all_ties e) (all_couplers e kept)
-
-pub image_pairs : (e : Embedding) → IsEmbedding e → ArePairs (image e).couplings
-image_pairs e kept =
-    each (λ f h. let up = h.upward in let below = h.within in record { upward = up; within = omega (arith, below, kept.few) })
-    (image e).couplings
-    (image_couplers e kept)
+-- couplings of different pairs, put in order
+pub in_order_rises : (n : ℕ) (es : List Entry) → n ≤ 2 ^ 20 → AllByRecursion (IsCoupler n) es
+    → AreApart es
+    → ArePairs (in_order es) × Rises (in_order es) × AllByRecursion (IsCoupler n) (in_order es)
+in_order_rises n es few all apart =
+    let here = all_in_order (IsCoupler n) es all in
+    (as_pairs (2 ^ 32) n (in_order es) (omega (arith, few)) here, rises_in_order es apart, here)
 
 -- the image is an Ising form
 pub image_is_ising : (e : Embedding) → IsEmbedding e → (ising_total e.ising + 1) * 2 ^ 21 ≤ 2 ^ 124
     → IsIsing (image e)
 image_is_ising e kept small =
     let width = length-map-range_with_len (field_at (all_shares e)) 0 e.qubits in
+    let ordered = in_order_rises e.qubits (placed e.ising.couplings e.places ++ all_ties e) kept.few
+    (all_couplers e kept) (couplings_apart e kept) in
     record {
-      ordered = ordered_from_rising (image e).couplings (image_pairs e kept) (image_rises e kept);
+      ordered = ordered_from_rising (image e).couplings ordered.0 ordered.1;
       couplings =
           subst (λ n. All (IsCoupler n) (image e).couplings) (sym width)
-          (All-from_recursion _ _ (image_couplers e kept));
+          (All-from_recursion _ _ ordered.2);
       narrow = omega (arith, width, kept.few);
       small = omega (arith, total_grows e kept, small);
     }
@@ -498,31 +456,33 @@ rises_from_sorted (e ∷ es) sorted few =
           (λ m. omega (arith, numbered-cons m e es, few m)),
     )
 
+-- sorted by their numbers they are in order
+pub sorted_is_in_order : (n : ℕ) (from to : List Entry) → n ≤ 2 ^ 20
+    → AllByRecursion (IsCoupler n) from → AreApart from → IsPermutation from to
+    → IsNonDecreasingBy pair_number to → to ≡ in_order from
+sorted_is_in_order n from to few all apart moved sorted =
+    let here : AllByRecursion (IsCoupler n) to =
+    recursion_from_All (IsCoupler n) to
+    (All-permutation (IsCoupler n) from to moved (All-from_recursion (IsCoupler n) from all)) in
+    let once : (m : ℕ) → numbered m to ≤ 1 =
+    λ m. omega (
+      arith,
+      sum_by-IsPermutation (λ f. cond (pair_number f == m) 1 0) from to moved,
+      few_numbered from apart m,
+    ) in
+    let ordered = in_order_rises n from few all apart in
+    same_entries to (in_order from) (as_pairs (2 ^ 32) n to (omega (arith, few)) here) ordered.0
+    (rises_from_sorted to sorted once) ordered.1
+    (each (λ (f : Entry) (h : IsCoupler n f). h.nonzero) to here)
+    (each (λ (f : Entry) (h : IsCoupler n f). h.nonzero) (in_order from) ordered.2)
+    (λ i j. total_by-IsPermutation (weight_for i j) from to moved
+    ∙ sym (total_by-in_order (weight_for i j) from))
+
 -- sorted, they are those of the image
 pub sorted_is_image : (e : Embedding) → IsEmbedding e → (from to : List Entry)
     → from ≡ placed e.ising.couplings e.places ++ all_ties e → IsPermutation from to
     → IsNonDecreasingBy pair_number to → to ≡ (image e).couplings
 sorted_is_image e kept from to listed moved sorted =
-    let all : AllByRecursion (IsCoupler e.qubits) from =
-    subst (AllByRecursion (IsCoupler e.qubits)) (sym listed) (all_couplers e kept) in
-    let here : AllByRecursion (IsCoupler e.qubits) to =
-    recursion_from_All (IsCoupler e.qubits) to
-    (All-permutation (IsCoupler e.qubits) from to moved (All-from_recursion (IsCoupler e.qubits) from all)) in
-    let few : (n : ℕ) → numbered n to ≤ 1 =
-    λ n.
-    omega (
-      arith,
-      sum_by-IsPermutation (λ f. cond (pair_number f == n) 1 0) from to moved,
-      ap (numbered n) listed,
-      few_numbered (placed e.ising.couplings e.places ++ all_ties e) (couplings_apart e kept) n,
-    ) in
-    same_entries to (image e).couplings
-    (each (λ (f : Entry) (h : IsCoupler e.qubits f). let up = h.upward in let below = h.within in record { upward = up; within = omega (arith, below, kept.few) }) to here)
-    (image_pairs e kept)
-    (rises_from_sorted to sorted few)
-    (image_rises e kept)
-    (each (λ (f : Entry) (h : IsCoupler e.qubits f). h.nonzero) to here)
-    (each (λ f h. h.nonzero) (image e).couplings (image_couplers e kept))
-    (λ i j.
-    total_by-IsPermutation (weight_for i j) from to moved ∙ ap (weight_at i j) listed
-    ∙ sym (total_by-in_order (weight_for i j) (placed e.ising.couplings e.places ++ all_ties e)))
+    sorted_is_in_order e.qubits from to kept.few
+    (subst (AllByRecursion (IsCoupler e.qubits)) (sym listed) (all_couplers e kept))
+    (subst AreApart (sym listed) (couplings_apart e kept)) moved sorted ∙ ap in_order listed

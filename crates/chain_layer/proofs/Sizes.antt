@@ -39,8 +39,7 @@ weights_of_nodes f a b (suc n) =
     let rest = weights_of_nodes f (suc a) (b + 1) n in
     simp sum_by-cons (grind (arith, nat_tests, ints))
 
-weights_of_fields : (hs : List ℤ)
-    → weight_total (node_entries 0 hs)
+weights_of_fields : (hs : List ℤ) → weight_total (node_entries 0 hs)
     ≡ sum_by (λ i. unsigned_abs (slice_index_or hs i (pos 0))) (range_with_len 0 (length hs))
 weights_of_fields hs =
     let f : ℕ → ℤ = λ i. slice_index_or hs i (pos 0) in
@@ -55,15 +54,10 @@ fields_small n [] h = omega (arith, ints, range-zero 0 n)
 fields_small n (e ∷ es) h =
     let first : ℕ → ℤ = λ q. if_so (q == e.first) (pos (size e)) in
     let rest : ℕ → ℤ = λ q. pos (unsigned_abs (field_at es q)) in
-    omega (
-      arith,
-      ints,
-      range-le (λ q. pos (unsigned_abs (field_at (e ∷ es) q))) (λ q. first q +ℤ rest q) 0 n
-          (λ q l. grind (arith, nat_tests, ints)),
-      total_by-plus first rest (range_with_len 0 n),
-      hit (λ q. pos (size e)) e.first 0 n (omega arith) (omega (arith, h.0)),
-      fields_small n es h.1,
-    )
+    let same = range-le (λ q. pos (unsigned_abs (field_at (e ∷ es) q))) (λ q. first q +ℤ rest q) 0 n
+    (λ q l. grind (arith, nat_tests, ints)) in
+    let more = hit (λ q. pos (size e)) e.first 0 n (omega arith) (omega (arith, h.0)) in
+    omega (arith, ints, total_by-plus first rest (range_with_len 0 n), fields_small n es h.1)
 
 -- all shares together have the sizes of the fields
 pub weights_of_shares : (e : Embedding) → IsEmbedding e
@@ -77,15 +71,9 @@ weights_of_shares e kept =
 pub weights_of_image_fields : (e : Embedding) → IsEmbedding e
     → weight_total (node_entries 0 (image e).fields) ≤ weight_total (node_entries 0 e.ising.fields)
 weights_of_image_fields e kept =
-    omega (
-      arith,
-      ints,
-      weights_of_nodes,
-      sum_is (λ q. unsigned_abs (field_at (all_shares e) q)) (range_with_len 0 e.qubits),
-      fields_small e.qubits (all_shares e) (shares_within e kept),
-      sum_is size (all_shares e),
-      weights_of_shares,
-    )
+    let sum = sum_is (λ q. unsigned_abs (field_at (all_shares e) q)) (range_with_len 0 e.qubits) in
+    let fields = fields_small e.qubits (all_shares e) (shares_within e kept) in
+    omega (arith, ints, weights_of_nodes, sum_is size (all_shares e), weights_of_shares)
 
 -- ---- couplings and ties
 
@@ -120,26 +108,17 @@ pub weights_of_ties_by : (strong : ℕ → ℕ → ℕ) (e : Embedding)
 weights_of_ties_by strong e =
     let f : ℕ → List Entry =
     λ i. ties (strong i) (drop 1 (chain_of e.chains i)) (chain_of e.parents i) in
-    omega (
-      arith,
-      weights-flat_map f (nodes_of e),
-      sums_le (λ i. weight_total (f i)) (λ i. sum_by (strong i) (drop 1 (chain_of e.chains i))) 0
-          (length e.ising.fields)
-          (λ i l. weights_of_ties (strong i) (drop 1 (chain_of e.chains i)) (chain_of e.parents i)),
-    )
+    let sums = sums_le (λ i. weight_total (f i)) (λ i. sum_by (strong i) (drop 1 (chain_of e.chains i))) 0
+    (length e.ising.fields)
+    (λ i l. weights_of_ties (strong i) (drop 1 (chain_of e.chains i)) (chain_of e.parents i)) in
+    omega (arith, weights-flat_map f (nodes_of e))
 
 -- the image's total is that of the form and the ties
 pub total_of_image : (e : Embedding) → IsEmbedding e
     → ising_total (image e) ≤ ising_total e.ising + ties_cost e
 total_of_image e kept =
-    omega (
-      arith,
-      weights-append,
-      weights-in_order,
-      weights_placed,
-      weights_of_ties_by (by_node e) e,
-      weights_of_image_fields,
-    )
+    let ties = weights_of_ties_by (by_node e) e in
+    omega (arith, weights-append, weights-in_order, weights_placed, weights_of_image_fields)
 
 -- ---- how many ties there are
 
@@ -153,17 +132,11 @@ chain_counted n [] h = range-zero 0 n
 chain_counted n (p ∷ ps) h =
     let first : ℕ → ℤ = λ q. if_so (q == p) (pos 1) in
     let rest : ℕ → ℤ = λ q. pos (count_by (λ r. r == q) ps) in
-    omega (
-      arith,
-      ints,
-      total_by-same (λ q. pos (count_by (λ r. r == q) (p ∷ ps))) (λ q. first q +ℤ rest q)
-          (range_with_len 0 n)
-          (λ q.
-          let next = sum_by-cons (λ r. cond (r == q) 1 0) p ps in grind (arith, nat_tests, ints)),
-      total_by-plus first rest (range_with_len 0 n),
-      hit (λ q. pos 1) p 0 n (omega arith) (omega (arith, h.0)),
-      chain_counted n ps h.1,
-    )
+    let total = total_by-same (λ q. pos (count_by (λ r. r == q) (p ∷ ps))) (λ q. first q +ℤ rest q)
+    (range_with_len 0 n) (λ q.
+    let next = sum_by-cons (λ r. cond (r == q) 1 0) p ps in grind (arith, nat_tests, ints)) in
+    let more = hit (λ q. pos 1) p 0 n (omega arith) (omega (arith, h.0)) in
+    omega (arith, ints, total_by-plus first rest (range_with_len 0 n), chain_counted n ps h.1)
 
 occurrences-cons : (q : ℕ) (c : List ℕ) (cs : List (List ℕ))
     → occurrences q (c ∷ cs) ≡ count_by (λ p. p == q) c + occurrences q cs
@@ -175,16 +148,10 @@ chains_counted n [] h = range-zero 0 n
 chains_counted n (c ∷ cs) h =
     let first : ℕ → ℤ = λ q. pos (count_by (λ p. p == q) c) in
     let rest : ℕ → ℤ = λ q. pos (occurrences q cs) in
-    omega (
-      arith,
-      ints,
-      total_by-same (λ q. pos (occurrences q (c ∷ cs))) (λ q. first q +ℤ rest q) (range_with_len 0 n)
-          (λ q. ap pos (occurrences-cons q c cs)),
-      total_by-plus first rest (range_with_len 0 n),
-      chain_counted n c h.0,
-      chains_counted n cs h.1,
-      sum_by-cons,
-    )
+    let total = total_by-same (λ q. pos (occurrences q (c ∷ cs))) (λ q. first q +ℤ rest q) (range_with_len 0 n)
+    (λ q. ap pos (occurrences-cons q c cs)) in
+    let total_plus = total_by-plus first rest (range_with_len 0 n) in
+    omega (arith, ints, chain_counted n c h.0, chains_counted n cs h.1, sum_by-cons)
 
 ones_of : (a n : ℕ) → total_by (λ q. pos 1) (range_with_len a n) ≡ pos n
 ones_of a zero = refl
@@ -215,13 +182,10 @@ lengths_of chains =
     fill_by_all f chains (length chains) [] refl (λ k h. refl) in
     let mapped : total_by (λ (c : List ℕ). pos (length c)) (map f (range_with_len 0 (length chains))) ≡ total_by (λ i. pos (length (f i))) (range_with_len 0 (length chains)) =
     total_by-map (λ (c : List ℕ). pos (length c)) f (range_with_len 0 (length chains)) in
-    omega (
-      arith,
-      ints,
-      ap (total_by (λ (c : List ℕ). pos (length c))) listed,
-      sum_is (λ (c : List ℕ). length c) chains,
-      sum_is (λ i. length (f i)) (range_with_len 0 (length chains)),
-    )
+    let same = ap (total_by (λ (c : List ℕ). pos (length c))) listed in
+    let sum = sum_is (λ (c : List ℕ). length c) chains in
+    let more = sum_is (λ i. length (f i)) (range_with_len 0 (length chains)) in
+    omega (arith, ints)
 
 -- the qubits of all chains, node by node
 pub few_qubits : (e : Embedding) → IsEmbedding e
@@ -257,13 +221,9 @@ ties_cost-le e kept =
     let most = ising_total e.ising + 1 in
     let few : sum_by (λ i. length (chain_of e.chains i)) (nodes_of e) ≤ 2 ^ 20 =
     omega (arith, few_qubits e kept, kept.few) in
-    omega (
-      arith,
-      costs_same e,
-      costs_below most (strength e) (λ i. length (chain_of e.chains i)) 0 (length e.ising.fields)
-          (λ i l. strength-le e i (omega (arith, l))),
-      mul-le-mul_left most few,
-    )
+    let costs = costs_below most (strength e) (λ i. length (chain_of e.chains i)) 0 (length e.ising.fields)
+    (λ i l. strength-le e i (omega (arith, l))) in
+    omega (arith, costs_same e, mul-le-mul_left most few)
 
 -- ---- what the layer promises
 
@@ -303,35 +263,25 @@ length-placed (c ∷ cs) (p ∷ ps) = omega (arith, length-placed cs ps)
 length-ties : (strong : ℕ → ℕ) (qs ps : List ℕ) → length (ties strong qs ps) ≤ length qs
 length-ties strong [] ps = omega arith
 length-ties strong (q ∷ qs) [] = omega arith
-length-ties strong (q ∷ qs) (p ∷ ps) =
-    let rest = length-ties strong qs ps in omega (arith, rest)
+length-ties strong (q ∷ qs) (p ∷ ps) = let rest = length-ties strong qs ps in omega (arith, rest)
 
 pub length-ties_by : (strong : ℕ → ℕ → ℕ) (e : Embedding) → IsEmbedding e
     → length (ties_by strong e) ≤ e.qubits
 length-ties_by strong e kept =
     let f : ℕ → List Entry =
     λ i. ties (strong i) (drop 1 (chain_of e.chains i)) (chain_of e.parents i) in
-    omega (
+    let sums = sums_le (λ i. length (f i)) (λ i. length (chain_of e.chains i)) 0 (length e.ising.fields)
+    (λ i l. omega (
       arith,
-      length-flat_map,
-      sums_le (λ i. length (f i)) (λ i. length (chain_of e.chains i)) 0 (length e.ising.fields)
-          (λ i l. omega (
-            arith,
-            length-ties (strong i) (drop 1 (chain_of e.chains i)) (chain_of e.parents i),
-            length-drop 1 (chain_of e.chains i),
-          )),
-      few_qubits,
-    )
+      length-ties (strong i) (drop 1 (chain_of e.chains i)) (chain_of e.parents i),
+      length-drop 1 (chain_of e.chains i),
+    )) in
+    omega (arith, length-flat_map, few_qubits)
 
 pub sizes-in_order : (es : List Entry) → sum_by entry_size (in_order es) ≡ sum_by entry_size es
 sizes-in_order es =
-    omega (
-      arith,
-      ints,
-      sum_is entry_size (in_order es),
-      sum_is entry_size es,
-      total_by-in_order (λ e. pos (entry_size e)) es,
-    )
+    let total = total_by-in_order (λ e. pos (entry_size e)) es in
+    omega (arith, ints, sum_is entry_size (in_order es), sum_is entry_size es)
 
 -- a node counts one at most
 pub sizes_of_nodes : (ws : List ℤ) (n : ℕ) → sum_by entry_size (node_entries n ws) ≤ length ws

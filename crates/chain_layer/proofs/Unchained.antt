@@ -25,7 +25,6 @@ pub unchained_field : (e : Embedding) → IsEmbedding e → (q : ℕ) → is_cha
 unchained_field e kept q none =
     nothing (all_shares e) q
     (each_of_range (λ s. (q == s.first) ≡ false) (λ i. shares (chain_of e.chains i) (field_of e i)) 0
-    (length e.ising.fields)
-    (λ i low high.
+    (length e.ising.fields) (λ i low high.
     shares_of (λ p. (q == p) ≡ false) (chain_of e.chains i) (field_of e i)
     (others (chain_of e.chains i) q (not_in e.chains q i none (omega (arith, high, kept.counted))))))

@@ -1,5 +1,5 @@
 -- What a model on the qubits of a graph asks of an image.
-use Rattle.chain_layer.proofs.Common.{◌≡◌, inl, inr, ℕ, ◌<◌, Bool, true, false, cond, List, [], ◌∷◌, ◌++◌, length, drop, All, pos, neg_ℤ, ℤ, sym, subst, ◌∙◌, arith, nat_lt, AllByRecursion, AllZip, slice_index_or, cases_lt, get_or_past, take-map, All-from_recursion, AllZip-get_or, length-map-range_with_len, get_or-map-range_with_len, Entry, majority, is_chained, Joins, chain_of, Embedding, IsEmbedding, IsParent, AreParents, IsPlaceOf, strength, coupling_entry, ties, all_ties, all_shares, placed, field_at, image, ImageFitsOutput, ImageIsJoined, ReadOffTheChains, all_append, each_of_range}
+use Rattle.chain_layer.proofs.Common.{nat_tests, ◌≡◌, inl, inr, ℕ, ◌<◌, Bool, true, false, cond, List, [], ◌∷◌, ◌++◌, length, drop, All, pos, neg_ℤ, ℤ, sym, subst, ◌∙◌, arith, nat_lt, AllByRecursion, AllZip, slice_index_or, cases_lt, get_or_past, take-map, All-from_recursion, AllZip-get_or, length-map-range_with_len, get_or-map-range_with_len, Entry, majority, is_chained, Joins, chain_of, Embedding, IsEmbedding, IsParent, AreParents, IsPlaceOf, strength, coupling_entry, ties, all_ties, all_shares, placed, field_at, image, ImageFitsOutput, ImageIsJoined, ReadOffTheChains, all_append, each_of_range}
 use Rattle.chain_layer.proofs.Ordered.{ties_at, all_in_order}
 use Rattle.chain_layer.proofs.Unchained.{unchained_field}
 
@@ -8,14 +8,13 @@ use Rattle.chain_layer.proofs.Unchained.{unchained_field}
 -- a qubit on no chain has no field
 field_of_unchained : (e : Embedding) → IsEmbedding e → (q : ℕ) → is_chained e.chains q ≡ false
     → slice_index_or (image e).fields q (pos 0) ≡ pos 0
-field_of_unchained e kept q none = elim (cases_lt q e.qubits) [
-  | inl within ↦
-      get_or-map-range_with_len (field_at (all_shares e)) 0 e.qubits q q (pos 0) within (omega arith)
-      ∙ unchained_field e kept q none
-  | inr past ↦
-      get_or_past (image e).fields q (pos 0)
-      (omega (arith, past, length-map-range_with_len (field_at (all_shares e)) 0 e.qubits))
-]
+field_of_unchained e kept q none =
+    let cases = cases_lt q e.qubits in
+    let get = get_or-map-range_with_len (field_at (all_shares e)) 0 e.qubits q q (pos 0) in
+    let unchained = unchained_field e kept q none in
+    let length = length-map-range_with_len (field_at (all_shares e)) 0 e.qubits in
+    let get_past = get_or_past (image e).fields q (pos 0) in
+    grind (arith, nat_tests)
 
 pub image_fits_output : ImageFitsOutput
 image_fits_output e rows cols shore variables kept same enough = record {
@@ -68,14 +67,12 @@ pub node_joined : (joined : Joins) → ((a b : ℕ) → joined a b ≡ joined b 
 node_joined joined both_ways e parents i = elim (cases_lt i (length e.chains)) [
   | inl within ↦
       ties_joined joined both_ways (chain_of e.chains i) (drop 1 (chain_of e.chains i))
-      (chain_of e.parents i)
-      (strength e i)
+      (chain_of e.parents i) (strength e i)
       (AllZip-get_or (AreParents joined) e.chains e.parents i [] [] parents within)
   | inr past ↦
       subst
       (λ chain. AllByRecursion (IsJoined joined) (ties (λ _. strength e i) (drop 1 chain) (chain_of e.parents i)))
-      (sym (get_or_past e.chains i [] past))
-      tt
+      (sym (get_or_past e.chains i [] past)) tt
 ]
 
 pub image_is_joined : ImageIsJoined

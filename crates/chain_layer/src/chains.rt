@@ -2,10 +2,19 @@
 //!
 //! Ties are as strong as in Choi 2008, Minor-embedding in adiabatic quantum computation I: one more
 //! than the sizes of the field and of the couplings of a node, so that a broken tie never pays.
-ghost use Rattle.std.specs.Prelude.{◌≡◌, ◌+◌, ◌*◌, ◌≤◌, ◌^◌, IfOk, map};
-ghost use Rattle.embedding_check.specs.Embeddings.{IsEmbedding};
-ghost use Rattle.ising_form.specs.Isings.{ising_total};
-ghost use Rattle.chain_layer.specs.Image.{image, nodes_of, strength};
+ghost use Rattle.std.specs.Prelude.{◌≡◌, ◌+◌, ◌*◌, ◌≤◌, ◌^◌, IfOk, map, pos, unsigned_abs};
+ghost use Rattle.form_steps.specs.Relations.{Keeps};
+ghost use Rattle.embedding_check.specs.Embeddings.{IsEmbedding, embedding_size, form_of};
+ghost use Rattle.ising_form.specs.Isings.{ising_size, ising_total};
+ghost use Rattle.ising_form.specs.Isings as isings;
+ghost use Rattle.chain_layer.specs.Image.{
+  decoding,
+  image,
+  nodes_of,
+  offset,
+  strength,
+  Fits,
+};
 
 use crate::decoding::decoded;
 use crate::extending::extended;
@@ -41,6 +50,55 @@ fn image_of(alloc: Global, source: &Embedded, strengths: &[u128]) -> Result<Isin
         fields: NumberList::new(fields),
         couplings,
     })
+}
+
+/// The form on the qubits, and how much is added to its energies.
+fn lowered(alloc: Global, source: &Embedded) -> Result<(Ising, i128), NoMemory>
+    requires total { (ising_total source.now.ising + 1) * 2 ^ 21 ≤ 2 ^ 124 }
+    ensures image { IfOk result (λ made. made.0 ≡ image source.now) }
+    ensures offset { IfOk result (λ made. made.1 ≡ offset source.now) }
+    ensures kept { IsEmbedding source.now }
+{
+    let strengths = strengths(alloc, source)?;
+    let target = image_of(alloc, source, &strengths)?;
+    let cost = ties_cost(source, &strengths);
+    Ok((target, -(cost as i128)))
+}
+
+impl Chains {
+    /// The image of an embedded form that is given up: its chains become those of the link, where
+    /// they lie. `lower` makes the same of a form that stays.
+    pub fn lower_owned(
+        &self,
+        alloc: Global,
+        source: Embedded,
+    ) -> Result<Lowered<Ising, ChainLink>, NoMemory>
+        requires total { (ising_total source.ising + 1) * 2 ^ 21 ≤ 2 ^ 124 }
+        ensures image { IfOk result (λ made. made.target ≡ image source) }
+        ensures fits { IfOk result (λ made. Fits made.link source) }
+        ensures scale { IfOk result (λ made. made.scale ≡ pos 1) }
+        ensures offset { IfOk result (λ made. made.offset ≡ offset source) }
+        ensures keeps { IfOk result (λ made. Keeps (form_of source)
+            (isings.form_of made.target) (decoding made.link) made.scale made.offset) }
+        ensures offset_high { IfOk result (λ made.
+            unsigned_abs made.offset ≤ (ising_total source.ising + 1) * 2 ^ 20) }
+        ensures total { IfOk result (λ made.
+            ising_total made.target + 1 ≤ (ising_total source.ising + 1) * 2 ^ 21) }
+        ensures size { IfOk result (λ made.
+            ising_size made.target ≤ embedding_size source * 2 ^ 1) }
+    {
+        let (target, offset) = lowered(alloc, &source)?;
+        let qubits = source.qubits();
+        Ok(Lowered {
+            target,
+            link: ChainLink {
+                chains: source.into_chains(),
+                qubits,
+            },
+            scale: 1,
+            offset,
+        })
+    }
 }
 
 impl Layer for Chains {
@@ -102,9 +160,7 @@ impl Layer for Chains {
         alloc: Global,
         source: &Embedded,
     ) -> Result<Lowered<Ising, ChainLink>, NoMemory> {
-        let strengths = strengths(alloc, source)?;
-        let target = image_of(alloc, source, &strengths)?;
-        let cost = ties_cost(source, &strengths);
+        let (target, offset) = lowered(alloc, source)?;
         Ok(Lowered {
             target,
             link: ChainLink {
@@ -112,7 +168,7 @@ impl Layer for Chains {
                 qubits: source.qubits(),
             },
             scale: 1,
-            offset: -(cost as i128),
+            offset,
         })
     }
 

@@ -1,4 +1,6 @@
 //! How states of the qubits are read.
+//!
+//! No run of the program comes here: it reads states off the written model.
 ghost use Rattle.std.specs.Prelude.{◌≡◌, IfOk, map};
 ghost use Rattle.bits_model.specs.Output.{majority};
 

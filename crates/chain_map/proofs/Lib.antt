@@ -1,3 +1,4 @@
+pub mod Common
 pub mod Occurrences
 pub mod Rows
 pub mod LineNumbers

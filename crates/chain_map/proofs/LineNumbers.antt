@@ -1,20 +1,6 @@
 -- The words of a line from a place on, and the number that digits are.
-use Rattle.std.proofs.Common.{◌≡◌, ℕ, zero, suc, ◌+◌, ◌<◌, ◌≤◌, ◌^◌, true, false, inl, inr, not, eqb, List, [], ◌∷◌, length, map, take, drop, get_or, Ok, Some, refl, sym, ap, ◌∙◌, arith}
-use Rattle.std.specs.Prelude.{pos, nat_le}
-use Rattle.std.specs.Char.{is_ascii_digit}
-use Rattle.std.specs.List.{slice_range, position_or_len, list_all}
-use Rattle.std.specs.Str.Parse.{digits_value}
-use Rattle.std.proofs.Math.Seq.{drop-cons}
-use Rattle.std.proofs.lemmas.Bool.{cases_Bool, ne_eqb}
-use Rattle.std.proofs.lemmas.Bool.Decides.{nat_tests}
+use Rattle.chain_map.proofs.Common.{◌≡◌, ℕ, zero, suc, ◌+◌, ◌<◌, ◌≤◌, ◌^◌, true, false, not, eqb, List, [], ◌∷◌, length, map, take, drop, get_or, Ok, Some, refl, sym, ap, ◌∙◌, arith, pos, nat_le, is_ascii_digit, slice_range, position_or_len, list_all, digits_value, drop-cons, ne_eqb, nat_tests, number_of, size_of, word, words, is_blank, is_comment, tokens_of_line, integer_at, natural_at, size_plain, value_is, words_blank, words_none, taken, skipped, comment_from_byte, comment_none, comment_line, other_plain, slice_length, slice_at, slice_dropped, slice_taken, slice_none}
 use Rattle.whole_text.specs.declared.token.Style.TheVariants.{Plain}
-use Rattle.whole_text.specs.Numbers.{number_of, size_of}
-use Rattle.whole_text.specs.Tokens.{word, words, is_blank, is_comment, tokens_of_line}
-use Rattle.whole_text.specs.Steps.{integer_at, natural_at}
-use Rattle.whole_text.proofs.DigitLoop.{size_plain, value_is}
-use Rattle.whole_text.proofs.LineWords.{words_blank, words_none, taken, skipped, comment_from_byte, comment_none, comment_line}
-use Rattle.whole_text.proofs.Pieces.{other_plain}
-use Rattle.whole_text.proofs.Slices.{slice_length, slice_at, slice_dropped, slice_taken, slice_none}
 use Rattle.chain_map.proofs.Rows.{default_free}
 
 -- ---- digits
@@ -27,14 +13,7 @@ digit_low b e = grind (arith, nat_tests)
 
 head_digit : (b : ℕ) (bs : List ℕ) → list_all is_ascii_digit (b ∷ bs) ≡ true
     → (is_ascii_digit b ≡ true) × (list_all is_ascii_digit bs ≡ true)
-head_digit b bs h =
-    elim (cases_Bool (is_ascii_digit b)) [
-      | inl digit ↦ (digit, rw digit at h)
-      | inr other ↦ absurd (none (rw other at h))
-    ]
-  where
-    none : false ≡ true → ⊥
-    none e = absurd cc
+head_digit b bs h = grind (arith, nat_tests)
 
 -- digits up to a blank or the end are the first word
 pub digits_end : (bs : List ℕ) (n : ℕ) → n ≤ length bs → list_all is_ascii_digit (take n bs) ≡ true
@@ -75,13 +54,11 @@ pub blank_passed : (text : List ℕ) (a b : ℕ) → a < b → b ≤ length text
 blank_passed text a b lt le blank =
     let bs = slice_range text a b in
     let len = slice_length text a b le in
-    let zero_more : a + 0 ≡ a = omega arith in
-    let first : get_or bs 0 0 ≡ get_or text a 0 =
-    slice_at text a b 0 (omega arith) ∙ ap (λ k. get_or text k 0) zero_more in
-    let cons : bs ≡ get_or bs 0 0 ∷ drop 1 bs = drop-cons bs 0 0 (omega arith) in
-    ap words cons
-    ∙ words_blank (get_or bs 0 0) (drop 1 bs) (ap is_blank first ∙ blank)
-    ∙ ap words (slice_dropped text a 1 b (omega arith))
+    let first = slice_at text a b 0 (omega arith) in
+    let cons = drop-cons bs 0 0 (omega arith) in
+    let pass = words_blank (get_or bs 0 0) (drop 1 bs) in
+    let rest = slice_dropped text a 1 b (omega arith) in
+    grind (arith, nat_tests)
 
 -- the first word, where it ends, and the words after it
 pub first_word : (text : List ℕ) (a b n line : ℕ) → a < b → b ≤ length text
@@ -90,15 +67,9 @@ pub first_word : (text : List ℕ) (a b n line : ℕ) → a < b → b ≤ length
     ≡ word line (take (position_or_len is_blank (slice_range text a b)) (slice_range text a b))
     ∷ map (word line) (words (slice_range text (a + n) b)))
 first_word text a b n line lt le ink e =
-    let bs = slice_range text a b in
     let t = taken text a b n lt le ink e in
-    let same : slice_range text a (a + n) ≡ take (position_or_len is_blank bs) bs =
-    sym (slice_taken text a n b t.1) ∙ ap (λ k. take k bs) e in (
-      t.0,
-      t.1,
-      ap (map (word line)) t.2
-          ∙ ap (λ w. word line w ∷ map (word line) (words (slice_range text (a + n) b))) same,
-    )
+    let cut = slice_taken text a n b t.1 in
+    (t.0, t.1, cc (t.2, e))
 
 -- ---- lines
 
@@ -110,8 +81,7 @@ line_blank text a b n line ab le first end =
     let bs = slice_range text a b in
     let len = slice_length text a b le in
     let skip = skipped text a b n ab le first in
-    let none : words bs ≡ [] =
-    skip.0 ∙ ap (λ k. words (slice_range text k b)) end ∙ ap words (slice_none text b) ∙ words_none in
+    let none : words bs ≡ [] = cc (skip.0, end, slice_none text b, words_none) in
     other_plain line bs (sym (comment_none Plain bs n first (omega arith))) ∙ ap (map (word line)) none
 
 -- the first byte that is no blank says whether it is a comment
@@ -142,9 +112,7 @@ pub line_tokens : (text : List ℕ) (a b n m line : ℕ) → a ≤ b → b ≤ l
     ∷ map (word line) (words (slice_range text (a + n + m) b)))
 line_tokens text a b n m line ab le first lt other e =
     let skip = skipped text a b n ab le first in
-    let w = first_word text (a + n) b m line lt le (skip.2 lt) e in (
-      w.0,
-      w.1,
-      other_plain line (slice_range text a b) (sym (comment_is text a b n ab le first lt) ∙ ne_eqb (get_or text (a + n) 0) 99 other)
-          ∙ ap (map (word line)) skip.0 ∙ w.2,
-    )
+    let w = first_word text (a + n) b m line lt le (skip.2 lt) e in
+    let is = other_plain line (slice_range text a b)
+    (sym (comment_is text a b n ab le first lt) ∙ ne_eqb (get_or text (a + n) 0) 99 other) in
+    (w.0, w.1, cc (is, skip.0, w.2))

@@ -1,23 +1,12 @@
 -- A list of qubits of which each two neighbours are joined is connected.
-use Rattle.std.proofs.Common.{◌≡◌, ℕ, zero, suc, ◌+◌, ◌<◌, ◌==◌, ◌||◌, Bool, true, false, List, [], ◌∷◌, ◌++◌, length, get_or, refl, sym, subst, arith}
-use Rattle.std.proofs.lemmas.Bool.Decides.{nat_tests}
-use Rattle.bits_model.specs.Walks.{is_in, first_of, IsWalk, end_of, IsReached, IsConnected}
-use Rattle.chain_map.specs.Chains.{Joins}
+use Rattle.chain_map.proofs.Common.{◌≡◌, ℕ, zero, suc, ◌+◌, ◌<◌, true, List, [], ◌∷◌, ◌++◌, length, get_or, refl, arith, nat_tests, is_in, first_of, IsWalk, end_of, IsReached, IsConnected, Joins}
 use Rattle.chain_map.proofs.Rows.{default_free}
-
-same_test : (a b : ℕ) → a ≡ b → (a == b) ≡ true
-same_test a b e = grind (arith, nat_tests)
 
 -- a listed qubit is in the chain
 pub is_in_at : (xs : List ℕ) (k q : ℕ) → k < length xs → get_or xs k 0 ≡ q → is_in xs q ≡ true
 is_in_at [] k q below is = absurd (omega (arith, below))
-is_in_at (x ∷ xs) zero q below is = rw (same_test x q is) refl
-is_in_at (x ∷ xs) (suc k) q below is =
-    rw (is_in_at xs k q (omega (arith, below)) is) (or_true (x == q))
-  where
-    or_true : (b : Bool) → (b || true) ≡ true
-    or_true true = refl
-    or_true false = refl
+is_in_at (x ∷ xs) zero q below is = grind (arith, nat_tests)
+is_in_at (x ∷ xs) (suc k) q below is = grind (arith, nat_tests, is_in_at xs k q (omega (arith, below)) is)
 
 -- a walk goes on by one join
 walk_on : (joined : Joins) (chain : List ℕ) (from r : ℕ) (steps : List ℕ)
@@ -39,19 +28,12 @@ reached_at joined xs linked (suc k) below =
     let before = reached_at joined xs linked k (omega (arith, below)) in
     let next : k + 1 ≡ suc k = omega arith in
     let r = get_or xs (suc k) 0 in
-    let here : joined (get_or xs k 0) r ≡ true =
-    subst (λ n. joined (get_or xs k 0) (get_or xs n 0) ≡ true) next (linked k (omega (arith, below))) in (
-      before.0 ++ r ∷ [],
-      record {
-        walk = walk_on joined xs (first_of xs) r before.0 before.1.walk
-            (is_in_at xs (suc k) r below refl)
-            (subst (λ q. joined q r ≡ true) (sym before.1.ends) here);
-        ends = end_on (first_of xs) r before.0;
-      },
-    )
+    let here = rw next at (linked k (omega (arith, below))) in
+    let on = walk_on joined xs (first_of xs) r before.0 before.1.walk
+    (is_in_at xs (suc k) r below refl) (rw before.1.ends here) in
+    (before.0 ++ r ∷ [], record { walk = on; ends = end_on (first_of xs) r before.0 })
 
 pub path_connected : (joined : Joins) (xs : List ℕ)
     → ((j : ℕ) → j + 1 < length xs → joined (get_or xs j 0) (get_or xs (j + 1) 0) ≡ true)
     → IsConnected joined xs
-path_connected joined xs linked = λ k d below.
-    subst (IsReached joined xs) (default_free xs k 0 d below) (reached_at joined xs linked k below)
+path_connected joined xs linked = λ k d below. rw (← default_free xs k 0 d below) (reached_at joined xs linked k below)

@@ -1,14 +1,7 @@
 -- The words of a text by lines, and what their readings are made of.
-use Rattle.std.proofs.Common.{◌≡◌, ℕ, zero, suc, ◌+◌, ◌<◌, List, [], ◌∷◌, ◌++◌, length, get_or, Ok, Err, refl, sym, ap, ◌∙◌, arith}
-use Rattle.std.specs.Prelude.{Result}
-use Rattle.whole_text.specs.declared.faults.TextFault.{TextFault}
+use Rattle.chain_map.proofs.Common.{elements, nat_tests, ◌≡◌, ℕ, ◌+◌, ◌<◌, List, [], ◌∷◌, ◌++◌, length, get_or, Ok, Err, refl, sym, ap, arith, Result, TextFault, Word, tokens_of_line, ◌>>=◌, natural_at, Fails, TextAnswer, append_assoc, append-nil, length-append, rows_from, node_at, qubits_at, chain_at, chains_at, after_front}
 use Rattle.whole_text.specs.declared.token.Style.TheVariants.{Plain}
-use Rattle.whole_text.specs.Tokens.{Word, tokens_of_line}
-use Rattle.whole_text.specs.Steps.{◌>>=◌, natural_at, Fails}
-use Rattle.whole_text.specs.declared.faults.TextAnswer.{TextAnswer}
 use Rattle.whole_text.specs.declared.faults.TextAnswer.TheVariants.{Bad, NoMemory}
-use Rattle.std.proofs.lemmas.List.{append_assoc, append-nil, length-append}
-use Rattle.chain_map.specs.Maps.{rows_from, node_at, qubits_at, chain_at, chains_at, after_front}
 
 -- ---- readings
 
@@ -48,9 +41,7 @@ pub chain_unread : (m : List (List ℕ)) (node : ℕ) (w : Word) (ws : List Word
     → Fails e (after_front m (chain_at node (w ∷ ws)))
 unfolding chain_at
 chain_unread m node w ws NoMemory read unread = tt
-chain_unread m node w ws (Bad f) read unread =
-    let said : qubits_at ws ≡ Err f = unread in
-    rw (read, said) refl
+chain_unread m node w ws (Bad f) read unread = rw (read, unread) refl
 
 pub chain_one : (m : List (List ℕ)) (node : ℕ) (w : Word) (ws : List Word) (qubits : List ℕ)
     → node_at node w ≡ Ok node → qubits_at ws ≡ Ok qubits
@@ -61,9 +52,7 @@ chain_one m node w ws qubits read said = rw (read, said) refl
 -- a place inside a list has no default
 pub default_free : {X : Type 0} (xs : List X) (i : ℕ) (d e : X) → i < length xs
     → get_or xs i d ≡ get_or xs i e
-default_free [] i d e below = absurd (omega (arith, below))
-default_free (x ∷ xs) zero d e below = refl
-default_free (x ∷ xs) (suc i) d e below = default_free xs i d e (omega (arith, below))
+default_free xs i d e below = grind (arith, nat_tests, elements)
 
 -- ---- lines
 
@@ -89,9 +78,8 @@ row_more front next row rows read = go (chain_at (length front) row) read
         ≡ after_front next (chains_at (length next) rows)
     go (Ok chain) read =
         let same : front ++ chain ≡ next = ap said_of read in
-        let len : length front + length chain ≡ length next = sym (length-append front chain) ∙ ap length same in
-        joined_go front chain (chains_at (length front + length chain) rows)
-        ∙ (λ i. after_front (same i) (chains_at (len i) rows))
+        let len = length-append front chain in
+        cc (joined_go front chain (chains_at (length front + length chain) rows))
     go (Err f) read = absurd cc
 
 -- a fault of one line
@@ -99,13 +87,7 @@ pub row_fails : (front : List (List ℕ)) (row : List Word) (rows : List (List W
     → Fails e (after_front front (chain_at (length front) row))
     → Fails e (after_front front (chains_at (length front) (row ∷ rows)))
 unfolding chains_at
-row_fails front row rows e fails = go (chain_at (length front) row) e fails
-  where
-    go : (said : Result (List (List ℕ)) TextFault) (e : TextAnswer) → Fails e (after_front front said)
-        → Fails e (after_front front (said >>= (λ chain. chains_at (length front + length chain) rows >>= (λ others. Ok (chain ++ others)))))
-    go said NoMemory fails = tt
-    go (Ok chain) (Bad f) fails = absurd cc
-    go (Err g) (Bad f) fails = fails
+row_fails front row rows e fails = grind (arith, nat_tests)
 
 -- after the last line there is nothing
 pub rows_end : (front : List (List ℕ)) (node : ℕ) → after_front front (chains_at node []) ≡ Ok front

@@ -1,4 +1,6 @@
 //! The chains of a clique on a Chimera graph.
+//!
+//! No run of the program comes here: working_graph makes the embedding of a clique at once.
 ghost use Rattle.std.specs.Prelude.{◌≡◌, ◌<◌, ◌≤◌, IfOk, IfErr};
 ghost use Rattle.chain_map.specs.Faults.{IfFault};
 ghost use Rattle.chain_map.specs.Cliques.{clique_places, clique_of, IsForClique};

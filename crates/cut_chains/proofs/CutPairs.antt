@@ -1,7 +1,7 @@
 -- The couplings of the image are in order, and none of them has the pair of another.
 --
 -- They have the pairs of the layer of chains, whose ties are of the same qubits.
-use Rattle.cut_chains.proofs.Common.{◌≡◌, ◌≢◌, ℕ, ◌+◌, ◌*◌, ◌≤◌, ◌^◌, cond, List, [], ◌∷◌, ◌++◌, length, drop, ℤ, pos, neg_ℤ, refl, sym, ◌∙◌, arith, ◌==◌, flat_map, AllByRecursion, AllZip, IsPermutation, IsNonDecreasingBy, ints, nat_tests, All-permutation, sum_by-IsPermutation, recursion_from_All, All-from_recursion, total_by-IsPermutation, Entry, IsCoupler, pair_number, IsPair, weight_for, ArePairs, Rises, same_entries, Embedding, IsEmbedding, chain_of, nodes_of, strength, coupling_entry, ties, all_ties, placed, in_order, all_append, total_by-in_order, each_of_range, Apart, AreApart, each, ties_at, all_in_order, rises_in_order, couplings_apart, all_couplers, numbered, few_numbered, rises_from_sorted, cut_strength, cut_ties, node_ties, all_parts, couplers_placed}
+use Rattle.cut_chains.proofs.Common.{◌≡◌, ◌≢◌, ℕ, ◌+◌, ◌*◌, ◌^◌, List, [], ◌∷◌, ◌++◌, length, drop, ℤ, pos, neg_ℤ, refl, arith, flat_map, AllByRecursion, AllZip, ints, nat_tests, Entry, IsCoupler, pair_number, Embedding, IsEmbedding, chain_of, nodes_of, strength, coupling_entry, ties, all_ties, placed, all_append, each_of_range, Apart, AreApart, ties_at, couplings_apart, all_couplers, cut_strength, cut_ties, node_ties, all_parts, couplers_placed}
 
 -- ---- entries of the same pairs
 
@@ -77,10 +77,9 @@ couplers_alike n (e ∷ es) [] alike nonzero all = absurd alike
 couplers_alike n (e ∷ es) (d ∷ ds) alike nonzero all =
     let first = alike.0.first in
     let second = alike.0.second in
-    let one = all.0 in (
-      record { upward = grind arith; within = grind arith; nonzero = nonzero.0 },
-      couplers_alike n es ds alike.1 nonzero.1 all.1,
-    )
+    let one = all.0 in
+    let couplers = couplers_alike n es ds alike.1 nonzero.1 all.1 in
+    grind (arith, nat_tests)
 
 -- ---- no tie is 0
 
@@ -109,8 +108,7 @@ pub cut_couplers : (e : Embedding) → IsEmbedding e
     → AllByRecursion (IsCoupler e.qubits) (placed e.ising.couplings e.places ++ cut_ties e)
 cut_couplers e kept =
     all_append (IsCoupler e.qubits) (placed e.ising.couplings e.places) (cut_ties e)
-    (couplers_placed e kept)
-    (cut_ties_couplers e kept)
+    (couplers_placed e kept) (cut_ties_couplers e kept)
 
 -- no two of them have one pair
 pub cut_apart : (e : Embedding) → IsEmbedding e
@@ -119,51 +117,5 @@ cut_apart e kept =
     apart_alike (placed e.ising.couplings e.places ++ all_ties e)
     (placed e.ising.couplings e.places ++ cut_ties e)
     (append_alike (placed e.ising.couplings e.places) (placed e.ising.couplings e.places)
-    (all_ties e) (cut_ties e)
-    (itself_alike (placed e.ising.couplings e.places)) (all_ties_alike e))
+    (all_ties e) (cut_ties e) (itself_alike (placed e.ising.couplings e.places)) (all_ties_alike e))
     (couplings_apart e kept)
-
--- ---- sorted lists
-
--- couplings of the first n qubits are pairs of the first m
-as_pairs : (m n : ℕ) (es : List Entry) → n ≤ m → AllByRecursion (IsCoupler n) es
-    → AllByRecursion (IsPair m) es
-as_pairs m n [] few all = tt
-as_pairs m n (e ∷ es) few all =
-    let up = all.0.upward in
-    let below = all.0.within in
-    (record { upward = up; within = omega (arith, below, few) }, as_pairs m n es few all.1)
-
--- couplings of different pairs, put in order
-pub in_order_rises : (n : ℕ) (es : List Entry) → n ≤ 2 ^ 20 → AllByRecursion (IsCoupler n) es
-    → AreApart es
-    → ArePairs (in_order es) × Rises (in_order es) × AllByRecursion (IsCoupler n) (in_order es)
-in_order_rises n es few all apart =
-    let here = all_in_order (IsCoupler n) es all in
-    (as_pairs (2 ^ 32) n (in_order es) (omega (arith, few)) here, rises_in_order es apart, here)
-
--- sorted by their numbers they are in order
-pub sorted_is_in_order : (n : ℕ) (from to : List Entry) → n ≤ 2 ^ 20
-    → AllByRecursion (IsCoupler n) from → AreApart from → IsPermutation from to
-    → IsNonDecreasingBy pair_number to → to ≡ in_order from
-sorted_is_in_order n from to few all apart moved sorted =
-    let here : AllByRecursion (IsCoupler n) to =
-    recursion_from_All (IsCoupler n) to
-    (All-permutation (IsCoupler n) from to moved (All-from_recursion (IsCoupler n) from all)) in
-    let once : (m : ℕ) → numbered m to ≤ 1 =
-    λ m.
-    omega (
-      arith,
-      sum_by-IsPermutation (λ f. cond (pair_number f == m) 1 0) from to moved,
-      few_numbered from apart m,
-    ) in
-    let ordered = in_order_rises n from few all apart in
-    same_entries to (in_order from)
-    (as_pairs (2 ^ 32) n to (omega (arith, few)) here)
-    ordered.0
-    (rises_from_sorted to sorted once)
-    ordered.1
-    (each (λ (f : Entry) (h : IsCoupler n f). h.nonzero) to here)
-    (each (λ (f : Entry) (h : IsCoupler n f). h.nonzero) (in_order from) ordered.2)
-    (λ i j. total_by-IsPermutation (weight_for i j) from to moved
-    ∙ sym (total_by-in_order (weight_for i j) from))

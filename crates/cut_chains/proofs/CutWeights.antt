@@ -1,5 +1,5 @@
 -- How much each qubit weighs, and that it is small.
-use Rattle.cut_chains.proofs.Common.{at_map, ◌≡◌, Bool, true, false, replicate, ℕ, ◌+◌, ◌<◌, ◌≤◌, ◌^◌, List, map, length, get_or, ℤ, pos, unsigned_abs, sym, ap, subst, ◌∙◌, arith, range_with_len, All, All-from_recursion, get_or_past, length-map, get_or-replicate, fill_by_all, get_or-map-range_with_len, length-map-range_with_len, Entry, weight_total, node_entries, IsCoupler, weights-append, weights_within, is_in, chain_of, each_at, chain_within, Embedding, IsEmbedding, all_shares, field_at, placed, couplings_at, weights_of_image_fields, weights_placed, weight_of, couplers_placed}
+use Rattle.cut_chains.proofs.Common.{nat_tests, ints, at_map, ◌≡◌, Bool, true, false, replicate, ℕ, ◌+◌, ◌<◌, ◌≤◌, ◌^◌, List, map, length, get_or, ℤ, pos, unsigned_abs, sym, ap, subst, ◌∙◌, arith, range_with_len, All, All-from_recursion, get_or_past, length-map, get_or-replicate, fill_by_all, get_or-map-range_with_len, length-map-range_with_len, Entry, weight_total, node_entries, IsCoupler, weights-append, weights_within, is_in, chain_of, each_at, chain_within, Embedding, IsEmbedding, all_shares, field_at, placed, couplings_at, weights_of_image_fields, weights_placed, weight_of, couplers_placed}
 
 -- a field weighs at most what all fields do
 field_within : (hs : List ℤ) (i : ℕ)
@@ -14,8 +14,7 @@ field_within hs i =
 -- the size of a field, and of all couplings that are placed
 pub first_small : (e : Embedding) → IsEmbedding e → (xs : List ℕ) (cs : List Entry)
     → xs ≡ map (λ h. unsigned_abs h) (map (field_at (all_shares e)) (range_with_len 0 e.qubits))
-    → cs ≡ placed e.ising.couplings e.places
-    → (i : ℕ) → get_or xs i 0 + weight_total cs < 2 ^ 127
+    → cs ≡ placed e.ising.couplings e.places → (i : ℕ) → get_or xs i 0 + weight_total cs < 2 ^ 127
 first_small e kept xs cs same listed i =
     let hs = map (field_at (all_shares e)) (range_with_len 0 e.qubits) in
     let fields = weights_of_image_fields e kept in
@@ -25,8 +24,7 @@ first_small e kept xs cs same listed i =
 -- the sizes of the fields, raised by those of the couplings, are the weights
 pub all_weights : (e : Embedding) (xs ys : List ℕ) (cs : List Entry)
     → xs ≡ map (λ h. unsigned_abs h) (map (field_at (all_shares e)) (range_with_len 0 e.qubits))
-    → cs ≡ placed e.ising.couplings e.places
-    → length ys ≡ length xs
+    → cs ≡ placed e.ising.couplings e.places → length ys ≡ length xs
     → ((i : ℕ) → i < length xs → get_or ys i 0 ≡ get_or xs i 0 + couplings_at i cs)
     → ys ≡ map (weight_of e) (range_with_len 0 e.qubits)
 all_weights e xs ys cs same listed size sums =
@@ -35,28 +33,18 @@ all_weights e xs ys cs same listed size sums =
     length-map-range_with_len (field_at (all_shares e)) 0 e.qubits in
     let wide : length xs ≡ e.qubits =
     ap length same ∙ length-map hs (λ (h : ℤ). unsigned_abs h) ∙ many in
-    fill_by_all (weight_of e) ys e.qubits 0 (size ∙ wide)
-    (λ k l.
-    omega (
-      arith,
-      sums k (omega (arith, l, wide)),
-      ap (λ s. get_or s k 0) same,
-      at_map (λ h. unsigned_abs h) hs k (omega (arith, l, many)),
-      ap unsigned_abs (get_or-map-range_with_len (field_at (all_shares e)) 0 e.qubits k k (pos 0) l
-          (omega arith)),
-      ap (couplings_at k) listed,
-    ))
+    let get = get_or-map-range_with_len (field_at (all_shares e)) 0 e.qubits in
+    let fill = fill_by_all (weight_of e) ys e.qubits 0 (size ∙ wide) in
+    grind (arith, nat_tests, ints, at_map)
 
 -- the couplings that are placed are of qubits that have a weight
 pub first_couplers : (e : Embedding) → IsEmbedding e → (xs : List ℕ) (cs : List Entry)
     → xs ≡ map (λ h. unsigned_abs h) (map (field_at (all_shares e)) (range_with_len 0 e.qubits))
-    → cs ≡ placed e.ising.couplings e.places
-    → All (IsCoupler (length xs)) cs
+    → cs ≡ placed e.ising.couplings e.places → All (IsCoupler (length xs)) cs
 first_couplers e kept xs cs same listed =
     let hs = map (field_at (all_shares e)) (range_with_len 0 e.qubits) in
     let wide : length xs ≡ e.qubits =
-    ap length same
-    ∙ length-map hs (λ (h : ℤ). unsigned_abs h)
+    ap length same ∙ length-map hs (λ (h : ℤ). unsigned_abs h)
     ∙ length-map-range_with_len (field_at (all_shares e)) 0 e.qubits in
     subst (All (IsCoupler (length xs))) (sym listed)
     (subst (λ n. All (IsCoupler n) (placed e.ising.couplings e.places)) (sym wide)

@@ -9,5 +9,4 @@ pub mod SinkSteps
 pub mod Paths
 pub mod Reaching
 pub mod Noting
-pub mod TiesOf
 pub mod NodeTies

@@ -12,10 +12,8 @@ is_in-push qs p q = is_in-append qs (p ∷ []) q ∙ ap (λ b. is_in qs q || b) 
 is_in-reverse : (qs : List ℕ) (q : ℕ) → is_in (reverse qs) q ≡ is_in qs q
 is_in-reverse [] q = refl
 is_in-reverse (p ∷ ps) q =
-    ap (λ rs. is_in rs q) (reverse-append (p ∷ []) ps)
-    ∙ is_in-push (reverse ps) p q
-    ∙ ap (λ b. b || (p == q)) (is_in-reverse ps q)
-    ∙ or_comm (is_in ps q) (p == q)
+    ap (λ rs. is_in rs q) (reverse-append (p ∷ []) ps) ∙ is_in-push (reverse ps) p q
+    ∙ ap (λ b. b || (p == q)) (is_in-reverse ps q) ∙ or_comm (is_in ps q) (p == q)
 
 -- a list, and another from its end on
 pub is_in-listed : (order path : List ℕ) (q : ℕ)

@@ -1,6 +1,7 @@
 -- The ties of one node, from the sums over its chain.
-use Rattle.cut_chains.proofs.Common.{◌≡◌, ℕ, ◌+◌, ◌-◌, ◌<◌, ◌≤◌, ◌^◌, true, not, List, [], ◌∷◌, length, drop, get_or, All, refl, sym, ap, subst, ◌∙◌, arith, min, sum_by, ints, nat_tests, All-from_recursion, is_in, first_of, Embedding, IsEmbedding, chain_of, in_rest, each_in, chain_within, is_below, weight_of, side_weight, cut_strength, ties, strength_in, IsOnceTree, node_ties, once_tree, chain_once}
+use Rattle.cut_chains.proofs.Common.{◌≡◌, ℕ, ◌+◌, ◌-◌, ◌<◌, ◌≤◌, ◌^◌, true, not, List, [], ◌∷◌, length, drop, get_or, All, refl, ap, ◌∙◌, arith, min, sum_by, ints, nat_tests, All-from_recursion, is_in, first_of, Embedding, IsEmbedding, chain_of, in_rest, each_in, chain_within, is_below, weight_of, side_weight, cut_strength, ties, strength_in, IsOnceTree, node_ties, once_tree, chain_once}
 use Rattle.cut_chains.proofs.Subtrees.{same_held}
+use Rattle.cut_chains.proofs.Reaching.{chain_parts}
 use Rattle.cut_chains.proofs.CutSizes.{both_sides, chain_weighs, all_weigh}
 
 -- the same sums over a chain of the same weights
@@ -20,14 +21,9 @@ same_ties v w (q ∷ qs) (p ∷ ps) same =
 pub chain_small : (e : Embedding) → IsEmbedding e → (i : ℕ) → i < length e.ising.fields
     → sum_by (weight_of e) (chain_of e.chains i) < 2 ^ 127
 chain_small e kept i within =
-    omega (
-      arith,
-      ints,
-      chain_weighs (weight_of e) e.qubits (chain_of e.chains i) (chain_once e kept i within)
-          (chain_within e kept i within),
-      all_weigh e kept,
-      kept.ising.small,
-    )
+    let chain = chain_weighs (weight_of e) e.qubits (chain_of e.chains i) (chain_once e kept i within)
+    (chain_within e kept i within) in
+    omega (arith, ints, all_weigh e kept, kept.ising.small)
 
 -- ---- the node whose chain is summed
 
@@ -49,18 +45,13 @@ module _ (e : Embedding) (i : ℕ) (old chain parents : List ℕ)
     (next : IsNext e i old chain parents) where
   pub next_tree : IsOnceTree chain parents
   next_tree =
-      subst (λ qs. IsOnceTree qs parents) (sym next.chain_is)
-      (subst (IsOnceTree (chain_of e.chains i)) (sym next.parents_is)
-      (once_tree e next.kept i next.within))
+      rw (next.chain_is, next.parents_is) (once_tree e next.kept i next.within)
 
   pub next_small : sum_by (λ q. get_or old q 0) chain < 2 ^ 127
   next_small =
-      omega (
-        arith,
-        ap (sum_by (λ q. get_or old q 0)) next.chain_is,
-        same_sums (λ q. get_or old q 0) (weight_of e) (chain_of e.chains i) next.held,
-        chain_small e next.kept i next.within,
-      )
+      let chain = ap (sum_by (λ q. get_or old q 0)) next.chain_is in
+      let same = same_sums (λ q. get_or old q 0) (weight_of e) (chain_of e.chains i) next.held in
+      omega (arith, chain_small e next.kept i next.within)
 
   module _ (new : List ℕ) (sums : AreSummed old new chain parents) where
     pub all_small : get_or new (first_of chain) 0 < 2 ^ 127
@@ -70,24 +61,15 @@ module _ (e : Embedding) (i : ℕ) (old chain parents : List ℕ)
     part_of : (q : ℕ) → is_in (drop 1 chain) q ≡ true
         → get_or new q 0 ≤ get_or new (first_of chain) 0
     part_of q in' =
-        omega (
-          arith,
-          sums.below q in',
-          sums.all,
-          both_sides (λ r. get_or old r 0) chain (is_below chain parents q),
-        )
+        let both = both_sides (λ r. get_or old r 0) chain (is_below chain parents q) in
+        omega (arith, sums.below q in', sums.all)
 
     pub parts_small : All (λ q. get_or new q 0 ≤ get_or new (first_of chain) 0) chain
     parts_small =
-        All-from_recursion (λ q. get_or new q 0 ≤ get_or new (first_of chain) 0) chain
-        (each_in (λ q. get_or new q 0 ≤ get_or new (first_of chain) 0) chain
-        (λ q in'. split chain q in' part_of))
-      where
-        split : (qs : List ℕ) (q : ℕ) → is_in qs q ≡ true
-            → ((r : ℕ) → is_in (drop 1 qs) r ≡ true → get_or new r 0 ≤ get_or new (first_of qs) 0)
-            → get_or new q 0 ≤ get_or new (first_of qs) 0
-        split [] q in' part = absurd cc
-        split (c ∷ cs) q in' part = let later = part q in grind (arith, nat_tests)
+        All-from_recursion _ chain
+        (each_in (λ q. get_or new q 0 ≤ get_or new (first_of chain) 0) chain (λ q in'.
+        let here = ap (λ qs. is_in qs q) (chain_parts chain next_tree.filled) ∙ in' in
+        let part = part_of q in grind (arith, nat_tests)))
 
     at_node : AreSummed old new (chain_of e.chains i) (chain_of e.parents i)
     at_node = grind (arith, nat_tests)
@@ -102,17 +84,11 @@ module _ (e : Embedding) (i : ℕ) (old chain parents : List ℕ)
         at_node.below q in' ∙ same_held is_on (weight_of e) weight qs next.held in
         let over : get_or new (first_of qs) 0 - get_or new q 0
         ≡ side_weight (weight_of e) qs (λ r. not (is_on r)) =
-        omega (
-          arith,
-          under,
-          at_node.all,
-          same_sums weight (weight_of e) qs next.held,
-          both_sides (weight_of e) qs is_on,
-        ) in
+        let same = same_sums weight (weight_of e) qs next.held in
+        omega (arith, under, at_node.all, both_sides (weight_of e) qs is_on) in
         λ k. min (under k) (over k) + 1
 
-    pub node_made : ties (strength_in new (first_of chain)) (drop 1 chain) parents
-        ≡ node_ties e i
+    pub node_made : ties (strength_in new (first_of chain)) (drop 1 chain) parents ≡ node_ties e i
     node_made =
         (λ k. ties (strength_in new (first_of (next.chain_is k))) (drop 1 (next.chain_is k))
         (next.parents_is k))

@@ -1,7 +1,8 @@
 -- The parents that are noted for a chain, and what the walks and sums over it ask.
-use Rattle.cut_chains.proofs.Common.{ints, elements, ◌≡◌, inl, inr, ℕ, ◌+◌, ◌<◌, ◌^◌, Bool, true, false, List, [], ◌∷◌, length, take, drop, get_or, All, refl, sym, ap, subst, ◌∙◌, arith, ◌==◌, sum_by, AllByRecursion, AllZip, nat_tests, eqb-true, or_cases, get_or-drop, get_or-set_same, get_or-set_other, length-drop, AllZip-get_or, recursion_from_All, All-from_recursion, set, length-set, is_in, first_of, IsTie, parent_in, in_rest, each_at, is_below, side_weight, IsRooted, is_below_first, Once, own_parents, IsOnceTree, rooted_tree, sum_by-cons, IsOrder, Climbable, Sinkable}
+use Rattle.cut_chains.proofs.Common.{elements, ◌≡◌, ℕ, ◌+◌, ◌<◌, ◌^◌, Bool, true, false, List, [], ◌∷◌, length, take, drop, get_or, All, refl, sym, ap, subst, ◌∙◌, arith, sum_by, AllByRecursion, AllZip, nat_tests, get_or-drop, get_or-set_same, get_or-set_other, length-drop, AllZip-get_or, recursion_from_All, set, length-set, is_in, first_of, IsTie, parent_in, each_at, is_below, side_weight, IsRooted, is_below_first, Once, own_parents, IsOnceTree, rooted_tree, IsOrder, Climbable, Sinkable, cond, zip_lengths}
 use Rattle.cut_chains.proofs.Reaching.{chain_parts}
 use Rattle.cut_chains.proofs.Members.{in_more}
+use Rattle.cut_chains.proofs.Subtrees.{same_held}
 
 -- what is noted so far
 pub record IsNoted (before up chain parents : List ℕ) (i : ℕ) : Type 0 where
@@ -12,8 +13,7 @@ pub record IsNoted (before up chain parents : List ℕ) (i : ℕ) : Type 0 where
 
 pub noted_more : (before up next chain parents : List ℕ) (i : ℕ)
     → length chain ≡ length parents + 1 → i < length parents → Once (drop 1 chain)
-    → All (λ q. q < length before) chain
-    → IsNoted before up chain parents i
+    → All (λ q. q < length before) chain → IsNoted before up chain parents i
     → next ≡ set up (get_or chain (i + 1) 0) (get_or parents i 0)
     → IsNoted before next chain parents (i + 1)
 noted_more before up next chain parents i matched i_in once inside noted stored =
@@ -31,18 +31,9 @@ noted_more before up next chain parents i matched i_in once inside noted stored 
     record {
       sized = ap length stored ∙ length-set up at value ∙ noted.sized;
       own = λ q q_in.
-          let more = in_more cs i q (omega (arith, counted, i_in)) in
-          let old = noted.own q in
-          let same = get_or-set_same up at value 0 at_in in
-          let other = get_or-set_other up at q value 0 in
-          rw stored (grind (arith, nat_tests));
+          grind (arith, nat_tests, elements, in_more, get_or-set_same, get_or-set_other);
       within = λ n old all k d k_in.
-          let size = length-set up at value in
-          let first = all i 0 i_in in
-          let before = noted.within n old all k d in
-          let same = get_or-set_same up at value d at_in in
-          let other = get_or-set_other up at k value d in
-          rw stored (grind (arith, nat_tests));
+          grind (arith, nat_tests, elements, length-set, get_or-set_same, get_or-set_other);
     }
 
 -- a parent is in the chain
@@ -77,16 +68,10 @@ chain_closed (first ∷ cs) parents t q in' =
 
 pub parents_within : (n : ℕ) (chain cs ps : List ℕ) → AllZip (IsTie chain) cs ps
     → All (λ q. q < n) chain → All (λ q. q < n) ps
-parents_within n chain cs ps ties inside = All-from_recursion (λ q. q < n) ps (each cs ps ties)
-  where
-    each : (cs ps : List ℕ) → AllZip (IsTie chain) cs ps → AllByRecursion (λ q. q < n) ps
-    each [] [] ties = tt
-    each [] (p ∷ ps) ties = absurd ties
-    each (c ∷ cs) [] ties = tt
-    each (c ∷ cs) (p ∷ ps) ties = (
-      each_at (λ q. q < n) chain p (recursion_from_All (λ q. q < n) chain inside) ties.0.inside,
-      each cs ps ties.1,
-    )
+parents_within n chain cs ps ties inside = λ i d within.
+    let long = zip_lengths (IsTie chain) cs ps ties in
+    let tie = AllZip-get_or (IsTie chain) cs ps i 0 d ties (omega (arith, within)) in
+    each_at (λ q. q < n) chain (get_or ps i d) (recursion_from_All _ chain inside) tie.inside
 
 pub tree_lengths : (chain parents : List ℕ) → IsOnceTree chain parents
     → length chain ≡ length parents + 1
@@ -95,23 +80,13 @@ tree_lengths chain parents t = grind (arith, nat_tests, elements)
 -- all qubits of a chain are below the first
 pub all_below : (weight : ℕ → ℕ) (chain parents : List ℕ) → IsOnceTree chain parents
     → side_weight weight (first_of chain ∷ drop 1 chain)
-    (is_below (first_of chain ∷ drop 1 chain) parents (first_of chain))
-    ≡ sum_by weight chain
+    (is_below (first_of chain ∷ drop 1 chain) parents (first_of chain)) ≡ sum_by weight chain
 all_below weight [] parents t = absurd (t.filled refl)
 all_below weight (first ∷ cs) parents t =
-    every (first ∷ cs) (λ r in'. is_below_first first cs parents (rooted_tree first cs parents t) r
-    (elim (or_cases (first == r) (is_in cs r) in') [
-      | inl same ↦ inl (sym (eqb-true first r same))
-      | inr later ↦ inr later
-    ]))
-  where
-    every : (qs : List ℕ)
-        → ((r : ℕ) → is_in qs r ≡ true → is_below (first ∷ cs) parents first r ≡ true)
-        → side_weight weight qs (is_below (first ∷ cs) parents first) ≡ sum_by weight qs
-    every [] all = refl
-    every (q ∷ qs) all =
-        let rest = every qs (λ r in'. all r (in_rest q r qs in')) in
-        simp sum_by-cons (grind (arith, nat_tests, ints))
+    let is_on = is_below (first ∷ cs) parents first in
+    same_held (λ q. true) weight (λ r. cond (is_on r) (weight r) 0) (first ∷ cs) (λ r in'.
+    let on = is_below_first first cs parents (rooted_tree first cs parents t) r
+    (grind (arith, nat_tests)) in ap (λ b. cond b (weight r) 0) on)
 
 -- ---- what walks and sums ask
 
@@ -136,8 +111,7 @@ abbrev pub sinkable : (up sums order chain parents : List ℕ) → IsOnceTree ch
     → IsOrder (first_of chain) (drop 1 chain) parents order
     → All (λ q. q < length sums) chain → length up ≡ length sums
     → ((q : ℕ) → is_in (drop 1 chain) q ≡ true → get_or up q 0 ≡ parent_in (drop 1 chain) parents q)
-    → sum_by (λ q. get_or sums q 0) chain < 2 ^ 127
-    → Sinkable up sums order
+    → sum_by (λ q. get_or sums q 0) chain < 2 ^ 127 → Sinkable up sums order
 sinkable up sums order chain parents tree ordered inside same own small = record {
   first = first_of chain;
   cs = drop 1 chain;

@@ -1,14 +1,13 @@
 -- How an order comes about: a walk from a qubit to its parents, up to one that is listed, is
 -- appended from its end on.
-use Rattle.cut_chains.proofs.Common.{◌≡◌, inl, inr, ℕ, ◌<◌, Bool, true, false, ◌||◌, List, [], ◌∷◌, ◌++◌, length, take, get_or, refl, sym, ap, subst, ◌∙◌, arith, append_assoc, length-append, ◌==◌, reverse, All, AllByRecursion, nat_tests, cases_lt, or_parts, or_from, take-append-le, get_or_append_left, append-nil, reverse-append, get_or-set_same, get_or-set_other, All-append, All-from_recursion, set, length-set, take-append_seam, get_or-append_seam, is_in, IsClimb, Once}
+use Rattle.cut_chains.proofs.Common.{elements, ◌≡◌, inl, inr, ℕ, ◌<◌, Bool, true, false, ◌||◌, List, [], ◌∷◌, ◌++◌, length, take, get_or, refl, sym, ap, subst, ◌∙◌, arith, append_assoc, length-append, ◌==◌, reverse, All, AllByRecursion, nat_tests, cases_lt, or_parts, or_from, take-append-le, get_or_append_left, append-nil, reverse-append, get_or-set_same, get_or-set_other, set, length-set, take-append_seam, get_or-append_seam, is_in, IsClimb, Once}
 use Rattle.cut_chains.proofs.Members.{is_in-push, is_in-listed, once_more}
 
 -- each qubit of the list stands after its parent, or its parent is the first, and none stands twice
 pub record IsReached (first : ℕ) (up : ℕ → ℕ) (order : List ℕ) : Type 0 where
   pub after : (j : ℕ) → j < length order
       → is_in (first ∷ take j order) (up (get_or order j 0)) ≡ true
-  pub once : (j : ℕ) → j < length order
-      → is_in (first ∷ take j order) (get_or order j 0) ≡ false
+  pub once : (j : ℕ) → j < length order → is_in (first ∷ take j order) (get_or order j 0) ≡ false
 
 pub climb_more : (up : ℕ → ℕ) (path : List ℕ) (from q : ℕ) → IsClimb up path from q
     → IsClimb up (path ++ q ∷ []) from (up q)
@@ -44,6 +43,13 @@ reached_more first up order p reached listed new = record {
 
 -- ---- a path, listed from its end on
 
+-- what a climb to a listed qubit begins with is listed with it
+pub climb_listed : (first : ℕ) (up : ℕ → ℕ) (order ps : List ℕ) (from q : ℕ) → IsClimb up ps from q
+    → is_in (first ∷ order) q ≡ true → is_in (first ∷ (order ++ reverse ps)) from ≡ true
+climb_listed first up order [] from q climb listed = (λ k. is_in (first ∷ append-nil order k) (climb k)) ∙ listed
+climb_listed first up order (p ∷ ps) from q climb listed =
+    let both = is_in-listed order (p ∷ ps) from in let same = climb.0 in grind (arith, nat_tests)
+
 pub reached_path : (first : ℕ) (up : ℕ → ℕ) (order path : List ℕ) (from q : ℕ)
     → IsReached first up order → IsClimb up path from q → is_in (first ∷ order) q ≡ true
     → AllByRecursion (λ p. is_in (first ∷ order) p ≡ false) path → Once path
@@ -61,15 +67,7 @@ reached_path first up order (p ∷ ps) from q reached climb listed new different
     or_from (first == p) (is_in before p) parts.0
     (is_in-listed order ps p ∙ or_from (is_in order p) (is_in ps p) parts.1 different.0) in
     subst (IsReached first up) (sym same)
-    (reached_more first up before p rest (next ps climb.1 listed) out)
-  where
-    next : (rs : List ℕ) → IsClimb up rs (up p) q → is_in (first ∷ order) q ≡ true
-        → is_in (first ∷ (order ++ reverse rs)) (up p) ≡ true
-    next [] climb listed = (λ k. is_in (first ∷ append-nil order k) (climb k)) ∙ listed
-    next (r ∷ rs) climb listed =
-        let both = is_in-listed order (r ∷ rs) (up p) in
-        let same = climb.0 in
-        grind (arith, nat_tests)
+    (reached_more first up before p rest (climb_listed first up order ps (up p) q climb.1 listed) out)
 
 -- ---- a walk that marks its qubits
 
@@ -86,8 +84,7 @@ pub record IsWalking (up : ℕ → ℕ) (before now : List Bool) (from q : ℕ) 
 
 pub walking_more : (up : ℕ → ℕ) (before now next : List Bool) (from q : ℕ) (path : List ℕ)
     → IsWalking up before now from q path → get_or now q true ≡ false → up q < length before
-    → next ≡ set now q true
-    → IsWalking up before next from (up q) (path ++ q ∷ [])
+    → next ≡ set now q true → IsWalking up before next from (up q) (path ++ q ∷ [])
 walking_more up before now next from q path walking fresh inside stored =
     let parts =
     or_parts (get_or before q true) (is_in path q) (sym (walking.marked q walking.bound) ∙ fresh) in
@@ -95,14 +92,8 @@ walking_more up before now next from q path walking fresh inside stored =
       sized = ap length stored ∙ length-set now q true ∙ walking.sized;
       bound = inside;
       walk = climb_more up path from q walking.walk;
-      unmarked =
-          All-append (λ p. get_or before p true ≡ false) path (q ∷ []) walking.unmarked
-          (All-from_recursion (λ p. get_or before p true ≡ false) (q ∷ []) (parts.0, tt));
+      unmarked = grind (arith, nat_tests, elements);
       different = once_more path q walking.different parts.1;
       marked = λ r within.
-          let old = walking.marked r within in
-          let pushed = is_in-push path q r in
-          let here = get_or-set_same now q true true (omega (arith, walking.bound, walking.sized)) in
-          let other = get_or-set_other now q r true true in
-          rw stored (grind (arith, nat_tests));
+          grind (arith, nat_tests, elements, is_in-push, get_or-set_same, get_or-set_other);
     }

@@ -2,9 +2,9 @@
 --
 -- No walk comes back to a qubit of its own, since steps to the parent lead to the chain's first
 -- qubit. So each ends at a qubit that was listed before.
-use Rattle.cut_chains.proofs.Common.{◌≡◌, ◌≢◌, inl, inr, ℕ, ◌<◌, Bool, true, false, ◌||◌, List, [], ◌∷◌, ◌++◌, length, take, drop, get_or, refl, sym, ap, ◌∙◌, arith, ◌==◌, reverse, AllByRecursion, nat_tests, eqb-true, or_cases, or_right, or_parts, append-nil, get_or_past, recursion_from_All, is_in, first_of, is_in_at, parent_in, climbed, each_at, IsOrder, IsClimb, IsClimbed, Climbable, not_again}
+use Rattle.cut_chains.proofs.Common.{◌≡◌, ◌≢◌, ℕ, ◌<◌, Bool, true, false, ◌||◌, List, [], ◌∷◌, ◌++◌, length, drop, get_or, refl, sym, ap, ◌∙◌, arith, ◌==◌, reverse, AllByRecursion, nat_tests, or_right, or_parts, get_or_past, recursion_from_All, is_in, first_of, is_in_at, parent_in, climbed, each_at, IsOrder, IsClimb, IsClimbed, Climbable, not_again}
 use Rattle.cut_chains.proofs.Members.{is_in-push, is_in-listed}
-use Rattle.cut_chains.proofs.Paths.{IsReached, reached_path}
+use Rattle.cut_chains.proofs.Paths.{climb_listed, IsReached, reached_path}
 
 module _ (up : List ℕ) (before : List Bool) (first : ℕ) (cs : List ℕ)
     (t : Climbable up before first cs) where
@@ -51,15 +51,11 @@ module _ (up : List ℕ) (before : List Bool) (first : ℕ) (cs : List ℕ)
       → AllByRecursion (λ p. is_in cs p ≡ true) path → is_in path q ≡ true → ⊥
   no_round [] from q climb all in' = absurd cc
   no_round (p ∷ ps) from q climb all in' =
-      elim (or_cases (p == q) (is_in ps q) in') [
-        | inl same ↦
-            let equal : p ≡ q = eqb-true p q same in
-            not_again first cs t.ps t.root (length ps) p all.0
-            (ap (climbed cs t.ps (length ps)) (sym (parent_same p all.0))
-            ∙ steps_of ps (parent_at p) q climb.1 all.1
-            ∙ sym equal)
-        | inr later ↦ no_round ps (parent_at p) q climb.1 all.1 later
-      ]
+      let later = no_round ps (parent_at p) q climb.1 all.1 in
+      let round = not_again first cs t.ps t.root (length ps) p all.0 in
+      let steps = steps_of ps (parent_at p) q climb.1 all.1 in
+      let up = parent_same p all.0 in
+      grind (arith, nat_tests)
 
   -- what is not marked is a qubit
   fresh_within : (seen : List Bool) (q : ℕ) → get_or seen q true ≡ false → q < length seen
@@ -72,8 +68,7 @@ module _ (up : List ℕ) (before : List Bool) (first : ℕ) (cs : List ℕ)
   fresh_path seen order done [] reaching fresh = tt
   fresh_path seen order done (p ∷ ps) reaching fresh =
       let within : p < length before = omega (arith, fresh_within seen p fresh.0, reaching.sized) in
-      let parts =
-      or_parts (get_or before p true) (is_in (first ∷ order) p)
+      let parts = or_parts (get_or before p true) (is_in (first ∷ order) p)
       (sym (reaching.marked p within) ∙ fresh.0) in
       (parts.1, fresh_path seen order done ps reaching fresh.1)
 
@@ -84,74 +79,37 @@ module _ (up : List ℕ) (before : List Bool) (first : ℕ) (cs : List ℕ)
       ((or_parts (first == p) (is_in order p) fresh.0).0, not_first order ps fresh.1)
 
   pub reach_more : (seen next : List Bool) (order done path : List ℕ) (from : ℕ)
-      → IsReaching seen order done → is_in cs from ≡ true
-      → IsClimbed parent_at seen next from path
+      → IsReaching seen order done → is_in cs from ≡ true → IsClimbed parent_at seen next from path
       → IsReaching next (order ++ reverse path) (done ++ from ∷ [])
   reach_more seen next order done path from reaching from_in walk =
       let q = walk.walk.0 in
       let climb = walk.walk.1 in
-      let fresh =
-      fresh_path seen order done path reaching
+      let fresh = fresh_path seen order done path reaching
       (recursion_from_All (λ p. get_or seen p true ≡ false) path walk.unmarked) in
-      let sides =
-      path_inside path from q climb (or_right (first == from) (is_in cs from) from_in)
+      let sides = path_inside path from q climb (or_right (first == from) (is_in cs from) from_in)
       (not_first order path fresh) in
       let within : q < length before = omega (arith, walk.walk.2, reaching.sized) in
-      let listed : is_in (first ∷ order) q ≡ true =
-      let found = walk.walk.3 in
+      let listed : is_in (first ∷ order) q ≡ true = let found = walk.walk.3 in
       let old = reaching.marked q within in
       let none = no_round path from q climb sides.0 in
-      let unseen =
-      each_at (λ p. get_or before p true ≡ false) (first ∷ cs) q t.unseen sides.1 in
+      let unseen = each_at (λ p. get_or before p true ≡ false) (first ∷ cs) q t.unseen sides.1 in
       grind (arith, nat_tests) in
       record {
         sized = walk.sized ∙ reaching.sized;
-        reached =
-            reached_path first parent_at order path from q reaching.reached climb listed fresh
-            walk.different;
-        marked = λ r r_within.
-            let now = walk.marked r (omega (arith, r_within, reaching.sized)) in
-            let old = reaching.marked r r_within in
-            let both = is_in-listed order path r in
-            grind (arith, nat_tests);
-        inside = λ r in'.
-            let both = is_in-listed order path r in
-            let old = reaching.inside r in
-            let new = each_at (λ p. is_in cs p ≡ true) path r sides.0 in
-            grind (arith, nat_tests);
-        walked = λ r in'.
-            let both = is_in-push done from r in
-            let old = reaching.walked r in
-            let more = is_in-listed order path r in
-            let new = begun path climb listed in
-            grind (arith, nat_tests);
+        reached = grind (arith, nat_tests, reached_path);
+        marked = λ r r_within. grind (arith, nat_tests, is_in-listed);
+        inside = λ r in'. grind (arith, nat_tests, is_in-listed, each_at);
+        walked = λ r in'. grind (arith, nat_tests, is_in-push, is_in-listed, climb_listed);
       }
-    where
-      begun : (ps : List ℕ) → IsClimb parent_at ps from walk.walk.0
-          → is_in (first ∷ order) walk.walk.0 ≡ true
-          → is_in (first ∷ (order ++ reverse ps)) from ≡ true
-      begun [] climb listed = (λ k. is_in (first ∷ append-nil order k) (climb k)) ∙ listed
-      begun (p ∷ ps) climb listed =
-          let both = is_in-listed order (p ∷ ps) from in
-          let same = climb.0 in
-          grind (arith, nat_tests)
 
   -- ---- the end
 
   pub reach_end : (seen : List Bool) (order : List ℕ) → IsReaching seen order cs
       → IsOrder first cs t.ps order
   reach_end seen order reaching = record {
-    after = λ j within.
-        ap (is_in (first ∷ take j order))
-        (sym (parent_same (get_or order j 0)
-        (reaching.inside (get_or order j 0) (is_in_at order j (get_or order j 0) within refl))))
-        ∙ reaching.reached.after j within;
+    after = λ j within. grind (arith, nat_tests, parent_same, is_in_at);
     once = reaching.reached.once;
-    all = λ q.
-        let inside = reaching.inside q in
-        let walked = reaching.walked q in
-        let apart = t.root.apart in
-        grind (arith, nat_tests);
+    all = λ q. grind (arith, nat_tests);
   }
 
   pub reach_others : (seen : List Bool) (order done : List ℕ) → IsReaching seen order done → (q : ℕ)

@@ -1,14 +1,11 @@
 -- One step of the sums of subtrees, on lists.
-use Rattle.cut_chains.proofs.Common.{◌≡◌, ℕ, suc, ◌+◌, ◌<◌, ◌≤◌, ◌^◌, Bool, true, false, cond, List, [], ◌∷◌, length, get_or, sym, ap, ◌∙◌, arith, sum_by, nat_tests, both_ways, get_or-set_same, get_or-set_other, sum_by-le-sum_by, set, is_in, parent_in, each_at, side_weight, Sinkable, held_below}
+use Rattle.cut_chains.proofs.Common.{elements, ◌≡◌, ℕ, ◌+◌, ◌<◌, ◌≤◌, ◌^◌, Bool, true, false, cond, List, ◌∷◌, length, get_or, ap, ◌∙◌, arith, sum_by, nat_tests, both_ways, get_or-set_same, get_or-set_other, sum_by-le-sum_by, set, is_in, parent_in, each_at, side_weight, Sinkable, held_below, All, get_or_default, recursion_from_All, subst}
 use Rattle.cut_chains.proofs.Subtrees.{IsSinking, order_inside, front_inside, giving_small, sink_one, starts_sinking}
 
 side_weight-le : (weight : ℕ → ℕ) (qs : List ℕ) (is_on : ℕ → Bool)
     → side_weight weight qs is_on ≤ sum_by weight qs
 side_weight-le weight qs is_on =
-    sum_by-le-sum_by (λ r. cond (is_on r) (weight r) 0) weight qs (λ r. some (is_on r) (weight r))
-  where
-    some : (b : Bool) (n : ℕ) → cond b n 0 ≤ n
-    some b n = grind arith
+    sum_by-le-sum_by (λ r. cond (is_on r) (weight r) 0) weight qs (λ r. grind arith)
 
 module _ (up sums order xs : List ℕ) (t : Sinkable up sums order) where
   -- what is kept, for the qubits from the i-th on
@@ -20,8 +17,7 @@ module _ (up sums order xs : List ℕ) (t : Sinkable up sums order) where
   pub starts : Sinks sums (length order)
   starts =
       starts_sinking t.first t.cs t.ps order t.root t.ordered (λ q. get_or sums q 0) (length sums)
-      t.different
-      t.inside.1
+      t.different t.inside.1
 
   inside_of : (q : ℕ) → is_in (t.first ∷ t.cs) q ≡ true → q < length sums
   inside_of q in' = each_at (λ p. p < length sums) (t.first ∷ t.cs) q t.inside in'
@@ -35,8 +31,7 @@ module _ (up sums order xs : List ℕ) (t : Sinkable up sums order) where
 
     parent_inside : is_in (t.first ∷ t.cs) (parent_in t.cs t.ps (get_or order a 0)) ≡ true
     parent_inside =
-        let there =
-        front_inside t.first t.cs t.ps order t.root t.ordered a
+        let there = front_inside t.first t.cs t.ps order t.root t.ordered a
         (parent_in t.cs t.ps (get_or order a 0)) (omega (arith, within))
         (t.ordered.after a within) in
         grind (arith, nat_tests)
@@ -58,30 +53,20 @@ module _ (up sums order xs : List ℕ) (t : Sinkable up sums order) where
         → get_or xs (get_or up (get_or order a 0) 0) 0 + get_or xs (get_or order a 0) 0 < 2 ^ 127
     step_fits sinking =
         let moved = ap (λ r. get_or xs r 0) parent_is in
-        let small =
-        giving_small t.first t.cs t.ps order t.root t.ordered (λ q. get_or sums q 0)
+        let small = giving_small t.first t.cs t.ps order t.root t.ordered (λ q. get_or sums q 0)
         (λ q. get_or xs q 0) a within sinking in
         omega (arith, side_weight-le)
 
-    pub step_next : Sinks xs (a + 1)
-        → Sinks
-        (set xs (get_or up (get_or order a 0) 0)
-        (get_or xs (get_or up (get_or order a 0) 0) 0 + get_or xs (get_or order a 0) 0))
-        a
+    pub step_next : Sinks xs (a + 1) → Sinks (set xs (get_or up (get_or order a 0) 0)
+        (get_or xs (get_or up (get_or order a 0) 0) 0 + get_or xs (get_or order a 0) 0)) a
     step_next sinking =
         let q = get_or order a 0 in
         let p = get_or up q 0 in
         let more = get_or xs p 0 + get_or xs q 0 in
-        sink_one t.first t.cs t.ps order t.root t.ordered (λ r. get_or sums r 0)
-        (λ r. get_or xs r 0)
-        (λ r. get_or (set xs p more) r 0)
-        a
-        within
-        sinking
-        (ap (λ r. get_or (set xs p more) r 0) (sym parent_is)
-        ∙ get_or-set_same xs p more 0 parent_below
-        ∙ ap (λ r. get_or xs r 0 + get_or xs q 0) parent_is)
-        (λ r other. get_or-set_other xs p r more 0 (λ e. other (e ∙ parent_is)))
+        let get = get_or-set_same xs p more 0 parent_below in
+        let get_set_other = get_or-set_other xs p in
+        let sink = sink_one t.first t.cs t.ps order t.root t.ordered in
+        grind (arith, nat_tests, elements, parent_is)
 
     pub step_others : (r : ℕ) → is_in (t.first ∷ t.cs) r ≡ false
         → get_or (set xs (get_or up (get_or order a 0) 0)
@@ -95,16 +80,11 @@ module _ (up sums order xs : List ℕ) (t : Sinkable up sums order) where
   -- at the end
   pub ends_below : Sinks xs 0 → (q : ℕ) → is_in t.cs q ≡ true → get_or xs q 0 ≡ held_below t q
   ends_below sinking q in' =
-      found order (λ j in''. sinking.done j (omega arith) in'') (t.ordered.all q ∙ in')
-    where
-      found : (qs : List ℕ)
-          → ((j : ℕ) → j < length qs → get_or xs (get_or qs j 0) 0 ≡ held_below t (get_or qs j 0))
-          → is_in qs q ≡ true → get_or xs q 0 ≡ held_below t q
-      found [] each in'' = absurd cc
-      found (r ∷ rs) each in'' =
-          let here = each 0 (omega arith) in
-          let rest = found rs (λ j l. each (suc j) (omega (arith, l))) in
-          grind (arith, nat_tests)
+      let held : All (λ r. get_or xs r 0 ≡ held_below t r) order = λ j d l.
+      subst (λ r. get_or xs r 0 ≡ held_below t r) (get_or_default order j 0 d l)
+      (sinking.done j (omega arith) l) in
+      each_at (λ r. get_or xs r 0 ≡ held_below t r) order q
+      (recursion_from_All (λ r. get_or xs r 0 ≡ held_below t r) order held) (t.ordered.all q ∙ in')
 
   pub ends_all : Sinks xs 0 → get_or xs t.first 0 ≡ held_below t t.first
   ends_all sinking = grind (arith, nat_tests)

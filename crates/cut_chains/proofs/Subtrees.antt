@@ -3,7 +3,7 @@
 --
 -- What the qubits that have not given yet hold below a qubit is always the weight below it. The
 -- next one to give has none of the others below it, so it holds the weight below it.
-use Rattle.cut_chains.proofs.Common.{◌≡◌, ◌≢◌, ◌⊎◌, inl, inr, ℕ, zero, suc, ◌+◌, ◌<◌, ◌≤◌, Bool, true, false, cond, ◌||◌, List, [], ◌∷◌, length, take, get_or, refl, sym, ap, subst, ◌∙◌, arith, ◌==◌, ℤ, pos, ◌+ℤ◌, AllByRecursion, range_with_len, ints, nat_tests, cases_eq, eq-eqb, eqb-true, or_cases, or_left, or_right, false_from_ne_true, both_ways, take_more, take-length, take-suc, sum_by-cons, sum_by_more, total_by, if_so, total_by-plus, is_in, is_in_at, parent_in, climbed, range-zero, range-same, hit, each_at, is_below, side_weight, IsOrder, IsRooted, parent_outside, same_side, tied_below, is_below_first, found_in_range, Once}
+use Rattle.cut_chains.proofs.Common.{◌≡◌, ◌≢◌, ◌⊎◌, inl, inr, ℕ, zero, suc, ◌+◌, ◌<◌, ◌≤◌, Bool, true, false, cond, ◌||◌, List, [], ◌∷◌, length, take, get_or, refl, sym, ap, subst, ◌∙◌, arith, ◌==◌, ℤ, pos, ◌+ℤ◌, AllByRecursion, range_with_len, ints, nat_tests, cases_eq, eqb-true, or_cases, or_left, false_from_ne_true, take_more, take-length, take-suc, sum_by-cons, sum_by_more, total_by, if_so, total_by-plus, is_in, is_in_at, parent_in, climbed, range-zero, range-same, hit, each_at, is_below, side_weight, IsOrder, IsRooted, parent_outside, same_side, tied_below, is_below_first, found_in_range, Once}
 use Rattle.cut_chains.proofs.Members.{is_in-push, once_more}
 
 is_in-first : (q : ℕ) (qs : List ℕ) → is_in (q ∷ qs) q ≡ true
@@ -26,20 +26,14 @@ same_held is_on held next (q ∷ qs) same =
 
 -- one qubit of the list gets more
 pub more_held : (is_on : ℕ → Bool) (held next : ℕ → ℕ) (p more : ℕ) (qs : List ℕ) → Once qs
-    → is_in qs p ≡ true → next p ≡ held p + more
-    → ((r : ℕ) → (r ≢ p) → next r ≡ held r)
+    → is_in qs p ≡ true → next p ≡ held p + more → ((r : ℕ) → (r ≢ p) → next r ≡ held r)
     → side_weight next qs is_on ≡ side_weight held qs is_on + cond (is_on p) more 0
 more_held is_on held next p more [] once in' gets keeps = grind arith
-more_held is_on held next p more (q ∷ qs) once in' gets keeps = elim (cases_eq q p) [
-  | inl same ↦
-      let first = once.0 in
-      let others = same_held is_on held next qs (λ r i. keeps r (λ e. cc)) in
-      simp sum_by-cons (grind (arith, nat_tests))
-  | inr other ↦
-      let here = keeps q other in
-      let rest = more_held is_on held next p more qs once.1 (grind (arith, nat_tests)) gets keeps in
-      simp sum_by-cons (grind (arith, nat_tests))
-]
+more_held is_on held next p more (q ∷ qs) once in' gets keeps =
+    let cases = cases_eq q p in
+    let same_is = same_held is_on held next qs in
+    let more_is = more_held is_on held next p more qs once.1 in
+    simp sum_by-cons (grind (arith, nat_tests))
 
 -- one element of a sum is no more than it
 pub one_held : (is_on : ℕ → Bool) (held : ℕ → ℕ) (p : ℕ) (qs : List ℕ) → is_in qs p ≡ true
@@ -65,22 +59,17 @@ front first order i = first ∷ take i order
 
 module _ (first : ℕ) (cs ps order : List ℕ) (root : IsRooted first cs ps)
     (ordered : IsOrder first cs ps order) where
-  in_front_more : (i q : ℕ) → i < length order
-      → is_in (front first order (i + 1)) q
+  in_front_more : (i q : ℕ) → i < length order → is_in (front first order (i + 1)) q
       ≡ (is_in (front first order i) q || (get_or order i 0 == q))
   in_front_more i q within =
       ap (λ qs. is_in (first ∷ qs) q) (take_more order i 0 within)
       ∙ is_in-push (front first order i) (get_or order i 0) q
 
-  in_front_suc : (i q : ℕ) → i < length order
-      → is_in (front first order (suc i)) q
+  in_front_suc : (i q : ℕ) → i < length order → is_in (front first order (suc i)) q
       ≡ (is_in (front first order i) q || (get_or order i 0 == q))
   in_front_suc i q within =
       ap (λ qs. is_in (first ∷ qs) q) (take-suc order i 0 within)
       ∙ is_in-push (front first order i) (get_or order i 0) q
-
-  first_in_front : (i : ℕ) → is_in (front first order i) first ≡ true
-  first_in_front i = or_left (first == first) (is_in (take i order) first) (eq-eqb first first refl)
 
   -- parents of qubits in front are in front
   parent_in_front : (i q : ℕ) → i ≤ length order → is_in (front first order i) q ≡ true
@@ -115,14 +104,9 @@ module _ (first : ℕ) (cs ps order : List ℕ) (root : IsRooted first cs ps)
   -- none in front is below the next one
   none_below : (i r : ℕ) → i < length order → is_in (front first order i) r ≡ true
       → is_below (first ∷ cs) ps (get_or order i 0) r ≡ false
-  none_below i r within in' = false_from_ne_true _ (λ below.
-      let found =
-      found_in_range (λ n. climbed cs ps n r == get_or order i 0) 0 (suc (length cs)) below in
-      let met : climbed cs ps found.0 r ≡ get_or order i 0 =
-      eqb-true (climbed cs ps found.0 r) (get_or order i 0) found.2 in
-      both_ways (is_in (front first order i) (get_or order i 0)) (ordered.once i within)
-      (ap (is_in (front first order i)) (sym met)
-      ∙ climbed_in_front i found.0 r (omega (arith, within)) in'))
+  none_below i r within in' =
+      let climbed_front = climbed_in_front i in
+      grind (arith, nat_tests, found_in_range, false_from_ne_true)
 
   pub front_inside : (i q : ℕ) → i ≤ length order → is_in (front first order i) q ≡ true
       → (q ≡ first) ⊎ (is_in cs q ≡ true)
@@ -141,29 +125,20 @@ module _ (first : ℕ) (cs ps order : List ℕ) (root : IsRooted first cs ps)
   below_alike i x within in' =
       let q = get_or order i 0 in
       let q_in = order_inside i within in
-      elim (front_inside i x (omega (arith, within)) in') [
-        | inl same ↦
-            subst
-            (λ r. is_below (first ∷ cs) ps r q ≡ is_below (first ∷ cs) ps r (parent_in cs ps q))
-            (sym same)
-            (is_below_first first cs ps root q (inr q_in)
-            ∙ sym (is_below_first first cs ps root (parent_in cs ps q)
-            (front_inside i (parent_in cs ps q) (omega (arith, within)) (ordered.after i within))))
-        | inr x_in ↦
-            same_side first cs ps root x q x_in q_in
-            (λ e. both_ways (is_in (front first order i) x)
-            (ap (is_in (front first order i)) (sym e) ∙ ordered.once i within) in')
-      ]
+      let out = ordered.once i within in
+      let up = front_inside i (parent_in cs ps q) (omega (arith, within)) (ordered.after i within) in
+      let inside = front_inside i x in
+      let below = is_below_first first cs ps root q in
+      let below_first = is_below_first first cs ps root (parent_in cs ps q) up in
+      let side = same_side first cs ps root x q in
+      grind (arith, nat_tests)
 
   once_front : (i : ℕ) → i ≤ length order → Once (front first order i)
   once_front zero few = (refl, tt)
   once_front (suc i) few =
-      let within : i < length order = omega (arith, few) in
-      let one : suc i ≡ i + 1 = omega arith in
-      subst (λ n. Once (front first order n)) (sym one)
-      (subst (λ qs. Once (first ∷ qs)) (sym (take_more order i 0 within))
+      rw (take-suc order i 0 few)
       (once_more (front first order i) (get_or order i 0) (once_front i (omega (arith, few)))
-      (ordered.once i within)))
+      (ordered.once i few))
 
   -- ---- giving to the parent
 
@@ -192,73 +167,56 @@ module _ (first : ℕ) (cs ps order : List ℕ) (root : IsRooted first cs ps)
       → held (parent_in cs ps (get_or order i 0)) + held (get_or order i 0)
       ≤ below_weight weight (parent_in cs ps (get_or order i 0))
   giving_small weight held i within sinking =
-      let q = get_or order i 0 in
-      let p = parent_in cs ps q in
+      let p = parent_in cs ps (get_or order i 0) in
       let p_in = ordered.after i within in
       let below = is_below (first ∷ cs) ps p in
-      let p_in_more : is_in (front first order (i + 1)) p ≡ true =
-      in_front_more i p within ∙ or_left (is_in (front first order i) p) (q == p) p_in in
+      let alike = below_alike i p within p_in in
       let itself = tied_below first cs ps root p in
-      let q_below : below q ≡ true = below_alike i p within p_in ∙ itself in
-      let whole = sinking.left p p_in_more in
+      let here = in_front_more i p within in
+      let whole = sinking.left p (grind (arith, nat_tests)) in
       let more = held_more below held i within in
       let part = one_held below held p (front first order i) p_in itself in
-      omega (arith, ap (λ b. cond b (held q) 0) q_below)
+      grind arith
 
   pub sink_one : (weight held next : ℕ → ℕ) (i : ℕ) → i < length order
-      → IsSinking weight held (i + 1)
-      → next (parent_in cs ps (get_or order i 0))
+      → IsSinking weight held (i + 1) → next (parent_in cs ps (get_or order i 0))
       ≡ held (parent_in cs ps (get_or order i 0)) + held (get_or order i 0)
       → ((r : ℕ) → (r ≢ parent_in cs ps (get_or order i 0)) → next r ≡ held r)
       → IsSinking weight next i
   sink_one weight held next i within sinking gives keeps =
       let q = get_or order i 0 in
-      let p = parent_in cs ps q in
       let p_in = ordered.after i within in
-      let q_in_more : is_in (front first order (i + 1)) q ≡ true =
-      in_front_more i q within
-      ∙ or_right (is_in (front first order i) q) (q == q) (eq-eqb q q refl) in
       let kept : (r : ℕ) → is_in (front first order i) r ≡ false → next r ≡ held r = λ r out.
       keeps r (λ e. cc) in
       record {
         left = λ x x_in.
             let below = is_below (first ∷ cs) ps x in
-            let x_in_more : is_in (front first order (i + 1)) x ≡ true =
-            in_front_more i x within ∙ or_left (is_in (front first order i) x) (q == x) x_in in
-            omega (
-              arith,
-              more_held below held next p (held q) (front first order i)
-                  (once_front i (omega (arith, within))) p_in gives keeps,
-              sinking.left x x_in_more,
-              held_more below held i within,
-              ap (λ b. cond b (held q) 0) (below_alike i x within x_in),
-            );
+            let alike = below_alike i x within x_in in
+            let here = in_front_more i x within in
+            let gets = more_held below held next (parent_in cs ps q) (held q) (front first order i)
+            (once_front i (omega (arith, within))) p_in gives keeps in
+            let whole = sinking.left x (grind (arith, nat_tests)) in
+            let rest = held_more below held i within in
+            grind arith;
         done = λ j from in'.
             elim (cases_eq j i) [
               | inl same ↦
-                  let itself : next q ≡ held q = kept q (ordered.once i within) in
                   let below = is_below (first ∷ cs) ps q in
-                  let held_here : held q ≡ below_weight weight q =
-                  omega (
-                    arith,
-                    sinking.left q q_in_more,
-                    held_more below held i within,
-                    none_held below held (front first order i)
-                        (λ r r_in. none_below i r within r_in),
-                    ap (λ b. cond b (held q) 0) (tied_below first cs ps root q),
-                  ) in
+                  let itself = kept q (ordered.once i within) in
+                  let here = in_front_more i q within in
+                  let whole = sinking.left q (grind (arith, nat_tests)) in
+                  let rest = held_more below held i within in
+                  let none = none_held below held (front first order i) (λ r. none_below i r within) in
+                  let tied = tied_below first cs ps root q in
+                  let held_here : next q ≡ below_weight weight q = grind arith in
                   subst (λ k. next (get_or order k 0) ≡ below_weight weight (get_or order k 0))
-                  (sym same) (itself ∙ held_here)
+                  (sym same) held_here
               | inr other ↦
-                  let more : i + 1 ≤ j = above i j from other in
-                  kept (get_or order j 0) (later_out i j more in')
-                  ∙ sinking.done j more in'
+                  kept (get_or order j 0) (later_out i j (grind arith) in')
+                  ∙ sinking.done j (grind arith) in'
             ];
       }
     where
-      above : (i j : ℕ) → i ≤ j → (j ≢ i) → i + 1 ≤ j
-      above i j le ne = grind arith
-
       -- who stands later is not in front
       later_out : (i j : ℕ) → i + 1 ≤ j → j < length order
           → is_in (front first order i) (get_or order j 0) ≡ false
@@ -279,39 +237,29 @@ module _ (first : ℕ) (cs ps order : List ℕ) (root : IsRooted first cs ps)
 
 -- different qubits, as some of the first n
 pub once_spread : (is_on : ℕ → Bool) (held : ℕ → ℕ) (n : ℕ) (qs : List ℕ) → Once qs
-    → AllByRecursion (λ q. q < n) qs
-    → pos (side_weight held qs is_on)
+    → AllByRecursion (λ q. q < n) qs → pos (side_weight held qs is_on)
     ≡ total_by (λ q. if_so (is_in qs q) (pos (cond (is_on q) (held q) 0))) (range_with_len 0 n)
 once_spread is_on held n [] once within = sym (range-zero 0 n)
 once_spread is_on held n (c ∷ cs) once within =
     let f : ℕ → ℕ = λ q. cond (is_on q) (held q) 0 in
     let here : ℕ → ℤ = λ q. if_so (q == c) (pos (f q)) in
     let rest : ℕ → ℤ = λ q. if_so (is_in cs q) (pos (f q)) in
-    omega (
-      arith,
-      ints,
-      range-same (λ q. here q +ℤ rest q) (λ q. if_so (is_in (c ∷ cs) q) (pos (f q))) 0 n
-          (λ q l. let out = once.0 in grind (arith, nat_tests, ints)),
-      total_by-plus here rest (range_with_len 0 n),
-      hit (λ q. pos (f q)) c 0 n (omega arith) (omega (arith, within.0)),
-      once_spread is_on held n cs once.1 within.1,
-      sum_by-cons f c cs,
-    )
+    let range_same = range-same (λ q. here q +ℤ rest q) (λ q. if_so (is_in (c ∷ cs) q) (pos (f q))) 0 n
+    (λ q l. let out = once.0 in grind (arith, nat_tests, ints)) in
+    let total = total_by-plus here rest (range_with_len 0 n) in
+    let more = hit (λ q. pos (f q)) c 0 n (omega arith) (omega (arith, within.0)) in
+    omega (arith, ints, once_spread is_on held n cs once.1 within.1, sum_by-cons f c cs)
 
 -- lists of the same different qubits hold the same
 pub same_qubits : (is_on : ℕ → Bool) (held : ℕ → ℕ) (n : ℕ) (qs rs : List ℕ) → Once qs → Once rs
     → AllByRecursion (λ q. q < n) qs → AllByRecursion (λ q. q < n) rs
     → ((q : ℕ) → is_in qs q ≡ is_in rs q) → side_weight held qs is_on ≡ side_weight held rs is_on
 same_qubits is_on held n qs rs once_qs once_rs within_qs within_rs same =
-    omega (
-      arith,
-      ints,
-      once_spread is_on held n qs once_qs within_qs,
-      once_spread is_on held n rs once_rs within_rs,
-      range-same (λ q. if_so (is_in qs q) (pos (cond (is_on q) (held q) 0)))
-          (λ q. if_so (is_in rs q) (pos (cond (is_on q) (held q) 0))) 0 n
-          (λ q l. ap (λ b. if_so b (pos (cond (is_on q) (held q) 0))) (same q)),
-    )
+    let once = once_spread is_on held n rs once_rs within_rs in
+    let range_same = range-same (λ q. if_so (is_in qs q) (pos (cond (is_on q) (held q) 0)))
+    (λ q. if_so (is_in rs q) (pos (cond (is_on q) (held q) 0))) 0 n
+    (λ q l. ap (λ b. if_so b (pos (cond (is_on q) (held q) 0))) (same q)) in
+    omega (arith, ints, once_spread is_on held n qs once_qs within_qs)
 
 within_alike : (n : ℕ) (qs rs : List ℕ) → AllByRecursion (λ q. q < n) rs
     → ((q : ℕ) → is_in qs q ≡ true → is_in rs q ≡ true) → AllByRecursion (λ q. q < n) qs
@@ -332,14 +280,9 @@ starts_sinking first cs ps order root ordered weight n once within = record {
       let whole : take (length order) order ≡ order = take-length order in
       let both = once_front first cs ps order root ordered (length order) (omega arith) in
       let f : ℕ → ℕ = λ r. cond (below r) (weight r) 0 in
-      omega (
-        arith,
-        sum_by-cons f first (take (length order) order),
-        sum_by-cons f first cs,
-        ap (λ qs. side_weight weight qs below) whole,
-        same_qubits below weight n order cs (subst Once whole both.1) once
-            (within_alike n order cs within (λ q in'. sym (ordered.all q) ∙ in')) within
-            ordered.all,
-      );
+      let more = ap (λ qs. side_weight weight qs below) whole in
+      let same = same_qubits below weight n order cs (subst Once whole both.1) once
+      (within_alike n order cs within (λ q in'. sym (ordered.all q) ∙ in')) within ordered.all in
+      omega (arith, sum_by-cons f first (take (length order) order), sum_by-cons f first cs);
   done = λ j from in'. absurd (omega (arith, from, in'));
 }

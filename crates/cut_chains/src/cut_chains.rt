@@ -9,7 +9,7 @@ ghost use Rattle.form_steps.specs.Least.{KeepsLeast};
 ghost use Rattle.form_steps.specs.Relations.{Extends};
 ghost use Rattle.ising_form.specs.Isings.{ising_total, ising_size};
 ghost use Rattle.ising_form.specs.Isings as isings;
-ghost use Rattle.embedding_check.specs.Embeddings.{embedding_size, form_of};
+ghost use Rattle.embedding_check.specs.Embeddings.{IsEmbedding, embedding_size, form_of};
 ghost use Rattle.chain_layer.specs.Image.{extension};
 ghost use Rattle.cut_chains.specs.CutImage.{cut_image, cut_offset};
 ghost use Rattle.cut_chains.specs.CutLinks.{Fits, IsSound, decoding};
@@ -27,6 +27,20 @@ use std::alloc::Global;
 /// `Layer`: the image keeps least states alone, and another state may lie below what it is read as.
 #[derive(Drop)]
 pub struct CutChains;
+
+/// The form on the qubits, and how much is added to its energies.
+fn lowered(alloc: Global, source: &Embedded) -> Result<(Ising, i128), NoMemory>
+    requires total { (ising_total source.now.ising + 1) * 2 ^ 21 ≤ 2 ^ 124 }
+    ensures image { IfOk result (λ made. made.0 ≡ cut_image source.now) }
+    ensures offset { IfOk result (λ made. made.1 ≡ cut_offset source.now) }
+    ensures kept { IsEmbedding source.now }
+    ensures total { IfOk result (λ made.
+        ising_total made.0 + 1 ≤ (ising_total source.now.ising + 1) * 2 ^ 21) }
+    ensures size { IfOk result (λ made. ising_size made.0 ≤ embedding_size source.now * 2 ^ 1) }
+{
+    let (target, cost) = image_of(alloc, source)?;
+    Ok((target, -(cost as i128)))
+}
 
 impl CutChains {
     /// Makes the image of a form.
@@ -51,7 +65,7 @@ impl CutChains {
         ensures size { IfOk result (λ made.
             ising_size made.target ≤ embedding_size source.now * 2 ^ 1) }
     {
-        let (target, cost) = image_of(alloc, source)?;
+        let (target, offset) = lowered(alloc, source)?;
         Ok(Lowered {
             target,
             link: CutLink {
@@ -59,7 +73,41 @@ impl CutChains {
                 qubits: source.qubits(),
             },
             scale: 1,
-            offset: -(cost as i128),
+            offset,
+        })
+    }
+
+    /// The image of a form that is given up: its chains become those of the link, where they lie.
+    /// `lower` makes the same of a form that stays.
+    pub fn lower_owned(
+        &self,
+        alloc: Global,
+        source: Embedded,
+    ) -> Result<Lowered<Ising, CutLink>, NoMemory>
+        requires total { (ising_total source.ising + 1) * 2 ^ 21 ≤ 2 ^ 124 }
+        ensures image { IfOk result (λ made. made.target ≡ cut_image source) }
+        ensures fits { IfOk result (λ made. Fits made.link source) }
+        ensures scale { IfOk result (λ made. made.scale ≡ pos 1) }
+        ensures offset { IfOk result (λ made. made.offset ≡ cut_offset source) }
+        ensures keeps { IfOk result (λ made. KeepsLeast (form_of source)
+            (isings.form_of made.target) (decoding made.link) made.scale made.offset) }
+        ensures offset_high { IfOk result (λ made.
+            unsigned_abs made.offset ≤ (ising_total source.ising + 1) * 2 ^ 20) }
+        ensures total { IfOk result (λ made.
+            ising_total made.target + 1 ≤ (ising_total source.ising + 1) * 2 ^ 21) }
+        ensures size { IfOk result (λ made.
+            ising_size made.target ≤ embedding_size source * 2 ^ 1) }
+    {
+        let (target, offset) = lowered(alloc, &source)?;
+        let qubits = source.qubits();
+        Ok(Lowered {
+            target,
+            link: CutLink {
+                chains: source.into_chains(),
+                qubits,
+            },
+            scale: 1,
+            offset,
         })
     }
 

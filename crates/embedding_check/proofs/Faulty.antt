@@ -1,30 +1,10 @@
 -- From the passes to a valid embedding, or to the first fault.
-use Rattle.std.proofs.Common.{◌≡◌, ◌≢◌, ℕ, zero, suc, ◌+◌, ◌<◌, ◌≤◌, ◌==◌, if◌then◌else◌, pos, inl, inr, Bool, true, false, ◌&&◌, ◌||◌, List, [], ◌∷◌, ◌++◌, length, get_or, All, refl, sym, ap, subst, ◌∙◌, arith}
-use Rattle.std.specs.List.{AllZip}
-use Rattle.std.proofs.lemmas.Bool.{cases_eq}
-use Rattle.std.proofs.lemmas.List.{get_or_append_left}
-use Rattle.std.proofs.Math.Seq.{get_or-append_seam}
-use Rattle.std.proofs.lemmas.List.Sums.{sum_by-take-le, sum_by_more}
-use Rattle.bits_model.specs.declared.output.Entry.{Entry}
-use Rattle.ising_form.specs.Isings.{IsingContent}
-use Rattle.chain_map.specs.declared.faults.EmbedFault.{EmbedFault}
+use Rattle.embedding_check.proofs.Common.{IsFaultAmong, ◌≡◌, ◌≢◌, ℕ, zero, suc, ◌+◌, ◌<◌, ◌≤◌, ◌==◌, if◌then◌else◌, pos, inl, inr, Bool, true, false, ◌&&◌, ◌||◌, List, [], ◌∷◌, ◌++◌, length, get_or, All, refl, sym, ap, subst, ◌∙◌, arith, AllZip, cases_eq, get_or_append_left, get_or-append_seam, sum_by-take-le, sum_by_more, Entry, IsingContent, EmbedFault, CheckAnswer, Joins, is_in, IsReached, chain_of, occurrences, IsCrossing, IsValid, IsPlace, qubit_at, IsSortedChain, IsPlaceIn, IfFault, IsFault, IsFirstAt, Exists, IsNew, IsReachedAt, IsUncoupled, number_at, IsInside, IsApart, AreSearchable, IsLinked, Option, occurrences_more, occurrences-take-le}
 use Rattle.chain_map.specs.declared.faults.EmbedFault.TheVariants.{ChainCount, EmptyChain, TooManyNodes, NoSuchQubit, Repeated, Disconnected, NoCoupler}
-use Rattle.chain_map.specs.declared.faults.CheckAnswer.{CheckAnswer}
 use Rattle.chain_map.specs.declared.faults.CheckAnswer.TheVariants.{Fault, NoMemory}
-use Rattle.chain_map.specs.Chains.{Joins}
-use Rattle.bits_model.specs.Walks.{is_in, IsReached}
-use Rattle.chain_map.specs.Chains.{chain_of, occurrences}
-use Rattle.chain_map.specs.Valid.{IsCrossing, IsValid}
-use Rattle.embedding_check.specs.Checked.{IsPlace}
-use Rattle.embedding_check.specs.Search.{qubit_at, IsSortedChain}
-use Rattle.embedding_check.specs.Least.{IsPlaceIn}
-use Rattle.chain_map.specs.Faults.{IfFault}
-use Rattle.embedding_check.specs.Faults.{IsFault, IsFaultAmong, IsFirstAt, Exists, IsNew, IsReachedAt, IsUncoupled, number_at, IsInside, IsApart, AreSearchable, IsLinked}
-use Rattle.std.specs.Prelude.{Option}
 use Rattle.embedding_check.proofs.Noting.{least_pair_same}
 use Rattle.embedding_check.proofs.Sorting.{is_in_at, at_of_in, same_test}
 use Rattle.embedding_check.proofs.Passing.{default_free}
-use Rattle.chain_map.proofs.Occurrences.{occurrences_more, occurrences-take-le}
 
 -- ---- a chain and its sorted one
 
@@ -148,12 +128,9 @@ pub pushed_more : {B : Type 0} (R : ℕ → B → Type 0) (ys : List B) (k : ℕ
     → (i : ℕ) → i < k + 1 → R i (get_or (ys ++ (y ∷ [])) i e)
 pushed_more R ys k y e len before here i low = elim (cases_eq i k) [
   | inl same ↦
-      let last : get_or (ys ++ (y ∷ [])) i e ≡ y =
-      ap (λ j. get_or (ys ++ (y ∷ [])) j e) (same ∙ sym len) ∙ get_or-append_seam ys y [] e in
-      subst (λ z. R i z) (sym last) (subst (λ j. R j y) (sym same) here)
-  | inr other ↦
-      let less : i < k = omega (arith, low, other) in
-      subst (λ z. R i z) (sym (get_or_append_left ys (y ∷ []) e i (omega (arith, less, len)))) (before i less)
+      let end : i ≡ length ys = omega (arith, same, len) in
+      rw (end, get_or-append_seam, len) here
+  | inr other ↦ rw (get_or_append_left ys (y ∷ []) e i (omega (arith, low, other, len))) (before i (omega (arith, low, other)))
 ]
 
 -- the sorted chain is within, too
@@ -187,16 +164,11 @@ new_of_once : (map : List (List ℕ)) → ((q : ℕ) → occurrences q map ≤ 1
     → (u : ℕ) → u < length map → (j : ℕ) → j < length (chain_of map u) → IsNew map u j
 new_of_once map once u below j low =
     let q = number_at map u j in
-    let chain = chain_of map u in
-    omega (
-      arith,
-      once q,
-      occurrences-take-le q map (u + 1),
-      occurrences_more q map u below,
-      sum_by-take-le (λ p. if p == q then 1 else 0) chain (j + 1),
-      sum_by_more (λ p. if p == q then 1 else 0) chain j 0 low,
-      ap {B = ℕ} (λ (b : Bool). if b then 1 else 0) (same_test q q refl),
-    )
+    let all = occurrences-take-le q map (u + 1) in
+    let rows = occurrences_more q map u below in
+    let some = sum_by-take-le (λ p. if p == q then 1 else 0) (chain_of map u) (j + 1) in
+    let more = sum_by_more (λ p. if p == q then 1 else 0) (chain_of map u) j 0 low in
+    omega (arith, once q, ap {B = ℕ} (λ (b : Bool). if b then 1 else 0) (same_test q q refl))
 
 pub fault_among_invalid : (joined : Joins) (qubits : ℕ) (IsQubit : ℕ → Type 0) (f : IsingContent) (map : List (List ℕ))
     (x : EmbedFault) → IsFaultAmong joined IsQubit f map x → IsValid joined qubits f map

@@ -1,16 +1,6 @@
 -- The least joined pair between two chains.
-use Rattle.std.proofs.Common.{◌≡◌, ℕ, ◌<◌, ◌≤◌, ◌⊎◌, inl, inr, true, false, ◌&&◌, List, length, refl, sym, ap, subst, ◌∙◌, arith}
-use Rattle.std.specs.Prelude.{Option, Some, None}
-use Rattle.std.proofs.lemmas.Bool.{cases_eq, cases_lt, or_cases, and_parts, and_from, or_left, or_right}
-use Rattle.chimera_graph.specs.declared.span.Span.{Span}
-use Rattle.chimera_graph.specs.Spans.{CanBeJoined}
-use Rattle.chain_map.specs.Chains.{Joins}
-use Rattle.bits_model.specs.Walks.{is_in}
-use Rattle.chain_map.specs.Valid.{IsCrossing}
-use Rattle.embedding_check.specs.Search.{qubit_at}
-use Rattle.embedding_check.specs.Least.{IsLeast, IsLeastPair, IsAhead, IsFacedAhead, IsNumberedAhead, IsArrow, IsPlaceIn}
-use Rattle.embedding_check.specs.Checked.{IsBefore}
-use Rattle.embedding_check.proofs.Taking.{not_both, rising_weak}
+use Rattle.embedding_check.proofs.Common.{nat_tests, ◌≡◌, ℕ, ◌<◌, ◌≤◌, ◌⊎◌, inl, inr, true, false, ◌&&◌, List, length, refl, sym, subst, arith, Option, Some, None, cases_eq, cases_lt, or_cases, and_parts, and_from, or_left, or_right, Span, CanBeJoined, Joins, is_in, IsCrossing, qubit_at, IsLeast, IsLeastPair, IsAhead, IsFacedAhead, IsNumberedAhead, IsArrow, IsPlaceIn, IsBefore}
+use Rattle.embedding_check.proofs.Taking.{rising_weak}
 use Rattle.embedding_check.proofs.Sorting.{is_in_at, at_of_in}
 
 -- ---- one span
@@ -21,12 +11,10 @@ pub none_faced : (joined : Joins) (a : ℕ) (chain : List ℕ) (span : Span) (k 
     → (b : ℕ) → IsFacedAhead joined a chain span b → ⊥
 none_faced joined a chain span k before after b f =
     let i = at_of_in chain b f.ahead.inside in
-    elim (cases_lt i.0 k) [
-      | inl low ↦
-          not_both _ f.ahead.linked
-          (subst (λ x. joined a x ≡ false) i.2 (before i.0 low (omega (arith, f.ahead.above, i.2)) (omega (arith, f.faced.from, i.2))))
-      | inr high ↦ omega (arith, after i.0 high i.1, i.2, f.faced.below)
-    ]
+    let low = before i.0 in
+    let high = after i.0 in
+    let cases = cases_lt i.0 k in
+    grind (arith, nat_tests)
 
 pub some_faced : (joined : Joins) (a : ℕ) (chain : List ℕ) (span : Span) (k : ℕ)
     → ((i j : ℕ) → i < j → j < length chain → qubit_at chain i < qubit_at chain j)
@@ -35,21 +23,15 @@ pub some_faced : (joined : Joins) (a : ℕ) (chain : List ℕ) (span : Span) (k 
     → joined a (qubit_at chain k) ≡ true → IsLeast (IsFacedAhead joined a chain span) (Some (qubit_at chain k))
 some_faced joined a chain span k rising before below above from end linked = (
   record {
-    ahead = record {
-      inside = is_in_at chain k (qubit_at chain k) below refl;
-      above = above;
-      linked = linked;
-    };
+    ahead = record { inside = is_in_at chain k (qubit_at chain k) below refl; above = above; linked = linked };
     faced = record { from = from; below = end };
   },
   λ b f.
       let i = at_of_in chain b f.ahead.inside in
-      elim (cases_lt i.0 k) [
-        | inl low ↦
-            absurd (not_both _ f.ahead.linked
-            (subst (λ x. joined a x ≡ false) i.2 (before i.0 low (omega (arith, f.ahead.above, i.2)) (omega (arith, f.faced.from, i.2)))))
-        | inr high ↦ omega (arith, rising_weak chain rising k i.0 high i.1, i.2)
-      ],
+      let low = before i.0 in
+      let up = rising_weak chain rising k i.0 in
+      let cases = cases_lt i.0 k in
+      grind (arith, nat_tests),
 )
 
 -- ---- the lesser of two
@@ -59,41 +41,14 @@ pub least_of_two : (S T : ℕ → Type 0) (x y r : Option ℕ) → IsLeast S x �
     → ((m n : ℕ) → x ≡ Some m → y ≡ Some n → ((m ≤ n) × (r ≡ Some m)) ⊎ ((n ≤ m) × (r ≡ Some n)))
     → IsLeast (λ b. S b ⊎ T b) r
 least_of_two S T None None r s t left right both =
-    subst (IsLeast (λ b. S b ⊎ T b)) (sym (left refl)) (λ b. elim [
-      | inl p ↦ s b p
-      | inr p ↦ t b p
-    ])
+    rw (left refl) (λ b p. let one = s b in let two = t b in grind (arith, nat_tests))
 least_of_two S T None (Some n) r s t left right both =
-    subst (IsLeast (λ b. S b ⊎ T b)) (sym (left refl)) (
-      inr t.0,
-      λ b. elim [
-        | inl p ↦ absurd (s b p)
-        | inr p ↦ t.1 b p
-      ],
-    )
+    rw (left refl) (inr t.0, λ b p. let one = s b in let two = t.1 b in grind (arith, nat_tests))
 least_of_two S T (Some m) None r s t left right both =
-    subst (IsLeast (λ b. S b ⊎ T b)) (sym (right refl)) (
-      inl s.0,
-      λ b. elim [
-        | inl p ↦ s.1 b p
-        | inr p ↦ absurd (t b p)
-      ],
-    )
+    rw (right refl) (inl s.0, λ b p. let one = s.1 b in let two = t b in grind (arith, nat_tests))
 least_of_two S T (Some m) (Some n) r s t left right both = elim (both m n refl refl) [
-  | inl h ↦ subst (IsLeast (λ b. S b ⊎ T b)) (sym h.1) (
-    inl s.0,
-    λ b. elim [
-      | inl p ↦ s.1 b p
-      | inr p ↦ omega (arith, h.0, t.1 b p)
-    ],
-  )
-  | inr h ↦ subst (IsLeast (λ b. S b ⊎ T b)) (sym h.1) (
-    inr t.0,
-    λ b. elim [
-      | inl p ↦ omega (arith, h.0, s.1 b p)
-      | inr p ↦ t.1 b p
-    ],
-  )
+  | inl h ↦ rw h.1 (inl s.0, λ b p. let one = s.1 b in let two = t.1 b in grind (arith, nat_tests))
+  | inr h ↦ rw h.1 (inr t.0, λ b p. let one = s.1 b in let two = t.1 b in grind (arith, nat_tests))
 ]
 
 pub least_same : (S T : ℕ → Type 0) (r : Option ℕ) → ((b : ℕ) → S b → T b) → ((b : ℕ) → T b → S b)
@@ -112,20 +67,8 @@ ahead_ways joined a chain span before after x y z w r findable faced line left r
     least_same
     (λ b. IsFacedAhead joined a chain span b ⊎ (IsNumberedAhead joined a chain before b ⊎ IsNumberedAhead joined a chain after b))
     (IsAhead joined a chain) r
-    (λ b. elim [
-      | inl f ↦ f.ahead
-      | inr l ↦ elim l [
-        | inl n ↦ n.ahead
-        | inr n ↦ n.ahead
-      ]
-    ])
-    (λ b h. elim (findable b h) [
-      | inl f ↦ inl (record { ahead = h; faced = f })
-      | inr l ↦ elim l [
-        | inl e ↦ inr (inl (record { ahead = h; is = e }))
-        | inr e ↦ inr (inr (record { ahead = h; is = e }))
-      ]
-    ])
+    (λ b p. grind (arith, nat_tests))
+    (λ b h. let ways = findable b h in grind (arith, nat_tests))
     (least_of_two (IsFacedAhead joined a chain span)
     (λ b. IsNumberedAhead joined a chain before b ⊎ IsNumberedAhead joined a chain after b) x w r faced line left right both)
 
@@ -148,88 +91,44 @@ arrow_some joined c d k b rising below none least = (
   λ q f.
       let i = at_of_in c q.0 f.from in
       let ahead = subst (λ x. IsAhead joined x d q.1) (sym i.2) f.ahead in
-      elim (cases_lt i.0 k) [
-        | inl low ↦ absurd (none i.0 low q.1 ahead)
-        | inr high ↦ elim (cases_eq i.0 k) [
-          | inl e ↦ inr (ap (λ j. qubit_at c j) (sym e) ∙ i.2, least.1 q.1 (subst (λ j. IsAhead joined (qubit_at c j) d q.1) e ahead))
-          | inr e ↦ inl (omega (arith, rising k i.0 (omega (arith, high, e)) i.1, i.2))
-        ]
-      ],
+      let low = none i.0 in
+      let up = rising k i.0 in
+      let this = least.1 q.1 in
+      grind (arith, nat_tests, cases_eq i.0 k),
 )
 
 pub before_trans : (p q r : ℕ × ℕ) → IsBefore p q → IsBefore q r → IsBefore p r
-before_trans p q r (inl a) (inl b) = inl (omega (arith, a, b))
-before_trans p q r (inl a) (inr b) = inl (omega (arith, a, b.0))
-before_trans p q r (inr a) (inl b) = inl (omega (arith, a.0, b))
-before_trans p q r (inr a) (inr b) = inr (a.0 ∙ b.0, omega (arith, a.1, b.1))
+before_trans p q r a b = grind (arith, nat_tests)
 
 pub least_pair_of_two : (S T : ℕ × ℕ → Type 0) (x y r : Option (ℕ × ℕ)) → IsLeastPair S x → IsLeastPair T y
     → (x ≡ None → r ≡ y) → (y ≡ None → r ≡ x)
     → ((m n : ℕ × ℕ) → x ≡ Some m → y ≡ Some n → (IsBefore m n × (r ≡ Some m)) ⊎ (IsBefore n m × (r ≡ Some n)))
     → IsLeastPair (λ p. S p ⊎ T p) r
 least_pair_of_two S T None None r s t left right both =
-    subst (IsLeastPair (λ p. S p ⊎ T p)) (sym (left refl)) (λ b. elim [
-      | inl p ↦ s b p
-      | inr p ↦ t b p
-    ])
+    rw (left refl) (λ b p. let one = s b in let two = t b in grind (arith, nat_tests))
 least_pair_of_two S T None (Some n) r s t left right both =
-    subst (IsLeastPair (λ p. S p ⊎ T p)) (sym (left refl)) (
-      inr t.0,
-      λ b. elim [
-        | inl p ↦ absurd (s b p)
-        | inr p ↦ t.1 b p
-      ],
-    )
+    rw (left refl) (inr t.0, λ b p. let one = s b in let two = t.1 b in grind (arith, nat_tests))
 least_pair_of_two S T (Some m) None r s t left right both =
-    subst (IsLeastPair (λ p. S p ⊎ T p)) (sym (right refl)) (
-      inl s.0,
-      λ b. elim [
-        | inl p ↦ s.1 b p
-        | inr p ↦ absurd (t b p)
-      ],
-    )
+    rw (right refl) (inl s.0, λ b p. let one = s.1 b in let two = t b in grind (arith, nat_tests))
 least_pair_of_two S T (Some m) (Some n) r s t left right both = elim (both m n refl refl) [
-  | inl h ↦ subst (IsLeastPair (λ p. S p ⊎ T p)) (sym h.1) (
-    inl s.0,
-    λ b. elim [
-      | inl p ↦ s.1 b p
-      | inr p ↦ before_trans m n b h.0 (t.1 b p)
-    ],
-  )
-  | inr h ↦ subst (IsLeastPair (λ p. S p ⊎ T p)) (sym h.1) (
-    inr t.0,
-    λ b. elim [
-      | inl p ↦ before_trans n m b h.0 (s.1 b p)
-      | inr p ↦ t.1 b p
-    ],
-  )
+  | inl h ↦ rw h.1 (inl s.0, λ b p. let one = s.1 b in let two = t.1 b in grind (arith, nat_tests, before_trans m n b h.0))
+  | inr h ↦ rw h.1 (inr t.0, λ b p. let one = s.1 b in let two = t.1 b in grind (arith, nat_tests, before_trans n m b h.0))
 ]
 
 pub place_of_arrows : (joined : Joins) (c d : List ℕ) (r : Option (ℕ × ℕ))
     → IsLeastPair (λ p. IsArrow joined c d p ⊎ IsArrow joined d c p) r → IsPlaceIn joined c d r
-place_of_arrows joined c d None least = λ p x. least p (way p x)
+place_of_arrows joined c d r least = go r least
   where
     way : (p : ℕ × ℕ) → IsCrossing joined c d p → IsArrow joined c d p ⊎ IsArrow joined d c p
     way p x = elim (or_cases (is_in c p.0 && is_in d p.1) (is_in d p.0 && is_in c p.1) x.between.ends) [
       | inl h ↦ let e = and_parts _ _ h in inl (record { from = e.0; ahead = record { inside = e.1; above = x.between.upward; linked = x.linked } })
       | inr h ↦ let e = and_parts _ _ h in inr (record { from = e.0; ahead = record { inside = e.1; above = x.between.upward; linked = x.linked } })
     ]
-place_of_arrows joined c d (Some r) least = (
-  elim least.0 [
-    | inl f ↦ record {
-      between = record { upward = f.ahead.above; ends = or_left _ _ (and_from _ _ f.from f.ahead.inside) };
-      linked = f.ahead.linked;
-    }
-    | inr f ↦ record {
-      between = record { upward = f.ahead.above; ends = or_right _ _ (and_from _ _ f.from f.ahead.inside) };
-      linked = f.ahead.linked;
-    }
-  ],
-  λ q x. least.1 q (way q x),
-)
-  where
-    way : (p : ℕ × ℕ) → IsCrossing joined c d p → IsArrow joined c d p ⊎ IsArrow joined d c p
-    way p x = elim (or_cases (is_in c p.0 && is_in d p.1) (is_in d p.0 && is_in c p.1) x.between.ends) [
-      | inl h ↦ let e = and_parts _ _ h in inl (record { from = e.0; ahead = record { inside = e.1; above = x.between.upward; linked = x.linked } })
-      | inr h ↦ let e = and_parts _ _ h in inr (record { from = e.0; ahead = record { inside = e.1; above = x.between.upward; linked = x.linked } })
-    ]
+
+    back : (p : ℕ × ℕ) → IsArrow joined c d p ⊎ IsArrow joined d c p → IsCrossing joined c d p
+    back p (inl f) = record { between = record { upward = f.ahead.above; ends = or_left _ _ (and_from _ _ f.from f.ahead.inside) }; linked = f.ahead.linked }
+    back p (inr f) = record { between = record { upward = f.ahead.above; ends = or_right _ _ (and_from _ _ f.from f.ahead.inside) }; linked = f.ahead.linked }
+
+    go : (r : Option (ℕ × ℕ)) → IsLeastPair (λ p. IsArrow joined c d p ⊎ IsArrow joined d c p) r → IsPlaceIn joined c d r
+    go None least = λ p x. least p (way p x)
+    go (Some r) least = (back r least.0, λ q x. least.1 q (way q x))

@@ -1,16 +1,6 @@
 -- Levels against walks: the distance of a qubit is its level, and the first of the level before that is
 -- joined to it is its parent.
-use Rattle.std.proofs.Common.{◌≡◌, ℕ, zero, suc, ◌<◌, ◌≤◌, inl, inr, true, false, List, [], ◌∷◌, ◌++◌, length, refl, sym, ap, subst, ◌∙◌, arith}
-use Rattle.std.specs.List.{Contains}
-use Rattle.std.proofs.lemmas.Bool.{cases_eq, cases_lt}
-use Rattle.std.proofs.lemmas.List.{length-append}
-use Rattle.std.proofs.lemmas.Grind.{get_or_default_zero}
-use Rattle.std.proofs.lemmas.List.Elements.{Contains-get_or}
-use Rattle.chain_map.specs.Chains.{Joins}
-use Rattle.bits_model.specs.Walks.{is_in, first_of, IsWalk, end_of, WalksTo}
-use Rattle.embedding_check.specs.Distances.{HasDistance}
-use Rattle.embedding_check.specs.Distances.{IsParent}
-use Rattle.embedding_check.specs.Search.{Found, waits_at, parent_at, qubit_at, NoneJoined, IsFirst, LevelTakes, IsSortedChain, IsSearched, IsWithin, AtLevel, emptied}
+use Rattle.embedding_check.proofs.Common.{nat_tests, ◌≡◌, ℕ, zero, suc, ◌<◌, ◌≤◌, inl, inr, true, false, List, [], ◌∷◌, ◌++◌, length, refl, sym, ap, subst, ◌∙◌, arith, Contains, cases_eq, cases_lt, length-append, get_or_default_zero, Contains-get_or, Joins, is_in, first_of, IsWalk, end_of, WalksTo, HasDistance, IsParent, Found, waits_at, parent_at, qubit_at, NoneJoined, IsFirst, LevelTakes, IsSortedChain, IsSearched, IsWithin, AtLevel, emptied}
 use Rattle.embedding_check.proofs.Taking.{true_or_false, not_both, rising_once, rising_weak}
 use Rattle.embedding_check.proofs.Checked.{one_distance, nearest}
 
@@ -48,15 +38,10 @@ record LastJoin (joined : Joins) (chain : List ℕ) (from q n : ℕ) : Type 0 wh
 last_join : (joined : Joins) (chain : List ℕ) (from q n : ℕ) (steps : List ℕ) → IsWalk joined chain from steps
     → end_of from steps ≡ q → length steps ≡ suc n → LastJoin joined chain from q n
 last_join joined chain from q n [] walk ends long = absurd (omega (arith, long))
-last_join joined chain from q n (p ∷ []) walk ends long = record {
-  before = from;
-  steps = [];
-  walk = tt;
-  ends = refl;
-  short = omega (arith, long);
-  linked = rw (← ends) walk.1;
-  inside = rw (← ends) walk.0;
-}
+last_join joined chain from q n (p ∷ []) walk ends long =
+    let linked : joined from q ≡ true = rw (← ends) walk.1 in
+    let inside : is_in chain q ≡ true = rw (← ends) walk.0 in
+    record { before = from; steps = []; walk = tt; ends = refl; short = omega (arith, long); linked = linked; inside = inside }
 last_join joined chain from q zero (p ∷ r ∷ rs) walk ends long = absurd (omega (arith, long))
 last_join joined chain from q (suc n) (p ∷ r ∷ rs) walk ends long =
     let last = last_join joined chain p q n (r ∷ rs) walk.2 ends (omega (arith, long)) in
@@ -130,10 +115,9 @@ far_more joined chain qs level d s t first sorted at i below waits alone steps w
       | inl e ↦
           let p = passes joined chain (qubit_at qs i) d steps first w e in
           let here = before_in_level joined chain qs level d s sorted at i below waits p in
-          let m = here.1.0 in
-          let same : qubit_at qs (qubit_at level m) ≡ p.before =
-          ap (λ k. qubit_at qs k) (sym (get_or_default_zero level m here.0 here.1.1) ∙ here.1.2) ∙ here.3 in
-          not_both _ p.linked (subst (λ q. joined q (qubit_at qs i) ≡ false) same (alone m here.1.1))
+          let none = alone here.1.0 here.1.1 in
+          let at_m = get_or_default_zero level here.1.0 here.0 here.1.1 in
+          not_both _ p.linked (cc (at_m, here.1.2, here.3, none))
     ]
 
 -- the first of a level that reaches q is at the distance d, and q within d + 1
@@ -153,9 +137,7 @@ near_more : (joined : Joins) (chain qs level : List ℕ) (d : ℕ) (s t : Found)
     → LevelTakes joined qs level (length level) s t
     → (i : ℕ) → i < length qs → waits_at t i ≡ false → IsWithin joined chain (suc d) (qubit_at qs i)
 near_more joined chain qs level d s t sorted at takes i below not = elim (takes.each i below) [
-  | inl rests ↦
-      let w = at.near i below (sym rests.stays.waits ∙ not) in
-      (w.0, w.1, omega (arith, w.2))
+  | inl rests ↦ let w = at.near i below (sym rests.stays.waits ∙ not) in (w.0, w.1, omega (arith, w.2))
   | inr reached ↦ reached_within joined chain qs level d s t i reached.from.0 sorted at below reached.from.1
 ]
 
@@ -192,7 +174,7 @@ first_is_parent joined chain qs level d s t i m sorted at rising below distance 
     let q = qubit_at qs i in
     let p = qubit_at qs (qubit_at level m) in
     let there = at.here (qubit_at level m) (Contains-get_or level m 0 f.below) in
-    let is : IsParent joined chain q p = record {
+    rw f.parent (record {
       nearer = record {
         inside = sorted.inside (qubit_at level m) there.0;
         linked = f.linked;
@@ -201,23 +183,17 @@ first_is_parent joined chain qs level d s t i m sorted at rising below distance 
       least = λ r n.
           let e : n.nearer.0 ≡ d = omega (arith, one_distance joined chain q _ _ n.nearer.2 distance) in
           let j = sorted.found r n.inside in
-          let distance' : HasDistance joined chain (qubit_at qs j.0) d =
-          subst (λ x. HasDistance joined chain x d) (sym j.2) (subst (λ x. HasDistance joined chain r x) e n.nearer.1) in
-          let k = at.all j.0 j.1 distance' in
+          let k = at.all j.0 j.1 (rw j.2 (rw e at n.nearer.1)) in
           let same : qubit_at level k.0 ≡ j.0 = sym (get_or_default_zero level k.0 j.0 k.1) ∙ k.2 in
           let same_qubit : qubit_at qs (qubit_at level k.0) ≡ r = ap (λ x. qubit_at qs x) same ∙ j.2 in
+          let weak = rising_weak qs sorted.rising (qubit_at level m) (qubit_at level k.0) in
+          let up = rising m k.0 in
+          let low = f.before k.0 in
           elim (cases_lt k.0 m) [
-            | inl less ↦ absurd (not_both _ n.linked (subst (λ x. joined x q ≡ false) same_qubit (f.before k.0 less)))
-            | inr more ↦
-                omega (
-                  arith,
-                  same_qubit,
-                  rising_weak qs sorted.rising (qubit_at level m) (qubit_at level k.0) (rising m k.0 more k.1)
-                      (omega (arith, same, j.1)),
-                )
+            | inl less ↦ absurd (not_both _ n.linked (rw same_qubit at (low less)))
+            | inr more ↦ omega (arith, same_qubit, weak (up more k.1) (omega (arith, same, j.1)))
           ];
-    } in
-    subst (λ x. IsParent joined chain q x) (sym f.parent) is
+    })
 
 pub level_next : (joined : Joins) (chain qs level next : List ℕ) (d : ℕ) (s t : Found)
     → is_in chain (first_of chain) ≡ true
@@ -238,20 +214,18 @@ level_next joined chain qs level next d s t first sorted at empty rising takes f
         | inl old ↦ absurd (omega (arith, old.1, ap (λ (xs : List ℕ). length xs) empty))
         | inr moved ↦ (moved.0, new i moved.0 moved.1 moved.2)
       ];
-      all = λ i below distance. elim (true_or_false (waits_at s i)) [
-        | inr gone ↦
-            let w = at.near i below gone in
-            absurd (omega (arith, w.2, distance.least w.0 w.1))
-        | inl is ↦ elim (true_or_false (waits_at t i)) [
-          | inl still ↦
-              absurd (omega (arith, distance.reached.2, far i below still distance.reached.0 distance.reached.1))
-          | inr not ↦ to i (takes.moves.lists i below is not)
-        ]
-      ];
+      all = λ i below distance.
+          let w = at.near i below in
+          let reached = distance.reached in
+          elim (true_or_false (waits_at s i)) [
+            | inr gone ↦ absurd (omega (arith, (w gone).2, distance.least (w gone).0 (w gone).1))
+            | inl is ↦ elim (true_or_false (waits_at t i)) [
+              | inl still ↦ absurd (omega (arith, reached.2, far i below still reached.0 reached.1))
+              | inr gone ↦ to i (takes.moves.lists i below is gone)
+            ]
+          ];
       parent = λ i below not later. elim (takes.each i below) [
-        | inl rests ↦
-            subst (λ x. IsParent joined chain (qubit_at qs i) x) (sym rests.stays.parent)
-            (at.parent i below (sym rests.stays.waits ∙ not) later)
+        | inl rests ↦ rw rests.stays.parent (at.parent i below (sym rests.stays.waits ∙ not) later)
         | inr reached ↦
             first_is_parent joined chain qs level d s t i reached.from.0 sorted at rising below
             (new i below reached.waited reached.reached) reached.from.1
@@ -261,8 +235,7 @@ level_next joined chain qs level next d s t first sorted at empty rising takes f
 -- ---- the first level
 
 one_in : (x i : ℕ) → Contains (x ∷ []) i → i ≡ x
-one_in x i (zero, below, is) = sym is
-one_in x i (suc k, below, is) = absurd (omega (arith, below))
+one_in x i in' = grind (arith, nat_tests)
 
 pub level_first : (joined : Joins) (chain qs : List ℕ) (s : Found) (at : ℕ)
     → IsSortedChain chain qs → length s.waits ≡ length qs → at < length qs
@@ -270,39 +243,28 @@ pub level_first : (joined : Joins) (chain qs : List ℕ) (s : Found) (at : ℕ)
     → ((i : ℕ) → i < length qs → (i ≡ at → ⊥) → waits_at s i ≡ true)
     → AtLevel joined chain qs (at ∷ []) 0 s
 level_first joined chain qs s at sorted len below is gone others =
-    let here : (i : ℕ) → i < length qs → waits_at s i ≡ false → i ≡ at = λ i low not. elim (cases_eq i at) [
-      | inl e ↦ e
-      | inr e ↦ absurd (not_both _ (others i low e) not)
-    ] in
+    let here : (i : ℕ) → i < length qs → waits_at s i ≡ false → i ≡ at =
+    λ i low not. let other = others i low in grind (arith, nat_tests, cases_eq i at) in
     record {
       waits = len;
-      near = λ i low not. ([], record { walk = tt; ends = sym (ap (λ k. qubit_at qs k) (here i low not) ∙ is) }, omega arith);
+      near = λ i low not. ([], record { walk = tt; ends = sym (rw (here i low not) is) }, omega arith);
       far = λ i low waits steps w. elim (cases_eq (length steps) 0) [
         | inr e ↦ omega (arith, e)
         | inl e ↦
-            let same = nearest joined chain (qubit_at qs i) steps w e in
-            let e' = rising_once qs sorted.rising i at low below (same ∙ sym is) in
+            let e' = rising_once qs sorted.rising i at low below (nearest joined chain (qubit_at qs i) steps w e ∙ sym is) in
             absurd (not_both _ waits (rw e' gone))
       ];
       here = λ i in'.
-          let e = one_in at i in' in (
-            rw e below,
-            record {
-              reached = ([], record { walk = tt; ends = sym (ap (λ k. qubit_at qs k) e ∙ is) }, refl);
-              least = λ steps w. omega arith;
-            },
-          );
+          let e = one_in at i in' in
+          (rw e below, record { reached = ([], record { walk = tt; ends = sym (rw e is) }, refl); least = λ steps w. omega arith });
       all = λ i low distance.
           let same = nearest joined chain (qubit_at qs i) distance.reached.0 distance.reached.1 distance.reached.2 in
           (0, omega arith, sym (rising_once qs sorted.rising i at low below (same ∙ sym is)));
-      parent = λ i low not later. absurd (later (ap (λ k. qubit_at qs k) (here i low not) ∙ is));
+      parent = λ i low not later. absurd (later (rw (here i low not) is));
     }
 
 pub one_rising : (x i j : ℕ) → i ≤ j → j < length (x ∷ []) → qubit_at (x ∷ []) i ≤ qubit_at (x ∷ []) j
-one_rising x i j le below =
-    let zero_i : i ≡ 0 = omega (arith, le, below) in
-    let zero_j : j ≡ 0 = omega (arith, below) in
-    omega (arith, ap (λ k. qubit_at (x ∷ []) k) zero_i, ap (λ k. qubit_at (x ∷ []) k) zero_j)
+one_rising x i j le below = grind (arith, nat_tests)
 
 pub nothing_in : (xs : List ℕ) → length xs ≡ 0 → xs ≡ []
 nothing_in [] none = refl
@@ -322,21 +284,18 @@ stuck joined chain qs d s first sorted at (suc n) i below steps w long waits =
     let j = sorted.found p.before p.inside in
     elim (true_or_false (waits_at s j.0)) [
       | inl is ↦
-          stuck joined chain qs d s first sorted at n j.0 j.1 p.steps
-          (subst (λ x. WalksTo joined chain x p.steps) (sym j.2) p.walks) p.short is
+          stuck joined chain qs d s first sorted at n j.0 j.1 p.steps (rw j.2 p.walks) p.short is
       | inr gone ↦
           let near = at.near j.0 j.1 gone in
-          let walks = subst (λ x. WalksTo joined chain x near.0) j.2 near.1 in
+          let walks = rw j.2 at near.1 in
           let inside = sorted.inside i below in
-          let longer : (more : List ℕ) → WalksTo joined chain p.before more → d ≤ length more = λ more walk.
-          let all = at.far i below waits (more ++ (qubit_at qs i ∷ [])) (further joined chain p.before (qubit_at qs i) more walk inside p.linked) in
-          omega (arith, all, length-append more (qubit_at qs i ∷ [])) in
-          let at_least = longer near.0 walks in
+          let more = near.0 ++ (qubit_at qs i ∷ []) in
+          let all = at.far i below waits more (further joined chain p.before (qubit_at qs i) near.0 walks inside p.linked) in
           let here = before_in_level joined chain qs [] d s sorted at i below waits (record {
             before = p.before;
             steps = near.0;
             walks = walks;
-            short = omega (arith, near.2, at_least);
+            short = omega (arith, near.2, all, length-append near.0 (qubit_at qs i ∷ []));
             linked = p.linked;
             inside = p.inside;
           }) in

@@ -1,3 +1,4 @@
+pub mod Common
 pub mod Checked
 pub mod Taking
 pub mod Levels

@@ -1,21 +1,6 @@
 -- Noted pairs: each is the least of what was noted before and of what is new.
-use Rattle.std.proofs.Common.{◌≡◌, ℕ, ◌<◌, ◌≤◌, ◌==◌, ◌⊎◌, ◌&&◌, inl, inr, true, false, List, length, map, get_or, set, refl, sym, ap, subst, ◌∙◌, arith}
-use Rattle.std.specs.Prelude.{Option, Some, None, nat_lt}
-use Rattle.std.proofs.lemmas.Bool.{cases_eq, cases_lt, or_cases, and_parts, and_from, or_left, or_right}
-use Rattle.std.proofs.lemmas.Bool.Decides.{nat_tests}
-use Rattle.std.proofs.lemmas.Option.{same_Some}
-use Rattle.std.proofs.lemmas.List.{get_or-map, get_or-set_same, get_or-set_other, length-map, length-set}
-use Rattle.bits_model.specs.Walks.{is_in}
-use Rattle.chain_map.specs.Chains.{Joins, chain_of}
-use Rattle.chain_map.specs.Valid.{IsCrossing}
-use Rattle.embedding_check.specs.declared.noted.Mark.{Mark}
-use Rattle.embedding_check.specs.Checked.{IsBefore}
-use Rattle.embedding_check.specs.Search.{qubit_at}
-use Rattle.embedding_check.specs.Least.{IsLeastPair, IsPlaceIn}
-use Rattle.embedding_check.specs.Owners.{AreOwners}
-use Rattle.embedding_check.specs.Noted.{marked_pair, noted_at, Notes, ordered, IsChainJoin}
+use Rattle.embedding_check.proofs.Common.{◌≡◌, ℕ, ◌<◌, ◌⊎◌, ◌&&◌, inl, inr, true, false, List, length, map, get_or, set, refl, sym, subst, ◌∙◌, arith, Option, Some, None, cases_eq, cases_lt, or_cases, and_parts, and_from, or_left, or_right, nat_tests, same_Some, get_or-map, get_or-set_same, get_or-set_other, length-map, length-set, is_in, Joins, chain_of, IsCrossing, Mark, IsBefore, qubit_at, IsLeastPair, IsPlaceIn, AreOwners, marked_pair, noted_at, Notes, ordered, IsChainJoin}
 use Rattle.embedding_check.proofs.LeastPairs.{before_trans}
-use Rattle.embedding_check.proofs.Taking.{not_both}
 use Rattle.embedding_check.proofs.Sorting.{is_in_at, at_of_in}
 
 none_some : (p : ℕ × ℕ) → None ≡ Some p → ⊥
@@ -43,26 +28,11 @@ least_pair_more S U None None s n = λ p. elim [
   | inr b ↦ n p (inr b)
 ]
 least_pair_more S U (Some x) None s n = absurd (n x (inl refl))
-least_pair_more S U None (Some r) s n = (
-  elim n.0 [
-    | inl e ↦ absurd (none_some r e)
-    | inr u ↦ inr u
-  ],
-  λ q. elim [
-    | inl a ↦ absurd (s q a)
-    | inr b ↦ n.1 q (inr b)
-  ],
-)
-least_pair_more S U (Some x) (Some r) s n = (
-  elim n.0 [
-    | inl e ↦ inl (subst S (same_Some x r e) s.0)
-    | inr u ↦ inr u
-  ],
-  λ q. elim [
-    | inl a ↦ before_trans r x q (n.1 x (inl refl)) (s.1 q a)
-    | inr b ↦ n.1 q (inr b)
-  ],
-)
+least_pair_more S U None (Some r) s n =
+    (grind (arith, nat_tests), λ q w. let low = n.1 q in let none = s q in grind (arith, nat_tests))
+least_pair_more S U (Some x) (Some r) s n =
+    let first = before_trans r x in
+    (grind (arith, nat_tests), λ q w. let low = n.1 q in let this = s.1 q in let that = n.1 x in grind (arith, nat_tests))
 
 -- ---- notes
 
@@ -73,14 +43,8 @@ notes_same T U xs ys to from notes = record {
   same = notes.same;
   each = λ v low. least_pair_same (λ p. (noted_at xs v ≡ Some p) ⊎ T v p)
       (λ p. (noted_at xs v ≡ Some p) ⊎ U v p) (noted_at ys v)
-      (λ p. elim [
-        | inl e ↦ inl e
-        | inr t ↦ inr (to v p low t)
-      ])
-      (λ p. elim [
-        | inl e ↦ inl e
-        | inr u ↦ inr (from v p low u)
-      ])
+      (λ p w. let t = to v p low in grind (arith, nat_tests))
+      (λ p w. let u = from v p low in grind (arith, nat_tests))
       (notes.each v low);
 }
 
@@ -91,11 +55,7 @@ notes_none T xs none = record {
   same = refl;
   each = λ v low. least_pair_same (λ p. noted_at xs v ≡ Some p)
       (λ p. (noted_at xs v ≡ Some p) ⊎ T v p) (noted_at xs v) (λ p e. inl e)
-      (λ p. elim [
-        | inl e ↦ e
-        | inr t ↦ absurd (none v p low t)
-      ])
-      (least_self (noted_at xs v));
+      (λ p w. let t = none v p low in grind (arith, nat_tests)) (least_self (noted_at xs v));
 }
 
 -- one after the other
@@ -105,20 +65,7 @@ notes_both T U xs ys zs one two = record {
   same = two.same ∙ one.same;
   each = λ v low. least_pair_same (λ p. ((noted_at xs v ≡ Some p) ⊎ T v p) ⊎ U v p)
       (λ p. (noted_at xs v ≡ Some p) ⊎ (T v p ⊎ U v p)) (noted_at zs v)
-      (λ p. elim [
-        | inl a ↦ elim a [
-          | inl e ↦ inl e
-          | inr t ↦ inr (inl t)
-        ]
-        | inr u ↦ inr (inr u)
-      ])
-      (λ p. elim [
-        | inl e ↦ inl (inl e)
-        | inr a ↦ elim a [
-          | inl t ↦ inl (inr t)
-          | inr u ↦ inr u
-        ]
-      ])
+      (λ p w. grind (arith, nat_tests)) (λ p w. grind (arith, nat_tests))
       (least_pair_more (λ p. (noted_at xs v ≡ Some p) ⊎ T v p) (U v) (noted_at ys v)
       (noted_at zs v) (one.each v low) (two.each v (omega (arith, low, one.same))));
 }
@@ -128,25 +75,15 @@ pub least_of_notes : (T : ℕ → ℕ × ℕ → Type 0) (xs ys : List (Option (
     → (v : ℕ) → v < length xs → noted_at xs v ≡ None → IsLeastPair (T v) (noted_at ys v)
 least_of_notes T xs ys notes v low none =
     least_pair_same (λ p. (noted_at xs v ≡ Some p) ⊎ T v p) (T v) (noted_at ys v)
-    (λ p. elim [
-      | inl e ↦ absurd (none_some p (sym none ∙ e))
-      | inr t ↦ t
-    ])
-    (λ p t. inr t) (notes.each v low)
+    (λ p w. grind (arith, nat_tests)) (λ p t. inr t) (notes.each v low)
 
 -- ---- the two qubits of a join
 
 pub ordered_up : (a b : ℕ) → a < b → ordered a b ≡ (a, b)
-ordered_up a b less = rw (test a b less) refl
-  where
-    test : (a b : ℕ) → a < b → nat_lt a b ≡ true
-    test a b less = grind (arith, nat_tests)
+ordered_up a b less = grind (arith, nat_tests)
 
 pub ordered_down : (a b : ℕ) → b < a → ordered a b ≡ (b, a)
-ordered_down a b less = rw (test a b less) refl
-  where
-    test : (a b : ℕ) → b < a → nat_lt a b ≡ false
-    test a b less = grind (arith, nat_tests)
+ordered_down a b less = grind (arith, nat_tests)
 
 -- the joins of a chain to a later node are what crosses between their two chains
 pub noted_place : (joined : Joins) (chains : List (List ℕ)) (owners : List ℕ) (node v : ℕ)
@@ -164,46 +101,40 @@ noted_place joined chains owners node v r symmetric irreflexive own later below 
     d : List ℕ
     d = chain_of chains v
 
-    crossing : (a b : ℕ) (p : ℕ × ℕ) → is_in c a ≡ true → is_in d b ≡ true → joined a b ≡ true
-        → p ≡ ordered a b → (a < b) ⊎ (b ≤ a) → IsCrossing joined c d p
-    crossing a b p in_c in_d linked pair (inl up) =
-        subst (IsCrossing joined c d) (sym (pair ∙ ordered_up a b up)) (record {
-          between = record { upward = up; ends = or_left _ _ (and_from _ _ in_c in_d) };
-          linked = linked;
-        })
-    crossing a b p in_c in_d linked pair (inr down) = elim (cases_eq a b) [
-      | inl same ↦ absurd (not_both _ linked (subst (λ x. joined a x ≡ false) same (irreflexive a)))
-      | inr other ↦
-          let less : b < a = omega (arith, down, other) in
-          subst (IsCrossing joined c d) (sym (pair ∙ ordered_down a b less)) (record {
-            between = record { upward = less; ends = or_right _ _ (and_from _ _ in_d in_c) };
-            linked = symmetric b a ∙ linked;
-          })
-    ]
-
     to : (p : ℕ × ℕ) → IsChainJoin joined owners node c (length c) v p → IsCrossing joined c d p
     to p x =
         let a = qubit_at c x.0 in
         let b = x.2.0 in
         let join = x.2.1 in
-        crossing a b p (is_in_at c x.0 a x.1 refl) (own.owned v b below join.below join.owner)
-        join.linked join.pair (cases_lt a b)
+        let in_c = is_in_at c x.0 a x.1 refl in
+        let in_d = own.owned v b below join.below join.owner in
+        let flipped = symmetric b a in
+        let apart = irreflexive a in
+        elim (cases_lt a b) [
+          | inl up ↦ rw (join.pair, ordered_up a b up)
+              (record { between = record { upward = up; ends = or_left _ _ (and_from _ _ in_c in_d) }; linked = join.linked })
+          | inr le ↦
+              let less : b < a = grind (arith, nat_tests, cases_eq a b) in
+              rw (join.pair, ordered_down a b less)
+              (record { between = record { upward = less; ends = or_right _ _ (and_from _ _ in_d in_c) }; linked = flipped ∙ join.linked })
+        ]
 
     join : (a b : ℕ) (p : ℕ × ℕ) → is_in c a ≡ true → is_in d b ≡ true → joined a b ≡ true
         → p ≡ ordered a b → IsChainJoin joined owners node c (length c) v p
     join a b p in_c in_d linked pair =
         let i = at_of_in c a in_c in
-        let k = at_of_in d b in_d in (
+        let k = at_of_in d b in_d in
+        let small = within k.0 k.1 in (
           i.0,
           i.1,
           (
             b,
             record {
-              below = omega (arith, within k.0 k.1, k.2);
+              below = omega (arith, small, k.2);
               owner = own.inside v b below in_d;
               later = later;
-              linked = subst (λ x. joined x b ≡ true) (sym i.2) linked;
-              pair = subst (λ x. p ≡ ordered x b) (sym i.2) pair;
+              linked = rw i.2 linked;
+              pair = rw i.2 pair;
             },
           ),
         )
@@ -229,11 +160,9 @@ pub cleared : (turn : ℕ) (marks : List Mark) (v : ℕ) → v < length marks
     → ((i : ℕ) (d : Mark) → i < length marks → (get_or marks i d).turn < turn)
     → noted_at (map (marked_pair turn) marks) v ≡ None
 cleared turn marks v below earlier =
-    get_or-map (marked_pair turn) marks v no_mark None below
-    ∙ (rw (other (get_or marks v no_mark).turn (earlier v no_mark below)) refl)
-  where
-    other : (n : ℕ) → n < turn → (n == turn) ≡ false
-    other n less = grind (arith, nat_tests)
+    let before = earlier v no_mark below in
+    let is = get_or-map (marked_pair turn) marks v no_mark None below in
+    grind (arith, nat_tests)
 
 -- a pair that is not above what was noted takes its place
 pub put_new : (turn : ℕ) (marks : List Mark) (node : ℕ) (m : Mark) → node < length marks
@@ -247,42 +176,22 @@ put_new turn marks node m below now before = record {
   each = λ v low.
       let less : v < length marks = omega (arith, low, length-map marks (marked_pair turn)) in
       let less' : v < length (set marks node m) = omega (arith, less, length-set marks node m) in
-      let was : noted_at (map (marked_pair turn) marks) v ≡ marked_pair turn (get_or marks v no_mark) =
-      get_or-map (marked_pair turn) marks v no_mark None less in
-      let is : noted_at (map (marked_pair turn) (set marks node m)) v ≡ marked_pair turn (get_or (set marks node m) v no_mark) =
-      get_or-map (marked_pair turn) (set marks node m) v no_mark None less' in
+      let was = get_or-map (marked_pair turn) marks v no_mark None less in
+      let is = get_or-map (marked_pair turn) (set marks node m) v no_mark None less' in
+      let here = get_or-set_same marks node m no_mark below in
+      let there = get_or-set_other marks node v m no_mark in
+      let self = before_self (m.from, m.to) in
       elim (cases_eq v node) [
         | inl e ↦
-            let here : get_or (set marks node m) v no_mark ≡ m =
-            ap (λ k. get_or (set marks node m) k no_mark) e ∙ get_or-set_same marks node m no_mark below in
-            let noted : noted_at (map (marked_pair turn) (set marks node m)) v ≡ Some (m.from, m.to) =
-            is ∙ ap (marked_pair turn) here ∙ (rw (same_turn m.turn now) refl) in
-            subst (IsLeastPair (λ p. (noted_at (map (marked_pair turn) marks) v ≡ Some p)
-            ⊎ ((v ≡ node) × (p ≡ (m.from, m.to))))) (sym noted) (
-              inr (e, refl),
-              λ q. elim [
-                | inl s ↦ before q (sym (was ∙ ap (λ k. marked_pair turn (get_or marks k no_mark)) e) ∙ s)
-                | inr s ↦ subst (IsBefore (m.from, m.to)) (sym s.1) (before_self (m.from, m.to))
-              ],
-            )
+            let noted : noted_at (map (marked_pair turn) (set marks node m)) v ≡ Some (m.from, m.to) = grind (arith, nat_tests) in
+            rw noted (inr (e, refl), λ q w. let low = before q in grind (arith, nat_tests))
         | inr e ↦
-            let there : noted_at (map (marked_pair turn) (set marks node m)) v ≡ noted_at (map (marked_pair turn) marks) v =
-            is ∙ ap (marked_pair turn) (get_or-set_other marks node v m no_mark e) ∙ sym was in
-            subst (IsLeastPair (λ p. (noted_at (map (marked_pair turn) marks) v ≡ Some p)
-            ⊎ ((v ≡ node) × (p ≡ (m.from, m.to))))) (sym there)
+            rw (is, there e, ← was)
             (least_pair_same (λ p. noted_at (map (marked_pair turn) marks) v ≡ Some p)
-            (λ p. (noted_at (map (marked_pair turn) marks) v ≡ Some p)
-            ⊎ ((v ≡ node) × (p ≡ (m.from, m.to)))) _ (λ p s. inl s)
-            (λ p. elim [
-              | inl s ↦ s
-              | inr s ↦ absurd (e s.0)
-            ])
-            (least_self _))
+            (λ p. (noted_at (map (marked_pair turn) marks) v ≡ Some p) ⊎ ((v ≡ node) × (p ≡ (m.from, m.to)))) _ (λ p s. inl s)
+            (λ p w. grind (arith, nat_tests)) (least_self _))
       ];
 }
-  where
-    same_turn : (n : ℕ) → n ≡ turn → (n == turn) ≡ true
-    same_turn n e = grind (arith, nat_tests)
 
 -- a pair that is not below what was noted changes nothing
 pub put_old : (turn : ℕ) (marks : List Mark) (node : ℕ) (p m : ℕ × ℕ) → node < length marks
@@ -293,21 +202,11 @@ put_old turn marks node p m below noted before = record {
   each = λ v low. elim (cases_eq v node) [
     | inl e ↦
         let was : noted_at (map (marked_pair turn) marks) v ≡ Some m =
-        ap (noted_at (map (marked_pair turn) marks)) e ∙ get_or-map (marked_pair turn) marks node no_mark None below ∙ noted in
-        subst (λ r. IsLeastPair (λ q. (r ≡ Some q) ⊎ ((v ≡ node) × (q ≡ p))) r) (sym was) (
-          inl refl,
-          λ q. elim [
-            | inl s ↦ subst (IsBefore m) (same_Some m q s) (before_self m)
-            | inr s ↦ subst (IsBefore m) (sym s.1) before
-          ],
-        )
+        rw e (get_or-map (marked_pair turn) marks node no_mark None below ∙ noted) in
+        let self = before_self m in
+        rw was (inl refl, λ q w. grind (arith, nat_tests))
     | inr e ↦ least_pair_same (λ q. noted_at (map (marked_pair turn) marks) v ≡ Some q)
         (λ q. (noted_at (map (marked_pair turn) marks) v ≡ Some q) ⊎ ((v ≡ node) × (q ≡ p))) _
-        (λ q s. inl s)
-        (λ q. elim [
-          | inl s ↦ s
-          | inr s ↦ absurd (e s.0)
-        ])
-        (least_self _)
+        (λ q s. inl s) (λ q w. grind (arith, nat_tests)) (least_self _)
   ];
 }

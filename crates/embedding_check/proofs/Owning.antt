@@ -1,11 +1,6 @@
 -- Whose chain each qubit is in, chain after chain.
-use Rattle.std.proofs.Common.{◌≡◌, ℕ, zero, suc, ◌+◌, ◌<◌, ◌≤◌, ◌⊎◌, inl, inr, true, List, length, take, sym, subst, ◌∙◌, arith}
-use Rattle.std.proofs.lemmas.Bool.{cases_eq}
-use Rattle.bits_model.specs.Walks.{is_in}
-use Rattle.chain_map.specs.Chains.{chain_of, occurrences}
-use Rattle.embedding_check.specs.Owners.{owner_of, nobody, AreOwners}
+use Rattle.embedding_check.proofs.Common.{nat_tests, ◌≡◌, ℕ, zero, suc, ◌+◌, ◌<◌, ◌≤◌, ◌⊎◌, inl, inr, true, List, length, take, subst, arith, cases_eq, is_in, chain_of, occurrences, owner_of, nobody, AreOwners, occurrences_more, occurrences-take-le}
 use Rattle.embedding_check.proofs.Sorting.{at_of_in, one_of}
-use Rattle.chain_map.proofs.Occurrences.{occurrences_more, occurrences-take-le}
 
 -- the owners of the first v chains
 pub record OwnedBelow (chains : List (List ℕ)) (owners : List ℕ) (v : ℕ) : Type 0 where
@@ -32,14 +27,10 @@ one_owner : (chains : List (List ℕ)) → ((q : ℕ) → occurrences q chains �
     → w < v → is_in (chain_of chains w) b ≡ true → is_in (chain_of chains v) b ≡ true → ⊥
 one_owner chains once v w b below less first second =
     let k = at_of_in (chain_of chains v) b second in
-    omega (
-      arith,
-      once b,
-      occurrences-take-le b chains (v + 1),
-      occurrences_more b chains v below,
-      listed_first chains b v w (omega (arith, below)) less first,
-      one_of (chain_of chains v) b k.0 k.1 k.2,
-    )
+    let one = one_of (chain_of chains v) b k.0 k.1 k.2 in
+    let two = listed_first chains b v w (omega (arith, below)) less first in
+    let three = occurrences_more b chains v below in
+    omega (arith, once b, occurrences-take-le b chains (v + 1), one, two, three)
 
 pub own_more : (chains : List (List ℕ)) (old new : List ℕ) (v : ℕ) → ((q : ℕ) → occurrences q chains ≤ 1)
     → v < length chains → length chains ≤ nobody → OwnedBelow chains old v → length new ≡ length old
@@ -47,30 +38,23 @@ pub own_more : (chains : List (List ℕ)) (old new : List ℕ) (v : ℕ) → ((q
     → ((b : ℕ) → (is_in (chain_of chains v) b ≡ true) ⊎ (owner_of new b ≡ owner_of old b))
     → OwnedBelow chains new (v + 1)
 own_more chains old new v once below few owned len inside outside = record {
-  inside = λ w b low in'. elim (cases_eq w v) [
-    | inl e ↦ inside b (subst (λ x. is_in (chain_of chains x) b ≡ true) e in') ∙ sym e
-    | inr e ↦ elim (outside b) [
-      | inl also ↦ absurd (one_owner chains once v w b below (omega (arith, low, e)) in' also)
-      | inr same ↦ same ∙ owned.inside w b (omega (arith, low, e)) in'
-    ]
-  ];
-  owned = λ w b low end is. elim (outside b) [
-    | inl here ↦ subst (λ x. is_in (chain_of chains x) b ≡ true) (sym (inside b here) ∙ is) here
-    | inr same ↦ elim (cases_eq w v) [
-      | inr e ↦ owned.owned w b (omega (arith, low, e)) (omega (arith, end, len)) (sym same ∙ is)
-      | inl e ↦ elim (owned.free b (omega (arith, end, len))) [
-        | inl less ↦ absurd (omega (arith, less, same, is, e))
-        | inr none ↦ absurd (omega (arith, none, same, is, e, below, few))
-      ]
-    ]
-  ];
-  free = λ b end. elim (outside b) [
-    | inl here ↦ inl (omega (arith, inside b here))
-    | inr same ↦ elim (owned.free b (omega (arith, end, len))) [
-      | inl less ↦ inl (omega (arith, less, same))
-      | inr none ↦ inr (same ∙ none)
-    ]
-  ];
+  inside = λ w b low in'.
+      let here = inside b in
+      let cases = outside b in
+      let before = owned.inside w b in
+      let one = one_owner chains once v w b below in
+      grind (arith, nat_tests, cases_eq w v);
+  owned = λ w b low end is.
+      let here = inside b in
+      let cases = outside b in
+      let before = owned.owned w b in
+      let free = owned.free b in
+      grind (arith, nat_tests, cases_eq w v);
+  free = λ b end.
+      let here = inside b in
+      let cases = outside b in
+      let free = owned.free b in
+      grind (arith, nat_tests);
 }
 
 pub owned_all : (chains : List (List ℕ)) (owners : List ℕ) (v : ℕ) → length chains ≤ v → OwnedBelow chains owners v

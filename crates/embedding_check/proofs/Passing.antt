@@ -1,18 +1,9 @@
 -- One chain more in the passes over a map.
-use Rattle.std.proofs.Common.{◌≡◌, ℕ, zero, suc, ◌∷◌, ◌+◌, ◌<◌, ◌≤◌, ◌==◌, inl, inr, List, [], All, length, get_or, refl, sym, subst, arith}
-use Rattle.std.specs.List.{count_by}
-use Rattle.std.proofs.lemmas.Bool.{cases_eq}
-use Rattle.chain_map.proofs.Occurrences.{occurrences-chain-le}
-use Rattle.chain_map.specs.Chains.{chain_of, occurrences}
-use Rattle.std.specs.Prelude.{Bool, true, false, if◌then◌else◌}
-use Rattle.embedding_check.specs.Marks.{marked}
-use Rattle.embedding_check.specs.Reached.{IsFirstBad}
-use Rattle.embedding_check.specs.Faults.{IsFirstAt}
+use Rattle.embedding_check.proofs.Common.{elements, nat_tests, ◌≡◌, ℕ, ◌+◌, ◌<◌, ◌≤◌, ◌==◌, inl, inr, List, All, length, get_or, sym, subst, arith, count_by, cases_eq, occurrences-chain-le, chain_of, occurrences, Bool, marked, IsFirstBad, IsFirstAt}
 
 pub once_each : (map : List (List ℕ)) → ((q : ℕ) → occurrences q map ≤ 1) → (v : ℕ) → v < length map → (q : ℕ)
     → count_by (λ p. p == q) (chain_of map v) ≤ 1
-once_each map once v below q =
-    omega (arith, once q, occurrences-chain-le q map v below)
+once_each map once v below q = omega (arith, once q, occurrences-chain-le q map v below)
 
 -- what holds of all places before a chain and in it
 pub places_more : (map : List (List ℕ)) (Good : ℕ → ℕ → Type 0) (v : ℕ)
@@ -28,32 +19,21 @@ pub first_at : (map : List (List ℕ)) (Good : ℕ → ℕ → Type 0) (v k : �
     → ((u : ℕ) → u < v → (j : ℕ) → j < length (chain_of map u) → Good u j)
     → IsFirstBad (length (chain_of map v)) (Good v) k → IsFirstAt map Good v k
 first_at map Good v k below before bad = record {
-  chain = record {
-    below = below;
-    bad = λ all. bad.bad (all k bad.below);
-    before = before;
-  };
+  chain = record { below = below; bad = λ all. bad.bad (all k bad.below); before = before };
   place = bad;
 }
 
 -- a place inside a list has no default
 pub default_free : {X : Type 0} (xs : List X) (i : ℕ) (d e : X) → i < length xs → get_or xs i d ≡ get_or xs i e
-default_free [] i d e below = absurd (omega (arith, below))
-default_free (x ∷ xs) zero d e below = refl
-default_free (x ∷ xs) (suc i) d e below = default_free xs i d e (omega (arith, below))
+default_free xs i d e below = grind (arith, nat_tests, elements)
 
 -- the qubits of a chain of the map
 pub chain_within : (n : ℕ) (map : List (List ℕ)) (v : ℕ) (xs : List ℕ) → xs ≡ chain_of map v → v < length map
     → ((u : ℕ) → u < length map → (j : ℕ) → j < length (chain_of map u) → get_or (chain_of map u) j 0 < n)
     → All (λ q. q < n) xs
 chain_within n map v xs same below within =
-    subst (λ (ys : List ℕ). All (λ q. q < n) ys) (sym same)
-    (λ j d low. subst (λ q. q < n) (default_free (chain_of map v) j 0 d low) (within v below j low))
+    rw same (λ j d low. rw (← default_free (chain_of map v) j 0 d low) (within v below j low))
 
 -- a mark counts once
 pub marked-le : (seen : List Bool) (q : ℕ) → marked seen q ≤ 1
-marked-le seen q = go (get_or seen q false)
-  where
-    go : (b : Bool) → (if b then 1 else 0) ≤ 1
-    go true = omega arith
-    go false = omega arith
+marked-le seen q = grind (arith, nat_tests)

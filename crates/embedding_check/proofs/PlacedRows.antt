@@ -1,34 +1,16 @@
 -- Rows of couplings, one after another: their places, and the first coupling without joined qubits.
-use Rattle.std.proofs.Common.{◌≡◌, ℕ, zero, suc, ◌+◌, ◌-◌, ◌<◌, Bool, true, false, cond, eqb, inl, inr, List, [], ◌∷◌, ◌++◌, length, get_or, take, drop, All, sym, ap, subst, append_assoc, ◌∙◌, arith}
-use Rattle.std.specs.List.{AllZip, flat_map}
-use Rattle.std.proofs.lemmas.Bool.{cases_lt}
-use Rattle.std.proofs.lemmas.List.{length-append, get_or_append_left, get_or-append-add, take-append-drop, take_more, drop_more}
-use Rattle.std.proofs.lemmas.Grind.{flat_map-append}
-use Rattle.bits_model.specs.declared.output.Entry.{Entry}
-use Rattle.bits_model.specs.Entries.{in_rows, rows_of}
-use Rattle.bits_model.proofs.EntryRows.{joined_rows, rows_before}
-use Rattle.chain_map.specs.Chains.{Joins}
-use Rattle.chain_map.specs.Valid.{IsCoupled}
-use Rattle.embedding_check.specs.Faults.{IsUncoupled}
+use Rattle.embedding_check.proofs.Common.{nat_tests, ◌≡◌, ℕ, zero, suc, ◌+◌, ◌-◌, ◌<◌, inl, inr, List, [], ◌∷◌, ◌++◌, length, get_or, take, drop, All, sym, ap, subst, append_assoc, ◌∙◌, arith, AllZip, flat_map, cases_lt, length-append, get_or_append_left, get_or-append-add, take-append-drop, take_more, drop_more, flat_map-append, Entry, in_rows, rows_of, joined_rows, rows_before, Joins, IsCoupled, IsUncoupled}
 
 -- ---- no row is empty
 
 some_in_rows : (e : Entry) (rows : List (List Entry))
     → ((i : ℕ) → i < length rows → 0 < length (get_or rows i []))
     → (i : ℕ) → i < length (in_rows e rows) → 0 < length (get_or (in_rows e rows) i [])
-some_in_rows e [] all zero h = omega arith
-some_in_rows e [] all (suc i) h = absurd (omega (arith, h))
+some_in_rows e [] all i h = grind (arith, nat_tests)
 some_in_rows e ([] ∷ rows) all zero h = omega arith
 some_in_rows e ([] ∷ rows) all (suc i) h = all (suc i) h
-some_in_rows e ((f ∷ row) ∷ rows) all i h = go (eqb e.first f.first) i h
-  where
-    go : (same : Bool) (i : ℕ)
-        → i < length (cond same ((e ∷ f ∷ row) ∷ rows) ((e ∷ []) ∷ (f ∷ row) ∷ rows))
-        → 0 < length (get_or (cond same ((e ∷ f ∷ row) ∷ rows) ((e ∷ []) ∷ (f ∷ row) ∷ rows)) i [])
-    go true zero h = omega arith
-    go true (suc i) h = all (suc i) h
-    go false zero h = omega arith
-    go false (suc i) h = all i (omega (arith, h))
+some_in_rows e ((f ∷ row) ∷ rows) all zero h = grind (arith, nat_tests)
+some_in_rows e ((f ∷ row) ∷ rows) all (suc i) h = let here = all i in let there = all (suc i) in grind (arith, nat_tests)
 
 pub some_in_row : (es : List Entry) (i : ℕ) → i < length (rows_of es)
     → 0 < length (get_or (rows_of es) i [])
@@ -79,34 +61,30 @@ pub placed_next : {A B : Type 0} (R : A → B → Type 0) (before row : List A) 
     → k < length row → new ≡ old ++ y ∷ [] → R (get_or row k d) y → AllZip R (before ++ take k row) old
     → AllZip R (before ++ take (k + 1) row) new
 placed_next {A = A} R before row k d old new y below is here all =
-    let more : before ++ take (k + 1) row ≡ (before ++ take k row) ++ get_or row k d ∷ [] =
-    ap (λ xs. before ++ xs) (take_more row k d below) ∙ sym (append_assoc before (take k row) (get_or row k d ∷ [])) in
-    subst (λ ys. AllZip R (before ++ take (k + 1) row) ys) (sym is)
-    (subst (λ (xs : List A). AllZip R xs (old ++ y ∷ [])) (sym more)
-    (zip_push R (before ++ take k row) old (get_or row k d) y all here))
+    rw (is, take_more row k d below, ← append_assoc before (take k row) (get_or row k d ∷ []))
+    (zip_push R (before ++ take k row) old (get_or row k d) y all here)
 
 -- ---- faults
 
 uncoupled_between : (joined : Joins) (map : List (List ℕ)) (xs ys zs : List Entry) (u v k : ℕ)
     → All (IsCoupled joined map) xs → IsUncoupled joined ys map u v k
     → IsUncoupled joined (xs ++ (ys ++ zs)) map u v (length xs + k)
-uncoupled_between joined map xs ys zs u v k all first = record {
-  below = omega (arith, first.below, length-append xs (ys ++ zs), length-append ys zs);
-  bad = λ d coupled. first.bad d (subst (IsCoupled joined map) (at_between xs ys zs k d first.below) coupled);
-  before = λ i d low. elim (cases_lt i (length xs)) [
-    | inl inside ↦
-        subst (IsCoupled joined map) (sym (get_or_append_left xs (ys ++ zs) d i inside)) (all i d inside)
-    | inr past ↦
-        let j = i - length xs in
-        let is : length xs + j ≡ i = omega (arith, past) in
-        let less : j < k = omega (arith, past, low) in
-        subst (λ n. IsCoupled joined map (get_or (xs ++ (ys ++ zs)) n d)) is
-        (subst (IsCoupled joined map) (sym (at_between xs ys zs j d (omega (arith, less, first.below))))
-        (first.before j d less))
-  ];
-  first = λ d. ap (λ (e : Entry). e.first) (at_between xs ys zs k d first.below) ∙ first.first d;
-  second = λ d. ap (λ (e : Entry). e.second) (at_between xs ys zs k d first.below) ∙ first.second d;
-}
+uncoupled_between joined map xs ys zs u v k all first =
+    let at = λ (j : ℕ) (d : Entry). at_between xs ys zs j d in
+    record {
+      below = omega (arith, first.below, length-append xs (ys ++ zs), length-append ys zs);
+      bad = λ d coupled. first.bad d (rw (at k d first.below) at coupled);
+      before = λ i d low. elim (cases_lt i (length xs)) [
+        | inl inside ↦ rw (get_or_append_left xs (ys ++ zs) d i inside) (all i d inside)
+        | inr past ↦
+            let j = i - length xs in
+            let is : i ≡ length xs + j = omega (arith, past) in
+            let less : j < k = omega (arith, past, low) in
+            rw is (rw (at j d (omega (arith, less, first.below))) (first.before j d less))
+      ];
+      first = λ d. rw (at k d first.below) (first.first d);
+      second = λ d. rw (at k d first.below) (first.second d);
+    }
 
 -- the first coupling of a row without joined qubits is that of all, where those before have some
 pub uncoupled_in_row : (joined : Joins) (map : List (List ℕ)) (es : List Entry) (r u v k : ℕ)

@@ -1,31 +1,16 @@
 -- Runs of qubits with one owner, and pairs that are not less than what is noted.
-use Rattle.std.proofs.Common.{◌≡◌, ℕ, ◌<◌, ◌≤◌, ◌⊎◌, inl, inr, List, length, refl, sym, subst, ◌∙◌, arith}
-use Rattle.std.specs.Prelude.{Option, Some, None, IfSome, nat_lt, false}
-use Rattle.std.proofs.lemmas.Bool.{cases_lt}
-use Rattle.std.proofs.lemmas.Bool.Decides.{nat_tests}
-use Rattle.embedding_check.specs.Checked.{IsBefore}
-use Rattle.embedding_check.specs.Least.{IsLeastPair}
-use Rattle.chain_map.specs.Chains.{Joins}
-use Rattle.embedding_check.specs.Noted.{noted_at, Notes, ordered, IsJoin, IsRunJoin, IsSpanJoin, AreNotedTo, AreNotedFrom}
-use Rattle.chimera_graph.specs.declared.span.Span.{Span}
-use Rattle.chimera_graph.specs.Spans.{IsFaced}
+use Rattle.embedding_check.proofs.Common.{◌≡◌, ℕ, ◌<◌, ◌≤◌, ◌⊎◌, inl, inr, List, length, refl, subst, arith, Option, Some, None, IfSome, cases_lt, nat_tests, IsBefore, IsLeastPair, Joins, noted_at, Notes, ordered, IsJoin, IsRunJoin, IsSpanJoin, AreNotedTo, AreNotedFrom, Span, IsFaced}
 use Rattle.embedding_check.proofs.LeastPairs.{before_trans}
-use Rattle.embedding_check.proofs.Noting.{before_self, ordered_up, notes_none, notes_same, notes_both}
+use Rattle.embedding_check.proofs.Noting.{before_self, notes_none, notes_same, notes_both}
 
 -- ---- pairs that are not less
 
 -- for each of the pairs there is one of the others that is not greater
 least_pair_lesser : (S T : ℕ × ℕ → Type 0) (r : Option (ℕ × ℕ)) → ((p : ℕ × ℕ) → S p → T p)
     → ((p : ℕ × ℕ) → T p → (q : ℕ × ℕ) × S q × IsBefore q p) → IsLeastPair S r → IsLeastPair T r
-least_pair_lesser S T None to from least = λ p t.
-    let x = from p t in
-    least x.0 x.1
-least_pair_lesser S T (Some r) to from least = (
-  to r least.0,
-  λ p t.
-      let x = from p t in
-      before_trans r x.0 p (least.1 x.0 x.1) x.2,
-)
+least_pair_lesser S T None to from least = λ p t. let x = from p t in least x.0 x.1
+least_pair_lesser S T (Some r) to from least =
+    (to r least.0, λ p t. let x = from p t in before_trans r x.0 p (least.1 x.0 x.1) x.2)
 
 pub notes_lesser : (T U : ℕ → ℕ × ℕ → Type 0) (xs ys : List (Option (ℕ × ℕ)))
     → ((v : ℕ) (p : ℕ × ℕ) → v < length xs → T v p → U v p)
@@ -36,10 +21,7 @@ notes_lesser T U xs ys to from notes = record {
   same = notes.same;
   each = λ v low. least_pair_lesser (λ p. (noted_at xs v ≡ Some p) ⊎ T v p)
       (λ p. (noted_at xs v ≡ Some p) ⊎ U v p) (noted_at ys v)
-      (λ p. elim [
-        | inl e ↦ inl e
-        | inr t ↦ inr (to v p low t)
-      ])
+      (λ p w. let more = to v p low in grind (arith, nat_tests))
       (λ p. elim [
         | inl e ↦ (p, inl e, before_self p)
         | inr u ↦ from v p low u
@@ -84,46 +66,16 @@ done_later T owners node xs ys notes (Some p) noted =
 
 -- ---- the pair of two qubits
 
-ordered_back : (a b : ℕ) → b ≤ a → ordered a b ≡ (b, a)
-ordered_back a b less = rw (test a b less) refl
-  where
-    test : (a b : ℕ) → b ≤ a → nat_lt a b ≡ false
-    test a b less = grind (arith, nat_tests)
-
 -- with a greater second qubit, and with a greater first one, it is not less
 after_up : (a b c : ℕ) → b ≤ c → (a < b) ⊎ (b ≤ a) → (a < c) ⊎ (c ≤ a)
     → IsBefore (ordered a b) (ordered a c)
-after_up a b c more (inl x) (inl y) =
-    rw (ordered_up a b x) (rw (ordered_up a c y) (inr (refl, more)))
-after_up a b c more (inl x) (inr y) = absurd (omega (arith, more, x, y))
-after_up a b c more (inr x) (inl y) = rw (ordered_back a b x) (rw (ordered_up a c y) (low (cases_lt b a)))
-  where
-    low : (b < a) ⊎ (a ≤ b) → IsBefore (b, a) (a, c)
-    low (inl less) = inl less
-    low (inr same) = inr (omega (arith, same, x), omega (arith, y))
-after_up a b c more (inr x) (inr y) =
-    rw (ordered_back a b x) (rw (ordered_back a c y) (low (cases_lt b c)))
-  where
-    low : (b < c) ⊎ (c ≤ b) → IsBefore (b, a) (c, a)
-    low (inl less) = inl less
-    low (inr same) = inr (omega (arith, same, more), omega arith)
+after_up a b c more first second = grind (arith, nat_tests)
 
 pub ordered_after : (a b c : ℕ) → b ≤ c → IsBefore (ordered a b) (ordered a c)
 ordered_after a b c more = after_up a b c more (cases_lt a b) (cases_lt a c)
 
-turned : (a b : ℕ) → ordered a b ≡ ordered b a
-turned a b = by_order (cases_lt a b) (cases_lt b a)
-  where
-    by_order : (a < b) ⊎ (b ≤ a) → (b < a) ⊎ (a ≤ b) → ordered a b ≡ ordered b a
-    by_order (inl less) _ = ordered_up a b less ∙ sym (ordered_back b a (omega (arith, less)))
-    by_order (inr more) (inl less) = ordered_back a b more ∙ sym (ordered_up b a less)
-    by_order (inr more) (inr back) =
-        subst (λ n. ordered a n ≡ ordered n a) (omega (arith, back, more)) refl
-
 pub ordered_later : (a b c : ℕ) → a ≤ b → IsBefore (ordered a c) (ordered b c)
-ordered_later a b c more =
-    subst (λ p. IsBefore p (ordered b c)) (turned c a)
-    (subst (IsBefore (ordered c a)) (turned c b) (ordered_after c a b more))
+ordered_later a b c more = grind (arith, nat_tests)
 
 -- ---- the joins to a span, run after run
 
@@ -143,12 +95,7 @@ span_more joined owners node a span b end xs ys zs from after within old new =
     (IsJoinBelow joined owners node a span end) xs zs
     (λ v p low. elim [
       | inl x ↦ (x.0, x.1, omega (arith, x.2, after), x.3)
-      | inr x ↦ (
-        x.0,
-        record { from = omega (arith, from, x.1); below = omega (arith, x.2, within) },
-        x.2,
-        x.3,
-      )
+      | inr x ↦ (x.0, record { from = omega (arith, from, x.1); below = omega (arith, x.2, within) }, x.2, x.3)
     ])
     (λ v p low x. elim (cases_lt x.0 b) [
       | inl less ↦ inl (x.0, x.1, less, x.3)
@@ -185,16 +132,8 @@ pub span_done : (joined : Joins) (owners : List ℕ) (node a b : ℕ) (span : Sp
     → Notes (IsSpanJoin joined owners node b span) xs xs
 span_done joined owners node a b span xs after done =
     notes_lesser (λ v p. ⊥) (IsSpanJoin joined owners node b span) xs xs (λ v p low x. absurd x)
-    (λ v p low x. let_by v p low x.0 x.1 x.2)
+    (λ v p low s.
+    let owner = s.2.owner in
+    let x = done b after s.0 s.1 s.2.below (omega (arith, owner, s.2.later)) (omega (arith, owner, low)) in
+    (x.0, inl (subst (λ w. noted_at xs w ≡ Some x.0) owner x.1), rw s.2.pair x.2))
     (notes_none (λ v p. ⊥) xs (λ v p low x. x))
-  where
-    let_by : (v : ℕ) (p : ℕ × ℕ) → v < length xs → (c : ℕ) → IsFaced span c
-        → IsJoin joined owners node b c v p
-        → (q : ℕ × ℕ) × ((noted_at xs v ≡ Some q) ⊎ ⊥) × IsBefore q p
-    let_by v p low c faced join =
-        let x = done b after c faced join.below (omega (arith, join.owner, join.later))
-        (omega (arith, join.owner, low)) in (
-          x.0,
-          inl (subst (λ w. noted_at xs w ≡ Some x.0) join.owner x.1),
-          subst (IsBefore x.0) (sym join.pair) x.2,
-        )

@@ -1,16 +1,5 @@
 -- The qubits of a chain in ascending order.
-use Rattle.std.proofs.Common.{◌≡◌, ℕ, zero, suc, ◌+◌, ◌<◌, ◌≤◌, ◌==◌, ◌⊎◌, inl, inr, Bool, true, false, ◌||◌, List, [], ◌∷◌, length, get_or, take, drop, ◌-◌, if◌then◌else◌, refl, sym, ap, subst, ◌∙◌, arith}
-use Rattle.std.specs.List.{Contains, count_by}
-use Rattle.std.specs.List.Sorted.{IsPermutation, IsNonDecreasing}
-use Rattle.std.proofs.lemmas.Bool.{cases_eq, eqb-true, or_cases}
-use Rattle.std.proofs.lemmas.Bool.Decides.{nat_tests}
-use Rattle.std.proofs.lemmas.List.Sorted.{sum_by-IsPermutation, Contains-permutation, IsPermutation-sym}
-use Rattle.std.proofs.lemmas.List.Elements.{Contains-get_or}
-use Rattle.std.proofs.lemmas.Grind.{get_or_default_zero}
-use Rattle.std.proofs.lemmas.List.{get_or-drop, take_all, length-drop}
-use Rattle.std.proofs.lemmas.List.Sums.{sum_by-cons}
-use Rattle.bits_model.specs.Walks.{is_in}
-use Rattle.embedding_check.specs.Search.{qubit_at, IsSortedChain}
+use Rattle.embedding_check.proofs.Common.{◌≡◌, ℕ, zero, suc, ◌+◌, ◌<◌, ◌≤◌, ◌==◌, inl, inr, Bool, true, List, [], ◌∷◌, length, get_or, take, drop, ◌-◌, if◌then◌else◌, refl, sym, ap, ◌∙◌, arith, count_by, IsPermutation, IsNonDecreasing, cases_eq, eqb-true, or_cases, nat_tests, sum_by-IsPermutation, Contains-permutation, IsPermutation-sym, Contains-get_or, get_or_default_zero, get_or-drop, take_all, length-drop, sum_by-cons, is_in, qubit_at, IsSortedChain}
 
 pub same_test : (a b : ℕ) → a ≡ b → (a == b) ≡ true
 same_test a b e = grind (arith, nat_tests)
@@ -19,21 +8,15 @@ same_test a b e = grind (arith, nat_tests)
 
 pub is_in_at : (xs : List ℕ) (k q : ℕ) → k < length xs → qubit_at xs k ≡ q → is_in xs q ≡ true
 is_in_at [] k q below is = absurd (omega (arith, below))
-is_in_at (x ∷ xs) zero q below is = rw (same_test x q is) refl
-is_in_at (x ∷ xs) (suc k) q below is = rw (is_in_at xs k q (omega (arith, below)) is) (or_true (x == q))
-  where
-    or_true : (b : Bool) → (b || true) ≡ true
-    or_true true = refl
-    or_true false = refl
+is_in_at (x ∷ xs) zero q below is = grind (arith, nat_tests)
+is_in_at (x ∷ xs) (suc k) q below is = grind (arith, nat_tests, is_in_at xs k q (omega (arith, below)) is)
 
 pub at_of_in : (xs : List ℕ) (q : ℕ) → is_in xs q ≡ true → (k : ℕ) × (k < length xs) × (qubit_at xs k ≡ q)
 at_of_in [] q in' = absurd cc
-at_of_in (x ∷ xs) q in' = go (or_cases (x == q) (is_in xs q) in') (at_of_in xs q)
-  where
-    go : ((x == q) ≡ true) ⊎ (is_in xs q ≡ true) → (is_in xs q ≡ true → (k : ℕ) × (k < length xs) × (qubit_at xs k ≡ q))
-        → (k : ℕ) × (k < length (x ∷ xs)) × (qubit_at (x ∷ xs) k ≡ q)
-    go (inl here) later = (0, omega arith, eqb-true x q here)
-    go (inr there) later = let k = later there in (suc k.0, omega (arith, k.1), k.2)
+at_of_in (x ∷ xs) q in' = elim (or_cases (x == q) (is_in xs q) in') [
+  | inl here ↦ (0, omega arith, eqb-true x q here)
+  | inr there ↦ let k = at_of_in xs q there in (suc k.0, omega (arith, k.1), k.2)
+]
 
 -- ---- once
 
@@ -51,12 +34,9 @@ two_of : (xs : List ℕ) (q i j : ℕ) → i < j → j < length xs → qubit_at 
 two_of [] q i j less below first second = absurd (omega (arith, below))
 two_of (x ∷ xs) q i zero less below first second = absurd (omega (arith, less))
 two_of (x ∷ xs) q zero (suc j) less below first second =
-    omega (
-      arith,
-      count_cons q x xs,
-      ap {B = ℕ} (λ (b : Bool). if b then 1 else 0) (same_test x q first),
-      one_of xs q j (omega (arith, below)) second,
-    )
+    let one = one_of xs q j (omega (arith, below)) second in
+    let more = count_cons q x xs in
+    grind (arith, nat_tests)
 two_of (x ∷ xs) q (suc i) (suc j) less below first second =
     omega (arith, count_cons q x xs, two_of xs q i j (omega (arith, less)) (omega (arith, below)) first second)
 
@@ -78,14 +58,12 @@ sorted_is chain qs once moved sorted = record {
       is_in_at chain k.0 (qubit_at qs i) k.1 (sym (get_or_default_zero chain k.0 (qubit_at qs i) k.1) ∙ k.2);
   found = λ q in'.
       let k = at_of_in chain q in' in
-      let there = Contains-permutation chain qs q moved (subst (λ x. Contains chain x) k.2 (Contains-get_or chain k.0 0 k.1)) in
+      let there = Contains-permutation chain qs q moved (rw k.2 at (Contains-get_or chain k.0 0 k.1)) in
       (there.0, there.1, sym (get_or_default_zero qs there.0 q there.1) ∙ there.2);
   rising = λ i j less below.
       let le = sorted i j 0 (omega (arith, less)) below in
-      elim (cases_eq (qubit_at qs i) (qubit_at qs j)) [
-        | inr e ↦ omega (arith, le, e)
-        | inl e ↦ absurd (one_place qs (λ q. omega (arith, once q, count_permutation q chain qs moved)) i j less below e)
-      ];
+      let one = one_place qs (λ q. omega (arith, once q, count_permutation q chain qs moved)) i j less below in
+      grind (arith, nat_tests, cases_eq (qubit_at qs i) (qubit_at qs j));
 }
 
 -- the place of a listed qubit
@@ -100,8 +78,7 @@ place_in chain qs k at sorted below exact =
 -- ---- the rest of a list
 
 pub rest_at : (xs : List ℕ) (i d : ℕ) → 1 ≤ i → get_or (drop 1 xs) (i - 1) d ≡ get_or xs i d
-rest_at xs i d some =
-    get_or-drop 1 xs (i - 1) d ∙ ap {B = ℕ} (λ k. get_or xs k d) (let e : 1 + (i - 1) ≡ i = omega (arith, some) in e)
+rest_at xs i d some = grind (arith, nat_tests, get_or-drop)
 
 pub rest_all : (xs : List ℕ) (n : ℕ) → length xs ≤ n → take (n - 1) (drop 1 xs) ≡ drop 1 xs
 rest_all xs n all = take_all (n - 1) (drop 1 xs) (omega (arith, all, length-drop 1 xs))

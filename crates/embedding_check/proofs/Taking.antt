@@ -1,14 +1,5 @@
 -- What one qubit and what a level takes: nothing at first, one position more, one qubit more.
-use Rattle.std.proofs.Common.{◌≡◌, ℕ, ◌+◌, ◌<◌, ◌≤◌, ◌⊎◌, inl, inr, Bool, true, false, List, [], ◌∷◌, length, if◌then◌else◌, refl, sym, ap, ◌∙◌, arith}
-use Rattle.std.proofs.lemmas.Bool.{cases_eq, cases_lt}
-use Rattle.std.proofs.lemmas.List.{get_or-set_same, get_or-set_other, length-set, length-append}
-use Rattle.std.proofs.lemmas.List.Elements.{Contains-append_left, Contains-push, Contains-push_cases}
-use Rattle.std.proofs.lemmas.List.Sums.{sum_by-set}
-use Rattle.std.specs.Prelude.{Option, Some}
-use Rattle.chimera_graph.specs.declared.span.Span.{Span}
-use Rattle.chimera_graph.specs.Spans.{CanBeJoined}
-use Rattle.chain_map.specs.Chains.{Joins}
-use Rattle.embedding_check.specs.Search.{Found, waits_at, parent_at, qubit_at, taken, Moves, Takes, Spreads, NoneJoined, IsFirst, LevelTakes}
+use Rattle.embedding_check.proofs.Common.{nat_tests, ◌≡◌, ℕ, ◌+◌, ◌<◌, ◌≤◌, ◌⊎◌, inl, inr, Bool, true, false, List, [], ◌∷◌, length, if◌then◌else◌, refl, sym, ap, ◌∙◌, arith, cases_eq, get_or-set_same, get_or-set_other, length-set, length-append, Contains-append_left, Contains-push, Contains-push_cases, sum_by-set, Option, Some, Span, CanBeJoined, Joins, Found, waits_at, parent_at, qubit_at, taken, Moves, Takes, Spreads, NoneJoined, IsFirst, LevelTakes}
 
 pub true_or_false : (b : Bool) → (b ≡ true) ⊎ (b ≡ false)
 true_or_false true = inl refl
@@ -49,67 +40,40 @@ moves_more : (count : ℕ) (s t : Found) (i q : ℕ) → Moves count s t → i <
 moves_more count s t i q m h below first waits = record {
   waits = length-set t.waits i false ∙ m.waits;
   parents = length-set t.parents i q ∙ m.parents;
-  listed = λ j in'. elim (Contains-push_cases t.next i j in') [
-    | inl before ↦ elim (m.listed j before) [
-      | inl old ↦ inl old
-      | inr new ↦ inr (
-        new.0,
-        new.1,
-        elim (cases_eq j i) [
-          | inl e ↦ waits_taken t i j q h e
-          | inr e ↦ waits_other t i j q e ∙ new.2
-        ],
-      )
-    ]
-    | inr e ↦ inr (rw (← e) below, rw (← e) first, waits_taken t i j q h (sym e))
-  ];
+  listed = λ j in'.
+      let old = m.listed j in
+      let place = Contains-push_cases t.next i j in' in
+      let here = waits_taken t i j q h in
+      let there = waits_other t i j q in
+      grind (arith, nat_tests);
   keeps = λ j in'. Contains-append_left t.next (i ∷ []) j (m.keeps j in');
-  lists = λ j low is not. elim (cases_eq j i) [
-    | inl e ↦ rw e (Contains-push t.next i)
-    | inr e ↦ Contains-append_left t.next (i ∷ []) j (m.lists j low is (sym (waits_other t i j q e) ∙ not))
-  ];
+  lists = λ j low is not.
+      let old = m.lists j low is in
+      let there = waits_other t i j q in
+      let last = Contains-push t.next i in
+      let more = Contains-append_left t.next (i ∷ []) j in
+      grind (arith, nat_tests);
   counted =
-      omega (
-        arith,
-        m.counted,
-        sum_by-set (λ (b : Bool). if b then 1 else 0) t.waits i false false h,
-        ap {B = ℕ} (λ (b : Bool). if b then 1 else 0) waits,
-        length-append t.next (i ∷ []),
-      );
+      let sum = sum_by-set (λ (b : Bool). if b then 1 else 0) t.waits i false false h in
+      omega (arith, m.counted, sum, ap {B = ℕ} (λ (b : Bool). if b then 1 else 0) waits, length-append t.next (i ∷ []));
 }
 
 pub takes_more : (joined : Joins) (qs : List ℕ) (q : ℕ) (s t : Found) (i : ℕ) → Takes joined qs q s t
     → i < length qs → length t.waits ≡ length qs → length t.parents ≡ length qs
     → waits_at t i ≡ true → joined q (qubit_at qs i) ≡ true → Takes joined qs q s (taken t i q)
 takes_more joined qs q s t i so_far below waits_len parents_len waits linked =
-    let first : waits_at s i ≡ true = elim (so_far.each i below) [
-      | inl stays ↦ sym stays.waits ∙ waits
-      | inr took ↦ took.waited
-    ] in
+    let old = so_far.each i below in
+    let first : waits_at s i ≡ true = grind (arith, nat_tests) in
     let inside : i < length t.waits = omega (arith, below, waits_len) in
-    let inside' : i < length t.parents = omega (arith, below, parents_len) in
     record {
       moves = moves_more (length qs) s t i q so_far.moves inside below first waits;
-      each = λ j low. elim (cases_eq j i) [
-        | inl e ↦ inr (record {
-          waited = rw e first;
-          reached = waits_taken t i j q inside e;
-          parent = rw e (get_or-set_same t.parents i q 0 inside');
-          linked = rw e linked;
-        })
-        | inr e ↦ elim (so_far.each j low) [
-          | inl stays ↦ inl (record {
-            waits = waits_other t i j q e ∙ stays.waits;
-            parent = get_or-set_other t.parents i j q 0 e ∙ stays.parent;
-          })
-          | inr took ↦ inr (record {
-            waited = took.waited;
-            reached = waits_other t i j q e ∙ took.reached;
-            parent = get_or-set_other t.parents i j q 0 e ∙ took.parent;
-            linked = took.linked;
-          })
-        ]
-      ];
+      each = λ j low.
+          let old = so_far.each j low in
+          let here = waits_taken t i j q inside in
+          let there = waits_other t i j q in
+          let same = get_or-set_same t.parents i q 0 (omega (arith, below, parents_len)) in
+          let other = get_or-set_other t.parents i j q 0 in
+          grind (arith, nat_tests);
     }
 
 -- ---- one qubit of the level more
@@ -121,13 +85,12 @@ moves_both : (count : ℕ) (s t u : Found) → Moves count s t → Moves count t
 moves_both count s t u a b down stay = record {
   waits = b.waits ∙ a.waits;
   parents = b.parents ∙ a.parents;
-  listed = λ i h. elim (b.listed i h) [
-    | inl before ↦ elim (a.listed i before) [
-      | inl old ↦ inl old
-      | inr new ↦ inr (new.0, new.1, stay i new.0 new.2)
-    ]
-    | inr new ↦ inr (new.0, down i new.0 new.1, new.2)
-  ];
+  listed = λ i h.
+      let before = a.listed i in
+      let last = b.listed i h in
+      let up = down i in
+      let stays = stay i in
+      grind (arith, nat_tests);
   keeps = λ i h. b.keeps i (a.keeps i h);
   lists = λ i h is not. elim (true_or_false (waits_at t i)) [
     | inl waits ↦ b.lists i h waits not
@@ -138,10 +101,9 @@ moves_both count s t u a b down stay = record {
 
 none_more : (joined : Joins) (qs level : List ℕ) (n i : ℕ) → NoneJoined joined qs level n i
     → joined (qubit_at qs (qubit_at level n)) (qubit_at qs i) ≡ false → NoneJoined joined qs level (n + 1) i
-none_more joined qs level n i before here m low = elim (cases_lt m n) [
-  | inl less ↦ before m less
-  | inr not_less ↦ let e : m ≡ n = omega (arith, low, not_less) in rw e here
-]
+none_more joined qs level n i before here m low =
+    let old = before m in
+    grind (arith, nat_tests, cases_eq m n)
 
 first_more : (joined : Joins) (qs level : List ℕ) (n : ℕ) (t u : Found) (i m : ℕ)
     → parent_at u i ≡ parent_at t i → IsFirst joined qs level n t i m → IsFirst joined qs level (n + 1) u i m
@@ -157,43 +119,22 @@ pub level_more : (joined : Joins) (qs level : List ℕ) (n : ℕ) (s t u : Found
     → LevelTakes joined qs level (n + 1) s u
 level_more joined qs level n s t u so_far step = record {
   moves = moves_both (length qs) s t u so_far.moves step.takes.moves
-      (λ i h is. elim (so_far.each i h) [
-        | inl rests ↦ sym rests.stays.waits ∙ is
-        | inr reached ↦ reached.waited
-      ])
-      (λ i h not. elim (step.takes.each i h) [
-        | inl stays ↦ stays.waits ∙ not
-        | inr took ↦ took.reached
-      ]);
+      (λ i h is. let old = so_far.each i h in grind (arith, nat_tests))
+      (λ i h not. let new = step.takes.each i h in grind (arith, nat_tests));
   each = λ i h. elim (so_far.each i h) [
     | inl rests ↦ elim (step.takes.each i h) [
       | inl stays ↦ inl (record {
-        stays = record {
-          waits = stays.waits ∙ rests.stays.waits;
-          parent = stays.parent ∙ rests.stays.parent;
-        };
+        stays = record { waits = stays.waits ∙ rests.stays.waits; parent = stays.parent ∙ rests.stays.parent };
         alone = λ w. none_more joined qs level n i (rests.alone (sym stays.waits ∙ w)) (step.all i h w);
       })
-      | inr took ↦ inr (record {
-        waited = sym rests.stays.waits ∙ took.waited;
-        reached = took.reached;
-        from = (
-          n,
-          record {
-            below = omega arith;
-            parent = took.parent;
-            linked = took.linked;
-            before = rests.alone took.waited;
-          },
-        );
-      })
+      | inr took ↦
+          let first : IsFirst joined qs level (n + 1) u i n = record { below = omega arith; parent = took.parent; linked = took.linked; before = rests.alone took.waited } in
+          inr (record { waited = sym rests.stays.waits ∙ took.waited; reached = took.reached; from = (n, first) })
     ]
     | inr reached ↦ elim (step.takes.each i h) [
-      | inl stays ↦ inr (record {
-        waited = reached.waited;
-        reached = stays.waits ∙ reached.reached;
-        from = (reached.from.0, first_more joined qs level n t u i reached.from.0 stays.parent reached.from.1);
-      })
+      | inl stays ↦
+          let first = first_more joined qs level n t u i reached.from.0 stays.parent reached.from.1 in
+          inr (record { waited = reached.waited; reached = stays.waits ∙ reached.reached; from = (reached.from.0, first) })
       | inr took ↦ not_both _ took.waited reached.reached
     ]
   ];
@@ -203,43 +144,18 @@ level_more joined qs level n s t u so_far step = record {
 
 waits_before : (joined : Joins) (qs : List ℕ) (q : ℕ) (s t : Found) (i : ℕ) → Takes joined qs q s t
     → i < length qs → waits_at t i ≡ true → waits_at s i ≡ true
-waits_before joined qs q s t i takes h is = elim (takes.each i h) [
-  | inl stays ↦ sym stays.waits ∙ is
-  | inr took ↦ took.waited
-]
+waits_before joined qs q s t i takes h is = let each = takes.each i h in grind (arith, nat_tests)
 
 pub takes_both : (joined : Joins) (qs : List ℕ) (q : ℕ) (s t u : Found) → Takes joined qs q s t
     → Takes joined qs q t u → Takes joined qs q s u
 takes_both joined qs q s t u a b = record {
   moves = moves_both (length qs) s t u a.moves b.moves
       (λ i h is. waits_before joined qs q s t i a h is)
-      (λ i h not. elim (b.each i h) [
-        | inl stays ↦ stays.waits ∙ not
-        | inr took ↦ took.reached
-      ]);
-  each = λ i h. elim (a.each i h) [
-    | inl stays ↦ elim (b.each i h) [
-      | inl stays' ↦ inl (record {
-        waits = stays'.waits ∙ stays.waits;
-        parent = stays'.parent ∙ stays.parent;
-      })
-      | inr took ↦ inr (record {
-        waited = sym stays.waits ∙ took.waited;
-        reached = took.reached;
-        parent = took.parent;
-        linked = took.linked;
-      })
-    ]
-    | inr took ↦ elim (b.each i h) [
-      | inl stays ↦ inr (record {
-        waited = took.waited;
-        reached = stays.waits ∙ took.reached;
-        parent = stays.parent ∙ took.parent;
-        linked = took.linked;
-      })
-      | inr again ↦ not_both _ again.waited took.reached
-    ]
-  ];
+      (λ i h not. let new = b.each i h in grind (arith, nat_tests));
+  each = λ i h.
+      let old = a.each i h in
+      let new = b.each i h in
+      grind (arith, nat_tests);
 }
 
 -- ---- a span
@@ -250,32 +166,24 @@ pub span_more : (joined : Joins) (qs : List ℕ) (q from at next : ℕ) (t u : F
     → Takes joined qs q t u → (waits_at u at ≡ true → joined q (qubit_at qs at) ≡ false)
     → ((k : ℕ) → at + 1 ≤ k → k < next → waits_at u k ≡ false) → next ≤ length qs
     → (i : ℕ) → from ≤ i → i < next → waits_at u i ≡ true → joined q (qubit_at qs i) ≡ false
-span_more joined qs q from at next t u so_far step here quiet end i low high is = elim (cases_lt i at) [
-  | inl before ↦ so_far i low before (waits_before joined qs q t u i step (omega (arith, high, end)) is)
-  | inr after ↦ elim (cases_eq i at) [
-    | inl e ↦ rw e (here (rw e at is))
-    | inr e ↦ not_both _ is (quiet i (omega (arith, after, e)) high)
-  ]
-]
+span_more joined qs q from at next t u so_far step here quiet end i low high is =
+    let old = so_far i low in
+    let before = waits_before joined qs q t u i step in
+    let past = quiet i in
+    grind (arith, nat_tests, cases_eq i at)
 
 -- ---- one number
 
 pub rising_once : (qs : List ℕ) → ((i j : ℕ) → i < j → j < length qs → qubit_at qs i < qubit_at qs j)
     → (i j : ℕ) → i < length qs → j < length qs → qubit_at qs i ≡ qubit_at qs j → i ≡ j
-rising_once qs rising i j below_i below_j same = elim (cases_lt i j) [
-  | inl less ↦ absurd (omega (arith, same, rising i j less below_j))
-  | inr more ↦ elim (cases_lt j i) [
-    | inl less ↦ absurd (omega (arith, same, rising j i less below_i))
-    | inr more' ↦ omega (arith, more, more')
-  ]
-]
+rising_once qs rising i j below_i below_j same =
+    let up = rising i j in
+    let down = rising j i in
+    grind (arith, nat_tests, cases_eq i j)
 
 pub rising_weak : (qs : List ℕ) → ((i j : ℕ) → i < j → j < length qs → qubit_at qs i < qubit_at qs j)
     → (i j : ℕ) → i ≤ j → j < length qs → qubit_at qs i ≤ qubit_at qs j
-rising_weak qs rising i j le below = elim (cases_eq i j) [
-  | inl e ↦ omega (arith, ap (λ k. qubit_at qs k) e)
-  | inr e ↦ omega (arith, rising i j (omega (arith, le, e)) below)
-]
+rising_weak qs rising i j le below = let up = rising i j in grind (arith, nat_tests, cases_eq i j)
 
 -- ---- all that one qubit is joined to
 
@@ -291,20 +199,13 @@ pub spreads : (joined : Joins) (qs : List ℕ) (q from : ℕ) (span : Span) (bef
     → Spreads joined qs q s v
 spreads joined qs q from span before after s t u v start one span_done two before_done three after_done findable = record {
   takes = takes_both joined qs q s u v (takes_both joined qs q s t u one two) three;
-  all = λ i h is. elim (true_or_false (joined q (qubit_at qs i))) [
-    | inr not ↦ not
-    | inl linked ↦
-        let is_u = waits_before joined qs q u v i three h is in
-        let is_t = waits_before joined qs q t u i two h is_u in
-        elim (findable i h linked) [
-          | inl faced ↦ elim (cases_lt i from) [
-            | inl low ↦ absurd (omega (arith, start i low, faced.from))
-            | inr high ↦ span_done i high h faced.below is_t
-          ]
-          | inr line ↦ elim line [
-            | inl is_before ↦ before_done i h is_before is_u
-            | inr is_after ↦ after_done i h is_after is
-          ]
-        ]
-  ];
+  all = λ i h is.
+      let is_u = waits_before joined qs q u v i three h is in
+      let is_t = waits_before joined qs q t u i two h is_u in
+      let low = start i in
+      let faced = span_done i in
+      let this = before_done i h in
+      let that = after_done i h in
+      let ways = findable i h in
+      grind (arith, nat_tests);
 }

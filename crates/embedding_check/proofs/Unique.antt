@@ -1,14 +1,7 @@
 -- What a check gives is one embedding alone.
 --
 -- Two parents of one qubit are each at most the other, and so are two places of one coupling.
-use Rattle.std.proofs.Common.{◌≡◌, inl, inr, ℕ, List, [], ◌∷◌, drop, refl, sym, ap, ◌∙◌, arith, subst}
-use Rattle.std.specs.List.{AllZip}
-use Rattle.bits_model.specs.declared.output.Entry.{Entry}
-use Rattle.ising_form.specs.Isings.{IsingContent}
-use Rattle.chain_map.specs.Chains.{Joins, chain_of}
-use Rattle.embedding_check.specs.Embeddings.{Embedding}
-use Rattle.embedding_check.specs.Distances.{IsParent, AreParents}
-use Rattle.embedding_check.specs.Checked.{IsBefore, IsPlace, IsPlaceOf, IsChecked}
+use Rattle.embedding_check.proofs.Common.{◌≡◌, inl, inr, ℕ, List, [], ◌∷◌, drop, refl, sym, ap, ◌∙◌, arith, subst, AllZip, Entry, IsingContent, Joins, chain_of, Embedding, IsParent, AreParents, IsBefore, IsPlace, IsPlaceOf, IsChecked}
 
 -- what stands for each item in turn is one list, where it is one item each
 zip_unique : {A B : Type 0} (R : A → B → Type 0)

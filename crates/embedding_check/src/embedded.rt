@@ -126,6 +126,20 @@ impl Embedded {
     {
         &self.places
     }
+
+    /// The chains, where they lie. All else of the embedding is let go.
+    pub fn into_chains(self) -> ChainList
+        ensures { result ≡ self.chains }
+    {
+        let Embedded {
+            ising: _ising,
+            chains,
+            qubits: _qubits,
+            parents: _parents,
+            places: _places,
+        } = self;
+        chains
+    }
 }
 
 impl Costed for Embedded {

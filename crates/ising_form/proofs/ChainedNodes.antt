@@ -1,46 +1,22 @@
 -- The entries of nodes on chains, beside those of all nodes.
-use Rattle.std.proofs.Common.{◌≡◌, ◌≢◌, ◌⊎◌, inl, inr, ℕ, suc, ◌+◌, ◌<◌, ◌≤◌, ◌==◌, Bool, true, false, cond, ◌&&◌, ◌||◌, ℤ, pos, ◌+ℤ◌, unsigned_abs, List, [], ◌∷◌, ◌++◌, length, take, get_or, All, refl, sym, ap, ◌∙◌, subst, arith}
-use Rattle.std.specs.List.{AllByRecursion, filter, list_any, slice_index_or}
-use Rattle.std.specs.List.Sorted.{IsStrictlySortedBy}
+use Rattle.ising_form.proofs.Common.{cases_lt, cases_Bool, nat_tests, ◌≡◌, inl, inr, ℕ, suc, ◌+◌, ◌<◌, ◌≤◌, ◌==◌, Bool, true, false, cond, ◌&&◌, ◌||◌, ℤ, pos, unsigned_abs, List, [], ◌∷◌, ◌++◌, length, take, get_or, All, refl, ap, ◌∙◌, arith, AllByRecursion, filter, list_any, slice_index_or, IsStrictlySortedBy, eqb_tells, ints, append-nil, sum_by-cons, recursion_from_All, total_by, Entry, spins_energy, entry_cmp, has_node, is_chained, weight_total, listed_entries, node_entries, IsCoupler, node_entries_more, is_marked, is_on_chain, energy_of_node}
 use Rattle.std.specs.declared.cmp.Ordering.TheVariants.{Less}
-use Rattle.std.proofs.lemmas.Bool.Decides.{eqb_tells}
-use Rattle.std.proofs.lemmas.Int.{ints}
-use Rattle.std.proofs.lemmas.List.{append-nil}
-use Rattle.std.proofs.lemmas.List.Sums.{sum_by-cons}
-use Rattle.std.proofs.lemmas.List.Elements.{recursion_from_All}
-use Rattle.base.specs.Sums.{total_by}
-use Rattle.bits_model.specs.declared.output.Entry.{Entry}
-use Rattle.bits_model.specs.Output.{bit_at, times_spin, spins_energy, entry_cmp, has_node, is_chained, weight_total}
-use Rattle.bits_model.specs.Entries.{listed_entries}
-use Rattle.quad_form.specs.Quads.{node_entries, IsCoupler}
-use Rattle.quad_form.proofs.NodeEntries.{node_entries_more}
-use Rattle.ising_form.specs.Outputs.{is_marked, is_on_chain}
-use Rattle.ising_form.specs.laws.Spun.{energy_of_node}
 
 -- ---- some of a list, and then another list
 
 pub AllRec-filter : {X : Type 0} (P : X → Type 0) (p : X → Bool) (xs cs : List X)
     → AllByRecursion P (xs ++ cs) → AllByRecursion P (filter p xs ++ cs)
 AllRec-filter P p [] cs all = all
-AllRec-filter P p (x ∷ xs) cs all = go (p x) all.0 (AllRec-filter P p xs cs all.1)
-  where
-    go : (b : Bool) → P x → AllByRecursion P (filter p xs ++ cs)
-        → AllByRecursion P (cond b (x ∷ filter p xs) (filter p xs) ++ cs)
-    go true this rest = (this, rest)
-    go false this rest = rest
+AllRec-filter P p (x ∷ xs) cs all = grind (arith, nat_tests, AllRec-filter P p xs cs all.1)
 
 pub sorted-filter : (p : Entry → Bool) (xs cs : List Entry)
     → IsStrictlySortedBy entry_cmp (xs ++ cs) → IsStrictlySortedBy entry_cmp (filter p xs ++ cs)
 unfolding IsStrictlySortedBy
 sorted-filter p [] cs sorted = sorted
 sorted-filter p (x ∷ xs) cs sorted =
-    go (p x) (AllRec-filter (λ e. entry_cmp x e ≡ Less) p xs cs sorted.0) (sorted-filter p xs cs sorted.1)
-  where
-    go : (b : Bool) → AllByRecursion (λ e. entry_cmp x e ≡ Less) (filter p xs ++ cs)
-        → IsStrictlySortedBy entry_cmp (filter p xs ++ cs)
-        → IsStrictlySortedBy entry_cmp (cond b (x ∷ filter p xs) (filter p xs) ++ cs)
-    go true before rest = (before, rest)
-    go false before rest = rest
+    let before = AllRec-filter (λ e. entry_cmp x e ≡ Less) p xs cs sorted.0 in
+    let rest = sorted-filter p xs cs sorted.1 in
+    grind (arith, before, rest)
 
 -- ---- which nodes have entries
 
@@ -50,116 +26,47 @@ is_of q e = (e.first == q) && (e.second == q)
 any-append : {X : Type 0} (p : X → Bool) (xs ys : List X)
     → list_any p (xs ++ ys) ≡ (list_any p xs || list_any p ys)
 any-append p [] ys = refl
-any-append p (x ∷ xs) ys = go (p x) (any-append p xs ys)
-  where
-    go : (b : Bool) → list_any p (xs ++ ys) ≡ (list_any p xs || list_any p ys)
-        → (b || list_any p (xs ++ ys)) ≡ ((b || list_any p xs) || list_any p ys)
-    go true rest = refl
-    go false rest = rest
+any-append p (x ∷ xs) ys = grind (arith, nat_tests, any-append p xs ys)
 
 no_coupler_is_node : (q : ℕ) (n : ℕ) (cs : List Entry) → AllByRecursion (IsCoupler n) cs
     → list_any (is_of q) cs ≡ false
 no_coupler_is_node q n [] all = refl
-no_coupler_is_node q n (c ∷ cs) all =
-    go (eqb_tells c.first q) (eqb_tells c.second q) (no_coupler_is_node q n cs all.1)
-  where
-    up : c.first < c.second
-    up = all.0.upward
-
-    both : (a b r : Bool) → (a ≡ false) ⊎ (b ≡ false) → r ≡ false → ((a && b) || r) ≡ false
-    both false b r or rest = rest
-    both true false r or rest = rest
-    both true true r (inl differs) rest = cc
-    both true true r (inr differs) rest = cc
-
-    go : (((c.first == q) ≡ true) × (c.first ≡ q)) ⊎ (((c.first == q) ≡ false) × (c.first ≢ q))
-        → (((c.second == q) ≡ true) × (c.second ≡ q)) ⊎ (((c.second == q) ≡ false) × (c.second ≢ q))
-        → list_any (is_of q) cs ≡ false
-        → (((c.first == q) && (c.second == q)) || list_any (is_of q) cs) ≡ false
-    go (inl same) (inl alike) rest = absurd (omega (arith, up, same.1, alike.1))
-    go (inl same) (inr other) rest = both _ _ _ (inr other.0) rest
-    go (inr other) or rest = both _ _ _ (inl other.0) rest
+no_coupler_is_node q n (c ∷ cs) all = grind (arith, nat_tests, no_coupler_is_node q n cs all.1)
 
 -- the nodes from n on do not have an entry of one before
 none_before : (chains : List (List ℕ)) (q n : ℕ) (ws : List ℤ) → q < n
     → list_any (is_of q) (filter (is_on_chain chains) (node_entries n ws)) ≡ false
 none_before chains q n [] low = refl
 none_before chains q n (w ∷ ws) low =
-    go (is_chained chains n) (eqb_tells n q) (none_before chains q (suc n) ws (omega arith))
-  where
-    rest : List Entry
-    rest = filter (is_on_chain chains) (node_entries (suc n) ws)
-
-    go : (b : Bool) → (((n == q) ≡ true) × (n ≡ q)) ⊎ (((n == q) ≡ false) × (n ≢ q))
-        → list_any (is_of q) rest ≡ false
-        → list_any (is_of q) (cond b (record { first = n; second = n; weight = w } ∷ rest) rest) ≡ false
-    go true (inl same) none = absurd (omega (arith, low, same.1))
-    go true (inr other) none = rw other.0 none
-    go false or none = none
+    grind (arith, nat_tests, ints, none_before chains q (suc n) ws (omega arith))
 
 -- those from n on have the entries of chained nodes
 chained_from : (chains : List (List ℕ)) (q n : ℕ) (ws : List ℤ) → n ≤ q → q < n + length ws
     → list_any (is_of q) (filter (is_on_chain chains) (node_entries n ws)) ≡ is_chained chains q
 chained_from chains q n [] low high = absurd (omega arith)
 chained_from chains q n (w ∷ ws) low high =
-    go (is_chained chains n) refl (eqb_tells n q) (λ less. chained_from chains q (suc n) ws less (omega arith))
-  where
-    rest : List Entry
-    rest = filter (is_on_chain chains) (node_entries (suc n) ws)
-
-    go : (b : Bool) → is_chained chains n ≡ b
-        → (((n == q) ≡ true) × (n ≡ q)) ⊎ (((n == q) ≡ false) × (n ≢ q))
-        → (suc n ≤ q → list_any (is_of q) rest ≡ is_chained chains q)
-        → list_any (is_of q) (cond b (record { first = n; second = n; weight = w } ∷ rest) rest)
-        ≡ is_chained chains q
-    go true is (inl same) more =
-        let here : is_chained chains q ≡ true = ap (is_chained chains) (sym same.1) ∙ is in
-        rw (same.0, here) refl
-    go false is (inl same) more =
-        let here : is_chained chains q ≡ false = ap (is_chained chains) (sym same.1) ∙ is in
-        none_before chains q (suc n) ws (omega (arith, same.1)) ∙ sym here
-    go true is (inr other) more =
-        let above : suc n ≤ q = grind (arith, other.1) in
-        rw other.0 (more above)
-    go false is (inr other) more =
-        let above : suc n ≤ q = grind (arith, other.1) in
-        more above
+    let later : suc n ≤ q → list_any (is_of q) (filter (is_on_chain chains) (node_entries (suc n) ws)) ≡ is_chained chains q =
+    λ less. chained_from chains q (suc n) ws less (omega arith) in
+    let none = none_before chains q (suc n) ws in
+    grind (arith, nat_tests, eqb_tells n q, later, none)
 
 -- none is past the last
 none_after : (chains : List (List ℕ)) (q n : ℕ) (ws : List ℤ) → n + length ws ≤ q
     → list_any (is_of q) (filter (is_on_chain chains) (node_entries n ws)) ≡ false
 none_after chains q n [] high = refl
 none_after chains q n (w ∷ ws) high =
-    go (is_chained chains n) (eqb_tells n q) (none_after chains q (suc n) ws (omega arith))
-  where
-    rest : List Entry
-    rest = filter (is_on_chain chains) (node_entries (suc n) ws)
-
-    go : (b : Bool) → (((n == q) ≡ true) × (n ≡ q)) ⊎ (((n == q) ≡ false) × (n ≢ q))
-        → list_any (is_of q) rest ≡ false
-        → list_any (is_of q) (cond b (record { first = n; second = n; weight = w } ∷ rest) rest) ≡ false
-    go true (inl same) none = absurd (omega (arith, high, same.1))
-    go true (inr other) none = rw other.0 none
-    go false or none = none
+    grind (arith, nat_tests, ints, none_after chains q (suc n) ws (omega arith))
 
 not_in_chain : (n q : ℕ) (chain : List ℕ) → n ≤ q → AllByRecursion (λ p. p < n) chain
     → list_any (λ p. p == q) chain ≡ false
 not_in_chain n q [] high all = refl
-not_in_chain n q (p ∷ chain) high all =
-    go (eqb_tells p q) (not_in_chain n q chain high all.1)
-  where
-    go : (((p == q) ≡ true) × (p ≡ q)) ⊎ (((p == q) ≡ false) × (p ≢ q))
-        → list_any (λ p. p == q) chain ≡ false
-        → ((p == q) || list_any (λ p. p == q) chain) ≡ false
-    go (inl same) rest = absurd (omega (arith, high, all.0, same.1))
-    go (inr other) rest = rw other.0 rest
+not_in_chain n q (p ∷ chain) high all = grind (arith, nat_tests, not_in_chain n q chain high all.1)
 
 not_chained : (n q : ℕ) (chains : List (List ℕ)) → n ≤ q
     → AllByRecursion (λ chain. All (λ p. p < n) chain) chains → is_chained chains q ≡ false
 not_chained n q [] high all = refl
 not_chained n q (chain ∷ chains) high all =
-    rw (not_in_chain n q chain high (recursion_from_All _ chain all.0))
-    (not_chained n q chains high all.1)
+    grind (arith, nat_tests, not_chained n q chains high all.1, not_in_chain, recursion_from_All)
 
 -- exactly the nodes on chains have entries
 pub chained_listed : (chains : List (List ℕ)) (ws : List ℤ) (cs : List Entry)
@@ -167,27 +74,16 @@ pub chained_listed : (chains : List (List ℕ)) (ws : List ℤ) (cs : List Entry
     → (q : ℕ)
     → has_node (filter (is_on_chain chains) (node_entries 0 ws) ++ cs) q ≡ is_chained chains q
 chained_listed chains ws cs placed couplers q =
-    any-append (is_of q) nodes cs
-    ∙ ap (λ b. list_any (is_of q) nodes || b)
-    (no_coupler_is_node q (length ws) cs (recursion_from_All _ cs couplers))
-    ∙ or_none (list_any (is_of q) nodes)
-    ∙ go (below q (length ws))
-  where
-    nodes : List Entry
-    nodes = filter (is_on_chain chains) (node_entries 0 ws)
-
-    or_none : (b : Bool) → (b || false) ≡ b
-    or_none true = refl
-    or_none false = refl
-
-    below : (q n : ℕ) → (q < n) ⊎ (n ≤ q)
-    below q n = grind arith
-
-    go : (q < length ws) ⊎ (length ws ≤ q) → list_any (is_of q) nodes ≡ is_chained chains q
-    go (inl low) = chained_from chains q 0 ws (omega arith) (omega arith)
-    go (inr high) =
-        none_after chains q 0 ws (omega arith)
-        ∙ sym (not_chained (length ws) q chains high (recursion_from_All _ chains placed))
+    let nodes = filter (is_on_chain chains) (node_entries 0 ws) in
+    let both = any-append (is_of q) nodes cs in
+    let none = no_coupler_is_node q (length ws) cs (recursion_from_All _ cs couplers) in
+    elim (cases_lt q (length ws)) [
+      | inl low ↦ let own = chained_from chains q 0 ws (omega arith) (omega arith) in grind (arith, both, none, own)
+      | inr high ↦
+          let own = none_after chains q 0 ws (omega arith) in
+          let out = not_chained (length ws) q chains high (recursion_from_All _ chains placed) in
+          grind (arith, both, none, own, out)
+    ]
 
 -- ---- what the others add
 
@@ -214,27 +110,10 @@ pub chained_energy : (y : List Bool) (chains : List (List ℕ)) (n : ℕ) (ws : 
     ≡ total_by (spins_energy y) (node_entries n ws)
 chained_energy y chains n [] none = refl
 chained_energy y chains n (w ∷ ws) none =
-    go (is_chained chains n) (unchained-first chains n w ws none)
-    (chained_energy y chains (suc n) ws (unchained-rest chains n w ws none))
-  where
-    e : Entry
-    e = record { first = n; second = n; weight = w }
-
-    rest : List Entry
-    rest = filter (is_on_chain chains) (node_entries (suc n) ws)
-
-    nothing : (b : Bool) → times_spin b (pos 0) ≡ pos 0
-    nothing true = refl
-    nothing false = refl
-
-    go : (b : Bool) → (b ≡ false → w ≡ pos 0)
-        → total_by (spins_energy y) rest ≡ total_by (spins_energy y) (node_entries (suc n) ws)
-        → total_by (spins_energy y) (cond b (e ∷ rest) rest)
-        ≡ spins_energy y e +ℤ total_by (spins_energy y) (node_entries (suc n) ws)
-    go true zero_if same = ap (λ z. spins_energy y e +ℤ z) same
-    go false zero_if same =
-        let none : spins_energy y e ≡ pos 0 = energy_of_node y n w ∙ ap (times_spin (bit_at y n)) (zero_if refl) ∙ nothing (bit_at y n) in
-        omega (arith, ints, none, same)
+    let rest = chained_energy y chains (suc n) ws (unchained-rest chains n w ws none) in
+    let zero = unchained-first chains n w ws none in
+    let own = energy_of_node y n w in
+    grind (arith, ints, rest, zero, own)
 
 -- what holds of 0 and of the weights of chained nodes holds of all
 pub all_from_chained : (P : ℤ → Type 0) (chains : List (List ℕ)) (n : ℕ) (ws : List ℤ) (cs : List Entry)
@@ -243,51 +122,27 @@ pub all_from_chained : (P : ℤ → Type 0) (chains : List (List ℕ)) (n : ℕ)
     → AllByRecursion (λ e. P e.weight) (node_entries n ws ++ cs)
 all_from_chained P chains n [] cs of_zero none all = all
 all_from_chained P chains n (w ∷ ws) cs of_zero none all =
-    go (is_chained chains n) (unchained-first chains n w ws none)
-    (all_from_chained P chains (suc n) ws cs of_zero (unchained-rest chains n w ws none)) all
-  where
-    rest : List Entry
-    rest = filter (is_on_chain chains) (node_entries (suc n) ws)
-
-    go : (b : Bool) → (b ≡ false → w ≡ pos 0)
-        → (AllByRecursion (λ e. P e.weight) (rest ++ cs)
-        → AllByRecursion (λ e. P e.weight) (node_entries (suc n) ws ++ cs))
-        → AllByRecursion (λ e. P e.weight)
-        (cond b (record { first = n; second = n; weight = w } ∷ rest) rest ++ cs)
-        → P w × AllByRecursion (λ e. P e.weight) (node_entries (suc n) ws ++ cs)
-    go true zero_if more all = (all.0, more all.1)
-    go false zero_if more all = (subst P (sym (zero_if refl)) of_zero, more all)
+    let more = all_from_chained P chains (suc n) ws cs of_zero (unchained-rest chains n w ws none) in
+    elim (cases_Bool (is_chained chains n)) [
+      | inl is ↦ let own = rw is at all in (own.0, more own.1)
+      | inr is ↦ (rw (unchained-first chains n w ws none is) of_zero, more (rw is at all))
+    ]
 
 -- ---- sizes
 
 pub chained_total : (p : Entry → Bool) (xs cs : List Entry)
     → weight_total (filter p xs ++ cs) ≤ weight_total (xs ++ cs)
 chained_total p [] cs = omega arith
-chained_total p (x ∷ xs) cs = go (p x) (chained_total p xs cs)
-  where
-    go : (b : Bool) → weight_total (filter p xs ++ cs) ≤ weight_total (xs ++ cs)
-        → weight_total (cond b (x ∷ filter p xs) (filter p xs) ++ cs) ≤ weight_total (x ∷ (xs ++ cs))
-    go true low =
-        omega (
-          arith,
-          low,
-          sum_by-cons (λ (e : Entry). unsigned_abs e.weight) x (filter p xs ++ cs),
-          sum_by-cons (λ (e : Entry). unsigned_abs e.weight) x (xs ++ cs),
-        )
-    go false low = omega (arith, low, sum_by-cons (λ (e : Entry). unsigned_abs e.weight) x (xs ++ cs))
+chained_total p (x ∷ xs) cs =
+    let size = λ (e : Entry). unsigned_abs e.weight in
+    grind (arith, chained_total p xs cs, sum_by-cons size x (filter p xs ++ cs), sum_by-cons size x (xs ++ cs))
 
 -- ---- one more node
 
 filter_push : (p : Entry → Bool) (xs : List Entry) (x : Entry)
     → filter p (xs ++ x ∷ []) ≡ filter p xs ++ cond (p x) (x ∷ []) []
 filter_push p [] x = refl
-filter_push p (y ∷ ys) x = go (p y) (filter_push p ys x)
-  where
-    go : (b : Bool) → filter p (ys ++ x ∷ []) ≡ filter p ys ++ cond (p x) (x ∷ []) []
-        → cond b (y ∷ filter p (ys ++ x ∷ [])) (filter p (ys ++ x ∷ []))
-        ≡ cond b (y ∷ filter p ys) (filter p ys) ++ cond (p x) (x ∷ []) []
-    go true rest = ap (λ es. y ∷ es) rest
-    go false rest = rest
+filter_push p (y ∷ ys) x = grind (arith, nat_tests, filter_push p ys x)
 
 marked_more : (marks : List Bool) (ws : List ℤ) (i : ℕ) (d : ℤ) → i < length ws
     → filter (is_marked marks) (node_entries 0 (take (i + 1) ws))

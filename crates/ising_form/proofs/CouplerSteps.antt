@@ -1,7 +1,5 @@
 -- Couplers that are taken one after another, by their indices.
-use Rattle.std.proofs.Common.{◌≡◌, ℕ, ◌+◌, ◌-◌, ◌<◌, List, [], ◌∷◌, length, take, drop, get_or, sym, ap, ◌∙◌, arith}
-use Rattle.std.proofs.lemmas.List.{drop_more, length-drop, take_all}
-use Rattle.bits_model.specs.declared.output.Entry.{Entry}
+use Rattle.ising_form.proofs.Common.{◌≡◌, ℕ, ◌+◌, ◌-◌, ◌<◌, List, [], ◌∷◌, length, take, drop, get_or, sym, ap, ◌∙◌, arith, drop_more, length-drop, take_all, Entry}
 
 -- how many were taken, where these are left
 abbrev pub taken : List Entry → List Entry → ℕ

@@ -1,16 +1,5 @@
 -- The constant and the fields of an image: how large they are, and what one more coupler makes of them.
-use Rattle.std.proofs.Common.{◌≡◌, ◌≢◌, ◌⊎◌, inl, inr, ℕ, zero, suc, ◌+◌, ◌*◌, ◌<◌, ◌≤◌, ◌==◌, true, false, ℤ, pos, ◌+ℤ◌, ◌*ℤ◌, unsigned_abs, List, [], ◌∷◌, ◌++◌, length, take, get_or, refl, ap, ◌∙◌, arith}
-use Rattle.std.proofs.lemmas.Bool.{eq-eqb}
-use Rattle.std.proofs.lemmas.Bool.Decides.{eqb_tells}
-use Rattle.std.proofs.lemmas.Int.{ints}
-use Rattle.std.proofs.lemmas.List.{take_more}
-use Rattle.std.proofs.lemmas.List.Sums.{sum_by-cons}
-use Rattle.base.specs.Sums.{total_by, if_so}
-use Rattle.base.proofs.Totals.{total_by_more, size-plus, size-total_by}
-use Rattle.bits_model.specs.declared.output.Entry.{Entry}
-use Rattle.bits_model.specs.Output.{weight_total}
-use Rattle.quad_form.specs.Quads.{node_entries}
-use Rattle.ising_form.specs.Spins.{end_weight, coupled, fields_from, spins_fields, spins_constant, raised}
+use Rattle.ising_form.proofs.Common.{nat_tests, ◌≡◌, ℕ, zero, suc, ◌+◌, ◌*◌, ◌<◌, ◌≤◌, ◌==◌, ℤ, pos, ◌+ℤ◌, ◌*ℤ◌, unsigned_abs, List, [], ◌∷◌, ◌++◌, length, take, get_or, refl, ap, ◌∙◌, arith, eqb_tells, ints, take_more, sum_by-cons, total_by, if_so, total_by_more, size-plus, size-total_by, Entry, weight_total, node_entries, end_weight, coupled, fields_from, spins_fields, spins_constant, raised}
 
 abbrev size : Entry → ℕ
 size e = unsigned_abs e.weight
@@ -36,18 +25,7 @@ size-fields_from : (added : ℕ → ℤ) (n : ℕ) (ws : List ℤ)
 unfolding added_size
 size-fields_from added n [] = omega arith
 size-fields_from added n (w ∷ ws) =
-    omega (
-      arith,
-      ints,
-      node_total-cons n (pos 2 *ℤ w +ℤ added n) (fields_from added (suc n) ws),
-      node_total-cons n w ws,
-      size-plus (pos 2 *ℤ w) (added n),
-      doubled w,
-      size-fields_from added (suc n) ws,
-    )
-  where
-    doubled : (w : ℤ) → unsigned_abs (pos 2 *ℤ w) ≤ 2 * unsigned_abs w
-    doubled w = omega (arith, ints)
+    grind (arith, nat_tests, ints, size-fields_from added (suc n) ws, node_total-cons, size-plus)
 
 added_size-plus : (f g : ℕ → ℤ) (n : ℕ) (ws : List ℤ)
     → added_size (λ i. f i +ℤ g i) n ws ≤ added_size f n ws + added_size g n ws
@@ -59,30 +37,14 @@ size-before : (j n : ℕ) (c : ℤ) (ws : List ℤ) → j < n → added_size (λ
 unfolding added_size
 size-before j n c [] low = refl
 size-before j n c (w ∷ ws) low =
-    omega (arith, none (eqb_tells j n), size-before j (suc n) c ws (omega arith))
-  where
-    none : (((j == n) ≡ true) × (j ≡ n)) ⊎ (((j == n) ≡ false) × (j ≢ n))
-        → unsigned_abs (if_so (j == n) c) ≡ 0
-    none (inl same) = absurd (omega (arith, same.1))
-    none (inr other) = ap (λ b. unsigned_abs (if_so b c)) other.0
+    grind (arith, nat_tests, ints, size-before j (suc n) c ws (omega arith))
 
 size-one : (j n : ℕ) (c : ℤ) (ws : List ℤ)
     → added_size (λ i. if_so (j == i) c) n ws ≤ unsigned_abs c
 unfolding added_size
 size-one j n c [] = omega arith
-size-one j n c (w ∷ ws) = go (eqb_tells j n) (size-one j (suc n) c ws)
-  where
-    go : (((j == n) ≡ true) × (j ≡ n)) ⊎ (((j == n) ≡ false) × (j ≢ n))
-        → added_size (λ i. if_so (j == i) c) (suc n) ws ≤ unsigned_abs c
-        → unsigned_abs (if_so (j == n) c) + added_size (λ i. if_so (j == i) c) (suc n) ws
-        ≤ unsigned_abs c
-    go (inl same) rest =
-        omega (
-          arith,
-          ap (λ b. unsigned_abs (if_so b c)) same.0,
-          size-before j (suc n) c ws (omega (arith, same.1)),
-        )
-    go (inr other) rest = omega (arith, ap (λ b. unsigned_abs (if_so b c)) other.0, rest)
+size-one j n c (w ∷ ws) =
+    grind (arith, nat_tests, ints, size-one j (suc n) c ws, eqb_tells, size-before)
 
 size-nothing : (n : ℕ) (ws : List ℤ) → added_size (λ i. pos 0) n ws ≡ 0
 unfolding added_size
@@ -93,15 +55,11 @@ size-coupled : (cs : List Entry) (n : ℕ) (ws : List ℤ)
     → added_size (coupled cs) n ws ≤ 2 * weight_total cs
 size-coupled [] n ws = omega (arith, size-nothing n ws)
 size-coupled (e ∷ cs) n ws =
-    omega (
-      arith,
-      added_size-plus (λ i. end_weight i e) (coupled cs) n ws,
-      added_size-plus (λ i. if_so (e.first == i) e.weight) (λ i. if_so (e.second == i) e.weight) n ws,
-      size-one e.first n e.weight ws,
-      size-one e.second n e.weight ws,
-      size-coupled cs n ws,
-      sum_by-cons size e cs,
-    )
+    let both = added_size-plus (λ i. end_weight i e) (coupled cs) n ws in
+    let ends = added_size-plus (λ i. if_so (e.first == i) e.weight) (λ i. if_so (e.second == i) e.weight) n ws in
+    let first = size-one e.first n e.weight ws in
+    let second = size-one e.second n e.weight ws in
+    omega (arith, both, ends, first, second, size-coupled cs n ws, sum_by-cons size e cs)
 
 -- the fields are at most twice the weights, in size
 pub size-fields : (ws : List ℤ) (cs : List Entry)
@@ -110,13 +68,7 @@ size-fields ws cs = omega (arith, size-fields_from (coupled cs) 0 ws, size-coupl
 
 size-sum : (n : ℕ) (ws : List ℤ) → unsigned_abs (total_by (λ (w : ℤ). w) ws) ≤ node_total n ws
 size-sum n [] = omega arith
-size-sum n (w ∷ ws) =
-    omega (
-      arith,
-      size-plus w (total_by (λ (w : ℤ). w) ws),
-      node_total-cons n w ws,
-      size-sum (suc n) ws,
-    )
+size-sum n (w ∷ ws) = omega (arith, size-plus, node_total-cons, size-sum (suc n) ws)
 
 pub size-constant : (c : ℤ) (ws : List ℤ) (cs : List Entry)
     → unsigned_abs (spins_constant c ws cs)
@@ -136,14 +88,9 @@ size-constant c ws cs =
 fields_from_push : (added : ℕ → ℤ) (n : ℕ) (ws : List ℤ) (w : ℤ)
     → fields_from added n (ws ++ w ∷ [])
     ≡ fields_from added n ws ++ (pos 2 *ℤ w +ℤ added (n + length ws)) ∷ []
-fields_from_push added n [] w =
-    let same : n ≡ n + 0 = omega arith in
-    ap (λ i. (pos 2 *ℤ w +ℤ added i) ∷ []) same
+fields_from_push added n [] w = grind (arith, nat_tests, ints)
 fields_from_push added n (v ∷ ws) w =
-    let same : suc n + length ws ≡ n + suc (length ws) = omega arith in
-    ap (λ hs. (pos 2 *ℤ v +ℤ added n) ∷ hs)
-    (fields_from_push added (suc n) ws w
-    ∙ ap (λ i. fields_from added (suc n) ws ++ (pos 2 *ℤ w +ℤ added i) ∷ []) same)
+    grind (arith, nat_tests, ints, fields_from_push added (suc n) ws w)
 
 -- without couplers, a field is twice the weight
 pub fields_more : (ws : List ℤ) (i : ℕ) (d : ℤ) → i < length ws
@@ -181,25 +128,12 @@ fields_raised : (f g : ℕ → ℤ) (n k j : ℕ) (c : ℤ) (ws : List ℤ)
     → fields_from g n ws ≡ raised (fields_from f n ws) k c
 fields_raised f g n k j c [] more is within = absurd (omega arith)
 fields_raised f g n zero j c (w ∷ ws) more is within =
-    let here : (j == n) ≡ true = eq-eqb j n (omega arith) in
-    let added : g n ≡ f n +ℤ c = more n ∙ ap (λ b. f n +ℤ if_so b c) here in
+    let added : g n ≡ f n +ℤ c = grind (arith, nat_tests, ints, more n) in
     let head : pos 2 *ℤ w +ℤ g n ≡ (pos 2 *ℤ w +ℤ f n) +ℤ c = omega (arith, ints, added) in
-    (λ i. head i ∷ fields_alike g f (suc n) ws (λ m low. other m (omega arith)) i)
-  where
-    other : (m : ℕ) → j < m → g m ≡ f m
-    other m low = go (eqb_tells j m)
-      where
-        go : (((j == m) ≡ true) × (j ≡ m)) ⊎ (((j == m) ≡ false) × (j ≢ m)) → g m ≡ f m
-        go (inl same) = absurd (omega (arith, same.1))
-        go (inr apart) =
-            more m ∙ ap (λ b. f m +ℤ if_so b c) apart.0 ∙ omega (arith, ints)
+    (λ i. head i ∷ fields_alike g f (suc n) ws (λ m low. grind (arith, nat_tests, ints, more m)) i)
 fields_raised f g n (suc k) j c (w ∷ ws) more is within =
-    (λ i. (pos 2 *ℤ w +ℤ other (eqb_tells j n) i)
-    ∷ fields_raised f g (suc n) k j c ws more (omega arith) (omega arith) i)
-  where
-    other : (((j == n) ≡ true) × (j ≡ n)) ⊎ (((j == n) ≡ false) × (j ≢ n)) → g n ≡ f n
-    other (inl same) = absurd (omega (arith, same.1))
-    other (inr apart) = more n ∙ ap (λ b. f n +ℤ if_so b c) apart.0 ∙ omega (arith, ints)
+    let other : g n ≡ f n = grind (arith, nat_tests, ints, more n) in
+    (λ i. (pos 2 *ℤ w +ℤ other i) ∷ fields_raised f g (suc n) k j c ws more (omega arith) (omega arith) i)
 
 -- the fields with one more coupler
 pub fields_coupled : (ws : List ℤ) (cs : List Entry) (i : ℕ) (d : Entry) → i < length cs
@@ -226,15 +160,9 @@ fields_coupled ws cs i d h first second =
 total-raised_from : (n i : ℕ) (hs : List ℤ) (c : ℤ)
     → node_total n (raised hs i c) ≤ node_total n hs + unsigned_abs c
 total-raised_from n i [] c = omega arith
-total-raised_from n zero (h ∷ hs) c =
-    omega (arith, node_total-cons n (h +ℤ c) hs, node_total-cons n h hs, size-plus h c)
+total-raised_from n zero (h ∷ hs) c = grind (arith, nat_tests, ints, node_total-cons, size-plus)
 total-raised_from n (suc i) (h ∷ hs) c =
-    omega (
-      arith,
-      node_total-cons n h (raised hs i c),
-      node_total-cons n h hs,
-      total-raised_from (suc n) i hs c,
-    )
+    omega (arith, node_total-cons, total-raised_from (suc n) i hs c)
 
 pub total-raised : (i : ℕ) (hs : List ℤ) (c : ℤ)
     → node_total 0 (raised hs i c) ≤ node_total 0 hs + unsigned_abs c

@@ -1,3 +1,4 @@
+pub mod Common
 pub mod FieldEnergies
 pub mod FieldSums
 pub mod Images

@@ -1,26 +1,6 @@
 -- The models of an Ising form: they are well formed, and have the form's energies but for the constant.
-use Rattle.std.proofs.Common.{◌≡◌, ◌⊎◌, ℕ, ◌+◌, ◌<◌, ◌≤◌, Bool, ℤ, pos, ◌+ℤ◌, ◌≤ℤ◌, List, ◌++◌, length, All, refl, sym, ap, ◌∙◌, subst, arith}
-use Rattle.std.specs.List.{filter}
-use Rattle.std.proofs.lemmas.Int.{ints}
-use Rattle.std.proofs.lemmas.List.Elements.{recursion_from_All, All-from_recursion}
-use Rattle.base.specs.Sums.{total_by}
-use Rattle.base.proofs.Totals.{total_by-append}
-use Rattle.base.specs.declared.costs.Figures.{Figures}
-use Rattle.bits_model.specs.declared.output.Entry.{Entry}
-use Rattle.bits_model.specs.declared.output.Kind.{Kind}
+use Rattle.ising_form.proofs.Common.{nat_tests, ◌≡◌, ◌⊎◌, ℕ, ◌+◌, ◌<◌, ◌≤◌, Bool, ℤ, pos, ◌≤ℤ◌, List, ◌++◌, length, All, refl, sym, subst, arith, ints, recursion_from_All, All-from_recursion, total_by, total_by-append, Figures, Entry, Kind, Form, Decoding, Relaxes, IsMultiple, IsWellFormed, IsPlaced, decoding_of, entry_energy, spins_energy, read_off, weight_total, node_entries, RelaxesAsWritten, nodes_ordered, couplers_up, all_placed, has_each_node, all_nonzero, moved_relaxes, counted_coprime, IsingContent, IsIsing, entries_of, form_of, FitsOutput, AreNodes, is_on_chain, written_nodes, written_entries, written_of, ising_unit, reduced, IsReducedAsWritten}
 use Rattle.bits_model.specs.declared.output.Kind.TheVariants.{Qubo, Ising, Chimera}
-use Rattle.base.specs.Costs.{Form}
-use Rattle.form_steps.specs.Relations.{Decoding, Relaxes}
-use Rattle.bits_model.specs.Units.{IsMultiple}
-use Rattle.bits_model.specs.Output.{IsWellFormed, IsPlaced, is_chained, decoding_of, entry_energy, spins_energy, read_off, weight_total}
-use Rattle.quad_form.specs.Quads.{node_entries}
-use Rattle.quad_form.specs.Stated.{RelaxesAsWritten}
-use Rattle.quad_form.proofs.NodeEntries.{nodes_ordered, couplers_up, all_placed, has_each_node, all_nonzero}
-use Rattle.quad_form.proofs.WrittenModels.{moved_relaxes}
-use Rattle.quad_form.proofs.ReducedForms.{counted_coprime}
-use Rattle.ising_form.specs.Isings.{IsingContent, IsIsing, entries_of, form_of}
-use Rattle.ising_form.specs.Outputs.{FitsOutput, AreNodes, is_on_chain, written_nodes, written_entries, written_of}
-use Rattle.ising_form.specs.Reduction.{ising_unit, reduced, IsReducedAsWritten}
 use Rattle.ising_form.proofs.ChainedNodes.{AreUnchained, AllRec-filter, sorted-filter, chained_listed, chained_energy, all_from_chained, chained_total}
 use Rattle.ising_form.proofs.ReducedForms.{weights}
 
@@ -72,9 +52,7 @@ written_is_well_formed f variables figures unit (Chimera rows cols shore) chains
 
 unchained_from : (f : IsingContent) (rows cols shore : ℕ) (chains : List (List ℕ)) (variables : ℕ)
     → FitsOutput (Chimera rows cols shore) chains variables f → AreUnchained chains 0 f.fields
-unchained_from f rows cols shore chains variables fits k not =
-    let same : k ≡ 0 + k = omega arith in
-    fits.unchained k (ap (is_chained chains) same ∙ not)
+unchained_from f rows cols shore chains variables fits k not = grind (arith, nat_tests)
 
 -- the entries of a model have the energy of all entries
 pub written_energy : (f : IsingContent) (variables : ℕ) (kind : Kind) (chains : List (List ℕ))
@@ -84,17 +62,11 @@ pub written_energy : (f : IsingContent) (variables : ℕ) (kind : Kind) (chains 
 written_energy f variables Qubo chains fits y = absurd fits
 written_energy f variables Ising chains fits y = refl
 written_energy f variables (Chimera rows cols shore) chains fits y =
-    total_by-append (spins_energy y) (filter (is_on_chain chains) (node_entries 0 f.fields)) f.couplings
-    ∙ ap (λ z. z +ℤ total_by (spins_energy y) f.couplings)
-    (chained_energy y chains 0 f.fields (unchained_from f rows cols shore chains variables fits))
-    ∙ sym (total_by-append (spins_energy y) (node_entries 0 f.fields) f.couplings)
+    grind (arith, nat_tests, total_by-append, chained_energy, unchained_from)
 
 pub written_total : (f : IsingContent) (kind : Kind) (chains : List (List ℕ))
     → weight_total (written_entries kind chains f) ≤ weight_total (entries_of f)
-written_total f Qubo chains = omega arith
-written_total f Ising chains = omega arith
-written_total f (Chimera rows cols shore) chains =
-    chained_total (is_on_chain chains) (node_entries 0 f.fields) f.couplings
+written_total f kind chains = grind (arith, nat_tests, chained_total)
 
 pub written_relaxes : (source : Form) (f : IsingContent) (d : Decoding) (variables : ℕ)
     (figures : Figures) (unit : ℤ) (kind : Kind) (chains : List (List ℕ))
@@ -155,13 +127,8 @@ made_is_reduced f g unit is same = rw (is, same) (reduced_is_reduced f)
 
 pub nodes_and_couplings : (kind : Kind) (chains : List (List ℕ)) (f : IsingContent)
     → written_nodes kind chains f.fields ++ f.couplings ≡ written_entries kind chains f
-nodes_and_couplings Qubo chains f = refl
-nodes_and_couplings Ising chains f = refl
-nodes_and_couplings (Chimera rows cols shore) chains f = refl
+nodes_and_couplings kind chains f = grind (arith, nat_tests)
 
 pub are_nodes : (kind : Kind) (chains : List (List ℕ)) (variables : ℕ) (f : IsingContent)
     → FitsOutput kind chains variables f → AreNodes kind chains (length f.fields)
-are_nodes Qubo chains variables f fits = tt
-are_nodes Ising chains variables f fits = tt
-are_nodes (Chimera rows cols shore) chains variables f fits =
-    subst (λ n. All (λ chain. All (λ q. q < n) chain) chains) (sym fits.sized) fits.placed
+are_nodes kind chains variables f fits = grind (arith, nat_tests)

@@ -1,6 +1,8 @@
 //! The layer that makes an Ising form of a quadratic form.
 //!
 //! A bit is half of its spin and 1, so four times a quadratic form is an Ising form with whole weights.
+//!
+//! No run of the program comes here: it gives the quadratic form up (`Ising::from_quad`).
 ghost use Rattle.std.specs.Prelude.{◌≡◌, ◌+◌, ◌*◌, ◌≤◌, ◌^◌, IfOk};
 ghost use Rattle.quad_form.specs.Quads.{IsQuad, quad_total};
 ghost use Rattle.ising_form.specs.Spins.{image};

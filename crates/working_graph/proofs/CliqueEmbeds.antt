@@ -1,23 +1,6 @@
 -- The chains of a clique, with all qubits but the last as parents and the least joined pair of each
 -- coupling, are what a check of the chains gives.
-use Rattle.std.proofs.Common.{◌≡◌, ℕ, suc, ◌*◌, ◌/◌, ◌%◌, ◌<◌, ◌≤◌, ◌==◌, Bool, true, false, List, [], ◌∷◌, length, map, get_or, All, if◌then◌else◌, refl, sym, ap, subst, ◌∙◌, arith, mod-lt}
-use Rattle.std.specs.List.{AllZip}
-use Rattle.std.proofs.lemmas.Bool.Decides.{nat_tests}
-use Rattle.std.proofs.lemmas.List.FromFn.{length-map-range_with_len}
-use Rattle.std.proofs.lemmas.Nat.{div-add-mod'}
-use Rattle.bits_model.specs.declared.output.Entry.{Entry}
-use Rattle.quad_form.specs.Quads.{IsCoupler}
-use Rattle.ising_form.specs.Isings.{IsingContent, IsIsing}
-use Rattle.chimera_graph.specs.declared.chimera.Chimera.{Chimera}
-use Rattle.chimera_graph.specs.Graph.{qubits_of}
-use Rattle.chain_map.specs.Chains.{chain_of}
-use Rattle.chain_map.specs.Cliques.{clique_places, spot_of, down_qubit, along_qubit, path_of, clique_chain, clique_of}
-use Rattle.chain_map.proofs.CliqueChains.{path_len, cell_of, cells_rise, chain_at_node, clique_valid}
-use Rattle.embedding_check.specs.Distances.{AreParents}
-use Rattle.embedding_check.specs.Embeddings.{Embedding, IsEmbedding}
-use Rattle.embedding_check.specs.Checked.{IsPlace, IsPlaceOf, IsChecked}
-use Rattle.embedding_check.proofs.Checked.{checked_embeds}
-use Rattle.working_graph.specs.CliquePlaces.{but_last, place_of_spots, clique_place, joined_on}
+use Rattle.working_graph.proofs.Common.{◌≡◌, ℕ, suc, ◌*◌, ◌/◌, ◌%◌, ◌<◌, ◌≤◌, ◌==◌, Bool, true, false, List, [], ◌∷◌, length, map, get_or, All, if◌then◌else◌, refl, ap, subst, ◌∙◌, arith, mod-lt, AllZip, nat_tests, length-map-range_with_len, div-add-mod', Entry, IsCoupler, IsingContent, IsIsing, Chimera, qubits_of, clique_places, spot_of, down_qubit, along_qubit, path_of, clique_chain, clique_of, path_len, cell_of, cells_rise, chain_at_node, clique_valid, AreParents, Embedding, IsEmbedding, IsPlace, IsPlaceOf, IsChecked, checked_embeds, but_last, place_of_spots, clique_place, joined_on}
 use Rattle.working_graph.proofs.PathParents.{path_parents}
 use Rattle.working_graph.proofs.CliquePaths.{clique_path}
 use Rattle.working_graph.proofs.LeastMeetings.{same_cell, other_cell}
@@ -28,19 +11,14 @@ use Rattle.working_graph.proofs.LeastMeetings.{same_cell, other_cell}
 at_order : (graph : Chimera) (u v : ℕ) → u < v → u / graph.shore ≡ v / graph.shore
     → u % graph.shore < v % graph.shore
 at_order graph u v before cell =
-    omega (
-      arith,
-      before,
-      ap (λ n. n * graph.shore) cell,
-      div-add-mod' u graph.shore,
-      div-add-mod' v graph.shore,
-    )
+    let one = div-add-mod' u graph.shore in
+    let two = div-add-mod' v graph.shore in
+    omega (arith, before, ap (λ n. n * graph.shore) cell)
 
 chosen : (graph : Chimera) (c d : List ℕ) (b : Bool) (x y : ℕ × ℕ)
     → (b ≡ true → IsPlace (joined_on graph) c d x) → (b ≡ false → IsPlace (joined_on graph) c d y)
     → IsPlace (joined_on graph) c d (if b then x else y)
-chosen graph c d true x y one other = one refl
-chosen graph c d false x y one other = other refl
+chosen graph c d b x y one other = grind (arith, nat_tests)
 
 is_same : (a b : ℕ) → (a == b) ≡ true → a ≡ b
 is_same a b e = grind (arith, nat_tests)
@@ -60,33 +38,24 @@ least_place graph u v before below =
     let l = v % T in
     let cell = cell_of graph v below in
     let order = cells_rise graph u v (omega (arith, before)) in
+    let at = mod-lt u graph.shape.some_shore in
+    let at' = mod-lt v graph.shape.some_shore in
     chosen graph (clique_chain graph u) (clique_chain graph v) (i == j)
-    (down_qubit graph i k i, along_qubit graph j l j)
-    (down_qubit graph j l i, along_qubit graph i k j)
+    (down_qubit graph i k i, along_qubit graph j l j) (down_qubit graph j l i, along_qubit graph i k j)
     (λ e.
     let same : i ≡ j = is_same i j e in
-    subst
-    (λ n. IsPlace (joined_on graph) (path_of graph i k) (path_of graph n l)
-    (down_qubit graph i k i, along_qubit graph n l n))
-    same
-    (same_cell graph i k l (omega (arith, order, cell)) (at_order graph u v before same)
-    (mod-lt v graph.shape.some_shore)))
-    (λ e.
-    other_cell graph i k j l (omega (arith, order, is_other i j e)) cell
-    (mod-lt u graph.shape.some_shore) (mod-lt v graph.shape.some_shore))
+    subst (λ n. IsPlace (joined_on graph) (path_of graph i k) (path_of graph n l)
+    (down_qubit graph i k i, along_qubit graph n l n)) same
+    (same_cell graph i k l (omega (arith, order, cell)) (at_order graph u v before same) at'))
+    (λ e. other_cell graph i k j l (omega (arith, order, is_other i j e)) cell at at')
 
 coupling_place : (graph : Chimera) (nodes : ℕ) (c : Entry) → nodes ≤ clique_places graph
     → IsCoupler nodes c
     → IsPlaceOf (joined_on graph) (clique_of graph nodes) c (clique_place graph c)
 coupling_place graph nodes c fits is =
-    let place = clique_place graph c in
     let low : c.first < nodes = omega (arith, is.upward, is.within) in
-    let first = chain_of (clique_of graph nodes) c.first in
-    subst (λ (d : List ℕ). IsPlace (joined_on graph) first d place)
-    (sym (chain_at_node graph nodes c.second [] is.within))
-    (subst (λ (d : List ℕ). IsPlace (joined_on graph) d (clique_chain graph c.second) place)
-    (sym (chain_at_node graph nodes c.first [] low))
-    (least_place graph c.first c.second is.upward (omega (arith, is.within, fits))))
+    rw (chain_at_node graph nodes c.second [] is.within, chain_at_node graph nodes c.first [] low)
+    (least_place graph c.first c.second is.upward (omega (arith, is.within, fits)))
 
 -- ---- all of it
 
@@ -100,15 +69,12 @@ chain_parents : (graph : Chimera) (nodes : ℕ) → nodes ≤ clique_places grap
     → AllZip (AreParents (joined_on graph)) (clique_of graph nodes)
     (map but_last (clique_of graph nodes))
 chain_parents graph nodes fits =
-    zip_map (AreParents (joined_on graph)) but_last (clique_of graph nodes)
-    (λ v d below.
-    let low : v < nodes =
-    omega (arith, below, length-map-range_with_len (clique_chain graph) 0 nodes) in
+    zip_map (AreParents (joined_on graph)) but_last (clique_of graph nodes) (λ v d below.
+    let low : v < nodes = omega (arith, below, length-map-range_with_len (clique_chain graph) 0 nodes) in
     let cell = cell_of graph v (omega (arith, low, fits)) in
-    subst (λ (chain : List ℕ). AreParents (joined_on graph) chain (but_last chain))
-    (sym (chain_at_node graph nodes v d low))
-    (path_parents (joined_on graph) (clique_chain graph v)
-    (clique_path graph (v / graph.shore) (v % graph.shore) cell (mod-lt v graph.shape.some_shore))
+    let path = clique_path graph (v / graph.shore) (v % graph.shore) cell (mod-lt v graph.shape.some_shore) in
+    rw (chain_at_node graph nodes v d low)
+    (path_parents (joined_on graph) (clique_chain graph v) path
     (omega (arith, path_len graph (v / graph.shore) (v % graph.shore) cell))))
 
 coupling_places : (graph : Chimera) (f : IsingContent) → IsIsing f

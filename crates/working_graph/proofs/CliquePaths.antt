@@ -3,16 +3,7 @@
 -- The qubits down a column are joined to their neighbours there alone, and so are those along a
 -- row. The two parts of a chain meet in the cell of the diagonal, where the one ends and the other
 -- begins.
-use Rattle.std.proofs.Common.{◌≡◌, ℕ, ◌+◌, ◌-◌, ◌<◌, ◌≤◌, inl, inr, true, length, get_or, sym, ap, subst, ◌∙◌, arith}
-use Rattle.std.proofs.lemmas.Bool.{cases_lt}
-use Rattle.std.proofs.lemmas.Bool.Decides.{nat_tests}
-use Rattle.bits_model.specs.Walks.{is_in}
-use Rattle.chimera_graph.specs.declared.chimera.Chimera.{Chimera}
-use Rattle.chimera_graph.specs.declared.place.Place.{Place}
-use Rattle.chimera_graph.specs.Graph.{place_of}
-use Rattle.chimera_graph.specs.Places.{are_joined}
-use Rattle.chain_map.proofs.CliqueChains.{down_place, along_place, place_again, down_in, along_in, path_len, path_down, path_along, down_joined, along_joined, cell_joined}
-use Rattle.chain_map.specs.Cliques.{diagonal_of, path_of}
+use Rattle.working_graph.proofs.Common.{◌≡◌, ℕ, ◌+◌, ◌-◌, ◌<◌, ◌≤◌, inl, inr, true, length, get_or, sym, subst, ◌∙◌, arith, cases_lt, nat_tests, is_in, Chimera, Place, place_of, are_joined, down_place, along_place, place_again, down_in, along_in, path_len, path_down, path_along, down_joined, along_joined, cell_joined, diagonal_of, path_of}
 use Rattle.working_graph.proofs.PathParents.{IsPath, place_in}
 
 -- ---- the qubits of a path
@@ -28,17 +19,12 @@ pub step_at : (graph : Chimera) (i k m : ℕ) → i < diagonal_of graph → k < 
 step_at graph i k m cell at below =
     let long = path_len graph i k cell in
     record {
-      down = λ low.
-          ap (place_of graph) (path_down graph i k m low)
-          ∙ place_again graph (down_place i k m) (down_in graph i k m cell at low);
+      down = λ low. rw (path_down graph i k m low) (place_again graph (down_place i k m) (down_in graph i k m cell at low));
       along = λ high.
-          let back : m - 1 + 1 ≡ m = omega (arith, high) in
+          let back : m ≡ m - 1 + 1 = omega (arith, high) in
           let inside : m - 1 < diagonal_of graph = omega (arith, high, below, long) in
-          subst (λ n. place_of graph (get_or (path_of graph i k) n 0) ≡ along_place i k (m - 1))
-          back
-          (ap (place_of graph) (path_along graph i k (m - 1) (omega (arith, high)) inside)
-          ∙ place_again graph (along_place i k (m - 1))
-          (along_in graph i k (m - 1) cell at inside));
+          let again = place_again graph (along_place i k (m - 1)) (along_in graph i k (m - 1) cell at inside) in
+          cc (path_along graph i k (m - 1) (omega (arith, high)) inside);
     }
 
 -- a qubit of a path has the place of one of its steps
@@ -49,7 +35,7 @@ step_of graph i k q cell at in' =
     let found = place_in (path_of graph i k) q in' in (
       found.0,
       omega (arith, found.1, path_len graph i k cell),
-      subst (λ r. IsStep i k found.0 (place_of graph r)) found.2
+      rw found.2 at
           (step_at graph i k found.0 cell at found.1),
     )
 
@@ -93,23 +79,20 @@ along_down i k m j l n linked = (grind (arith, nat_tests), grind (arith, nat_tes
 -- a step is joined to the next one
 step_on : (i k m : ℕ) (p q : Place) → IsStep i k m p → IsStep i k (m + 1) q → are_joined p q ≡ true
 step_on i k m p q s t = elim (cases_lt m i) [
-  | inl low ↦
-      joined_at _ _ p q (sym (s.down (omega (arith, low)))) (sym (t.down (omega (arith, low))))
-      (down_joined i k m)
-  | inr high ↦ elim (cases_lt i m) [
-    | inl more ↦
-        let next : m - 1 + 1 ≡ m + 1 - 1 = omega (arith, more) in
-        joined_at _ _ p q (sym (s.along more)) (sym (t.along (omega (arith, more))))
-        (subst (λ n. are_joined (along_place i k (m - 1)) (along_place i k n) ≡ true) next
-        (along_joined i k (m - 1)))
-    | inr same ↦
-        let last : i ≡ m = omega (arith, high, same) in
-        let cell : i ≡ m + 1 - 1 = omega (arith, high, same) in
-        joined_at _ _ p q (sym (s.down same)) (sym (t.along (omega (arith, high))))
-        (subst (λ n. are_joined (down_place i k n) (along_place i k (m + 1 - 1)) ≡ true) last
-        (subst (λ n. are_joined (down_place i k i) (along_place i k n) ≡ true) cell
-        (cell_joined i i k k)))
-  ]
+  | inl low ↦ rw (s.down (omega (arith, low)), t.down (omega (arith, low))) (down_joined i k m)
+  | inr high ↦
+      let cell : m + 1 - 1 ≡ m = omega arith in
+      elim (cases_lt i m) [
+        | inl more ↦
+            let next : m ≡ m - 1 + 1 = omega (arith, more) in
+            let on : are_joined (along_place i k (m - 1)) (along_place i k m) ≡ true =
+            subst (λ n. are_joined (along_place i k (m - 1)) (along_place i k n) ≡ true) (sym next)
+            (along_joined i k (m - 1)) in
+            rw (s.along more, t.along (omega (arith, more)), cell) on
+        | inr same ↦
+            let last : m ≡ i = omega (arith, high, same) in
+            rw (s.down same, t.along (omega (arith, high)), cell, last) (cell_joined i i k k)
+      ]
 ]
 
 -- and to none further on
@@ -117,49 +100,34 @@ step_near : (i k m n : ℕ) (p q : Place) → IsStep i k m p → IsStep i k n q
     → are_joined p q ≡ true → n ≤ m + 1
 step_near i k m n p q s t linked = elim (cases_lt i m) [
   | inr low ↦ elim (cases_lt i n) [
-    | inr below ↦
-        (down_down i k m i k n (joined_at p q _ _ (s.down low) (t.down below) linked)).next
+    | inr below ↦ (down_down i k m i k n (joined_at p q _ _ (s.down low) (t.down below) linked)).next
     | inl above ↦
-        let met =
-        down_along i k m i k (n - 1) (joined_at p q _ _ (s.down low) (t.along above) linked) in
+        let met = down_along i k m i k (n - 1) (joined_at p q _ _ (s.down low) (t.along above) linked) in
         omega (arith, met.0, met.1)
   ]
   | inl high ↦ elim (cases_lt i n) [
     | inr below ↦ omega (arith, high, below)
     | inl above ↦
-        let line =
-        along_along i k (m - 1) i k (n - 1)
-        (joined_at p q _ _ (s.along high) (t.along above) linked) in
-        omega (arith, line.next, high)
+        let both = joined_at p q _ _ (s.along high) (t.along above) linked in
+        omega (arith, (along_along i k (m - 1) i k (n - 1) both).next, high)
   ]
 ]
 
 -- each step has a place of its own
 step_once : (i k m n : ℕ) (p : Place) → IsStep i k m p → IsStep i k n p → m ≡ n
-step_once i k m n p s t = elim (cases_lt i m) [
-  | inr low ↦ elim (cases_lt i n) [
-    | inr below ↦ ap (λ (r : Place). r.row) (sym (s.down low) ∙ t.down below)
-    | inl above ↦
-        absurd (omega (arith, ap (λ (r : Place). r.side) (sym (s.down low) ∙ t.along above)))
-  ]
-  | inl high ↦ elim (cases_lt i n) [
-    | inr below ↦
-        absurd (omega (arith, ap (λ (r : Place). r.side) (sym (s.along high) ∙ t.down below)))
-    | inl above ↦
-        omega (arith, high, above, ap (λ (r : Place). r.col) (sym (s.along high) ∙ t.along above))
-  ]
-]
+step_once i k m n p s t =
+    let here = s.down in
+    let there = s.along in
+    let this = t.down in
+    let that = t.along in
+    grind (arith, nat_tests)
 
 pub clique_path : (graph : Chimera) (i k : ℕ) → i < diagonal_of graph → k < graph.shore
     → IsPath (λ a b. are_joined (place_of graph a) (place_of graph b)) (path_of graph i k)
-clique_path graph i k cell at = record {
-  linked = λ j below.
-      step_on i k j _ _ (step_at graph i k j cell at (omega (arith, below)))
-      (step_at graph i k (j + 1) cell at below);
-  near = λ j m low high linked.
-      step_near i k j m _ _ (step_at graph i k j cell at low) (step_at graph i k m cell at high)
-      linked;
-  once = λ j m low high same.
-      step_once i k j m _ (step_at graph i k j cell at low)
-      (subst (λ q. IsStep i k m (place_of graph q)) (sym same) (step_at graph i k m cell at high));
-}
+clique_path graph i k cell at =
+    let step = λ (j : ℕ) (low : j < length (path_of graph i k)). step_at graph i k j cell at low in
+    record {
+      linked = λ j below. step_on i k j _ _ (step j (omega (arith, below))) (step (j + 1) below);
+      near = λ j m low high linked. step_near i k j m _ _ (step j low) (step m high) linked;
+      once = λ j m low high same. step_once i k j m _ (step j low) (rw same (step m high));
+    }

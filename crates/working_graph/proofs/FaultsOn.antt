@@ -1,16 +1,6 @@
 -- From the faults on the joins to those on the working graph.
-use Rattle.std.proofs.Common.{◌≡◌, ℕ, ◌<◌, true, List, length, arith}
-use Rattle.std.proofs.lemmas.Bool.Decides.{nat_tests}
-use Rattle.ising_form.specs.Isings.{IsingContent}
-use Rattle.chimera_graph.specs.Graph.{qubits_of}
-use Rattle.chain_map.specs.declared.faults.EmbedFault.{EmbedFault}
+use Rattle.working_graph.proofs.Common.{◌≡◌, ℕ, ◌<◌, true, List, length, arith, nat_tests, IsingContent, qubits_of, EmbedFault, chain_of, IsFault, IsInside, IsApart, IsLinked, Exists, all_of_places, fault_among_invalid, Fabric, AllExist, IsValidOn, WorkingGraph, exists_in, ExistsAt, IsFaultOn}
 use Rattle.chain_map.specs.declared.faults.EmbedFault.TheVariants.{ChainCount, EmptyChain, NoSuchQubit, Repeated, Disconnected, NoCoupler, TooManyNodes}
-use Rattle.chain_map.specs.Chains.{chain_of}
-use Rattle.embedding_check.specs.Faults.{IsFault, IsInside, IsApart, IsLinked, Exists}
-use Rattle.embedding_check.proofs.Faulty.{all_of_places, fault_among_invalid}
-use Rattle.working_graph.specs.Fabrics.{Fabric, AllExist, IsValidOn}
-use Rattle.working_graph.specs.Working.{WorkingGraph, exists_in}
-use Rattle.working_graph.specs.Faults.{ExistsAt, IsFaultOn}
 
 -- a qubit of the working graph is one of the graph
 pub exists_below : (w : WorkingGraph) (q : ℕ) → exists_in w q ≡ true → q < qubits_of w.graph

@@ -1,23 +1,7 @@
 -- Which place may be taken next, by what the code asks.
-use Rattle.std.proofs.Common.{◌≡◌, ℕ, suc, ◌+◌, ◌-◌, ◌*◌, ◌/◌, ◌%◌, ◌<◌, ◌≤◌, ◌^◌, ◌==◌, inl, inr, Bool, true, false, not, ◌&&◌, ◌||◌, List, [], ◌∷◌, ◌++◌, length, map, take, set, min, max, if◌then◌else◌, get_or, refl, sym, ap, subst, ◌∙◌, arith, mod-lt}
-use Rattle.std.specs.List.{list_all}
-use Rattle.std.proofs.lemmas.Bool.{cases_eq, eqb-true}
-use Rattle.std.proofs.lemmas.List.Folds.{list_all_at, list_any-append}
-use Rattle.std.proofs.lemmas.List.{get_or-set_same, get_or-set_other, length-map, length-take, map-append, take_all}
-use Rattle.std.proofs.lemmas.Nat.{mul-add-lt, div-add-mod'}
-use Rattle.bits_model.specs.Walks.{is_in}
-use Rattle.chimera_graph.specs.declared.chimera.Chimera.{Chimera}
-use Rattle.chimera_graph.proofs.Numbering.{index_below}
-use Rattle.chain_map.specs.Chains.{Joins}
-use Rattle.chain_map.proofs.CliqueChains.{cell_of}
-use Rattle.chain_map.specs.Cliques.{diagonal_of, clique_places, down_qubit, along_qubit, clique_chain}
-use Rattle.embedding_check.proofs.Sorting.{same_test, is_in_at, at_of_in}
-use Rattle.working_graph.specs.Fabrics.{Fabric}
-use Rattle.working_graph.specs.Working.{WorkingGraph, joined_in, fabric_of}
-use Rattle.working_graph.specs.Index.{pair_number, has_pair, AreRising}
-use Rattle.working_graph.specs.Places.{first_across, is_cut, AreTaken, AreMarked, IsParted, are_linked, are_coupled, is_whole, is_free, is_marked, taken_next, taken_of, taken_places, working_clique}
+use Rattle.working_graph.proofs.Common.{nat_tests, ◌≡◌, ℕ, suc, ◌+◌, ◌-◌, ◌*◌, ◌/◌, ◌%◌, ◌<◌, ◌≤◌, ◌^◌, ◌==◌, Bool, true, false, not, ◌&&◌, ◌||◌, List, [], ◌∷◌, ◌++◌, length, map, take, set, min, max, get_or, refl, sym, ap, ◌∙◌, arith, mod-lt, list_all, cases_eq, eqb-true, list_all_at, list_any-append, get_or-set_same, get_or-set_other, length-map, length-take, map-append, take_all, mul-add-lt, div-add-mod', is_in, Chimera, index_below, Joins, cell_of, diagonal_of, clique_places, down_qubit, along_qubit, clique_chain, is_in_at, at_of_in, Fabric, WorkingGraph, joined_in, fabric_of, pair_number, has_pair, AreRising, first_across, is_cut, AreTaken, AreMarked, IsParted, are_linked, are_coupled, is_whole, is_free, is_marked, taken_next, taken_of, taken_places, working_clique}
 use Rattle.working_graph.proofs.TakenPlaces.{taken_front}
-use Rattle.working_graph.proofs.Pairs.{is_other, number_of_ordered}
+use Rattle.working_graph.proofs.Pairs.{number_of_ordered}
 use Rattle.working_graph.proofs.WorkingCliques.{any_of}
 use Rattle.working_graph.proofs.Barriers.{HasPassed, passed_all}
 use Rattle.working_graph.proofs.Meetings.{unparted_coupled, parted_uncoupled}
@@ -25,8 +9,7 @@ use Rattle.working_graph.proofs.Meetings.{unparted_coupled, parted_uncoupled}
 -- ---- tests of lists
 
 pub false_unless : (b : Bool) → (b ≡ true → ⊥) → b ≡ false
-false_unless true never = absurd (never refl)
-false_unless false never = refl
+false_unless b never = grind (arith, nat_tests)
 
 pub all_from : (p : ℕ → Bool) (xs : List ℕ)
     → ((i : ℕ) → i < length xs → p (get_or xs i 0) ≡ true) → list_all p xs ≡ true
@@ -47,13 +30,10 @@ pub pair_before : (joined : Joins) (xs : List ℕ) (k : ℕ) → 1 ≤ k
     → ((j : ℕ) → suc j < k → joined (get_or xs j 0) (get_or xs (suc j) 0) ≡ true)
     → joined (get_or xs (k - 1) 0) (get_or xs k 0) ≡ true
     → (j : ℕ) → suc j < k + 1 → joined (get_or xs j 0) (get_or xs (suc j) 0) ≡ true
-pair_before joined xs k some before here j low = elim (cases_eq (suc j) k) [
-  | inl e ↦
-      let first : k - 1 ≡ j = omega (arith, e, some) in
-      subst (λ n. joined (get_or xs j 0) (get_or xs n 0) ≡ true) (sym e)
-      (subst (λ n. joined (get_or xs n 0) (get_or xs k 0) ≡ true) first here)
-  | inr e ↦ before j (omega (arith, low, e))
-]
+pair_before joined xs k some before here j low =
+    let old = before j in
+    let last : suc (k - 1) ≡ k = omega arith in
+    grind (arith, nat_tests, cases_eq (suc j) k)
 
 -- ---- a place
 
@@ -84,10 +64,9 @@ free_when : (w : WorkingGraph) (marks : List Bool) (place : ℕ) (xs : List ℕ)
 free_when w marks place xs true below found none whole marked taken =
     let bar = found refl in
     let at = at_of_in xs bar.0 (sym (marked bar.0) ∙ bar.1) in
-    let before : bar.0 < place = subst (λ u. u < place) at.2 (taken.below at.0 at.1) in
+    let before : bar.0 < place = rw at.2 at (taken.below at.0 at.1) in
     let apart = false_unless _ (parted_uncoupled w bar.0 place before below bar.2) in
-    sym (list_all_at (meets w place) xs at.0 0 at.1
-    (subst (λ u. meets w place u ≡ false) (sym at.2) apart))
+    sym (list_all_at (meets w place) xs at.0 0 at.1 (rw at.2 apart))
 free_when w marks place xs false below found none whole marked taken =
     sym (all_from (meets w place) xs (λ i low.
     let u = get_or xs i 0 in
@@ -106,57 +85,34 @@ free_by w marks place xs b below found none whole marked taken =
 
 -- ---- marks
 
-or_true : (b : Bool) → (b || (true || false)) ≡ true
-or_true true = refl
-or_true false = refl
-
-or_false : (b : Bool) → (b || (false || false)) ≡ b
-or_false true = refl
-or_false false = refl
-
 listed_more : (xs : List ℕ) (v u : ℕ) → is_in (xs ++ v ∷ []) u ≡ (is_in xs u || ((v == u) || false))
 listed_more xs v u = list_any-append (λ p. p == u) xs (v ∷ [])
 
 -- a mark more, for a place more
 pub mark_more : (marks : List Bool) (xs : List ℕ) (v : ℕ) → v < length marks → AreMarked marks xs
     → AreMarked (set marks v true) (xs ++ v ∷ [])
-mark_more marks xs v low marked u = elim (cases_eq v u) [
-  | inl e ↦
-      subst (λ n. is_marked (set marks v true) n ≡ is_in (xs ++ v ∷ []) n) e
-      (get_or-set_same marks v true false low
-      ∙ sym (listed_more xs v v ∙ (λ i. is_in xs v || (same_test v v refl i || false))
-      ∙ or_true (is_in xs v)))
-  | inr e ↦
-      get_or-set_other marks v u true false (λ same. e (sym same))
-      ∙ marked u
-      ∙ sym (listed_more xs v u ∙ (λ i. is_in xs u || (is_other v u e i || false))
-      ∙ or_false (is_in xs u))
-]
+mark_more marks xs v low marked u =
+    let all = listed_more xs v u in
+    let old = marked u in
+    let same = get_or-set_same marks v true false low in
+    let other = get_or-set_other marks v u true false in
+    grind (arith, nat_tests, cases_eq v u)
 
 -- ---- the next place
 
 next_of : (fabric : Fabric) (chain : ℕ → List ℕ) (n : ℕ)
     → taken_of fabric chain (n + 1) ≡ taken_next fabric chain (taken_of fabric chain n) n
-next_of fabric chain n = ap (taken_of fabric chain) (step n)
-  where
-    step : (n : ℕ) → n + 1 ≡ suc n
-    step n = omega arith
+next_of fabric chain n = let next : n + 1 ≡ suc n = omega arith in rw next refl
 
 pub next_free : (fabric : Fabric) (chain : ℕ → List ℕ) (n : ℕ) (xs : List ℕ)
     → xs ≡ taken_of fabric chain n
     → is_free fabric chain xs n ≡ true → xs ++ n ∷ [] ≡ taken_of fabric chain (n + 1)
-next_free fabric chain n xs same free =
-    sym (next_of fabric chain n
-    ∙ ap (λ ys. taken_next fabric chain ys n) (sym same)
-    ∙ ap (λ b. if b then xs ++ n ∷ [] else xs) free)
+next_free fabric chain n xs same free = let next = next_of fabric chain n in rw (next, ← same, free) refl
 
 pub next_barred : (fabric : Fabric) (chain : ℕ → List ℕ) (n : ℕ) (xs : List ℕ)
     → xs ≡ taken_of fabric chain n
     → is_free fabric chain xs n ≡ false → xs ≡ taken_of fabric chain (n + 1)
-next_barred fabric chain n xs same barred =
-    sym (next_of fabric chain n
-    ∙ ap (λ ys. taken_next fabric chain ys n) (sym same)
-    ∙ ap (λ b. if b then xs ++ n ∷ [] else xs) barred)
+next_barred fabric chain n xs same barred = let next = next_of fabric chain n in rw (next, ← same, barred) refl
 
 -- ---- dead couplers of one row
 
@@ -179,44 +135,28 @@ unbarred w place row k cuts from marks below high said is_from rising inv done u
     let a = down_qubit w.graph (place / T) (place % T) (u / T) in
     let b = along_qubit w.graph (u / T) (u % T) (place / T) in
     let cell = cell_of w.graph place below in
+    let row_below : u / T < w.graph.rows = omega (arith, e, high, cell) in
+    let col_below : place / T < w.graph.cols = omega (arith, cell) in
     let low_a = index_below w.graph (record { row = u / T; col = place / T; side = 0; at = place % T })
-    (record {
-      row_below = omega (arith, e, high, cell);
-      col_below = omega (arith, cell);
-      side_below = omega arith;
-      at_below = mod-lt place some;
-    }) in
+    (record { row_below = row_below; col_below = col_below; side_below = omega arith; at_below = mod-lt place some }) in
     let low_b = index_below w.graph (record { row = u / T; col = place / T; side = 1; at = u % T })
-    (record {
-      row_below = omega (arith, e, high, cell);
-      col_below = omega (arith, cell);
-      side_below = omega arith;
-      at_below = mod-lt u some;
-    }) in
-    let listed = said a b (omega (arith, low_a, w.graph.shape.few)) (omega
-    (arith, low_b, w.graph.shape.few)) in
+    (record { row_below = row_below; col_below = col_below; side_below = omega arith; at_below = mod-lt u some }) in
+    let listed = said a b (omega (arith, low_a, w.graph.shape.few)) (omega (arith, low_b, w.graph.shape.few)) in
     let found = any_of (λ n. n == pair_number (min a b) (max a b)) cuts (listed ∙ parted.down) in
     let at = at_of_in cuts found.0 found.1 in
     let order : a ≤ b = omega (arith, mod-lt place some) in
-    let number : found.0 ≡ pair_number a b = eqb-true found.0 _ found.2
-    ∙ number_of_ordered a b order in
-    let start : from ≡ first_across w.graph place (u / T) =
-    is_from ∙ ap (first_across w.graph place) (sym e) in
-    let again : row * T + u % T ≡ u = ap (λ r. r * T + u % T) (sym e) ∙ div-add-mod' u T in
+    let number = eqb-true found.0 _ found.2 ∙ number_of_ordered a b order in
+    let start : from ≡ first_across w.graph place (u / T) = rw e is_from in
+    let again : row * T + u % T ≡ u = rw (← e) (div-add-mod' u T) in
     passed_all cuts from k T (BarsIn w marks place row) rising inv done at.0 (u % T) at.1
-    (mod-lt u some) (omega (arith, at.2, number, start)) (
-      subst (λ v. is_marked marks v ≡ true) (sym again) marked,
-      subst (IsParted w place)
-          (sym again) parted,
-    )
+    (mod-lt u some) (omega (arith, at.2, number, start)) (rw again marked, rw again parted)
 
 -- ---- the chains of the taken places
 
 -- the chain of a place more
 pub more_chains : (F : ℕ → List ℕ) (xs ys : List ℕ) (v : ℕ) (m : List (List ℕ)) (c : List ℕ)
     → m ≡ map F xs → c ≡ F v → xs ++ v ∷ [] ≡ ys → m ++ c ∷ [] ≡ map F ys
-more_chains F xs ys v m c same here more =
-    (λ i. same i ++ here i ∷ []) ∙ sym (map-append F xs (v ∷ [])) ∙ ap (map F) more
+more_chains F xs ys v m c same here more = rw (same, here, ← more) (sym (map-append F xs (v ∷ [])))
 
 -- the chains of so many places, once so many are taken
 pub chains_front : (w : WorkingGraph) (n nodes : ℕ) (m : List (List ℕ))
@@ -226,10 +166,8 @@ pub chains_front : (w : WorkingGraph) (n nodes : ℕ) (m : List (List ℕ))
 chains_front w n nodes m low same len =
     let F = clique_chain w.graph in
     let xs = taken_of (fabric_of w) F n in
-    let count : length xs ≡ nodes =
-    sym (length-map xs F) ∙ sym (ap (λ (cs : List (List ℕ)). length cs) same) ∙ len in
-    same ∙ ap (map F) (taken_front (fabric_of w) F n
-    (clique_places w.graph) nodes xs low refl count)
+    let count : length xs ≡ nodes = sym (length-map xs F) ∙ sym (ap (λ (cs : List (List ℕ)). length cs) same) ∙ len in
+    same ∙ ap (map F) (taken_front (fabric_of w) F n (clique_places w.graph) nodes xs low refl count)
 
 -- the chains of all places that are taken, where they are few
 pub chains_all : (w : WorkingGraph) (n nodes : ℕ) (m : List (List ℕ)) → n ≡ clique_places w.graph

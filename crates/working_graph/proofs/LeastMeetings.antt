@@ -3,23 +3,9 @@
 -- Two chains have different lines, so that they meet in cells alone: where the later one goes down
 -- its column through the row of the earlier one. Only in one cell of the diagonal the earlier one
 -- also goes down through the row of the later one, and there it stands before it.
-use Rattle.std.proofs.Common.{◌≡◌, ℕ, ◌+◌, ◌-◌, ◌<◌, ◌≤◌, ◌⊎◌, inl, inr, Bool, true, false, ◌&&◌, ◌||◌, List, refl, sym, ap, ◌∙◌, arith}
-use Rattle.std.proofs.lemmas.Bool.{cases_lt, or_cases}
-use Rattle.bits_model.specs.Walks.{is_in}
-use Rattle.chimera_graph.specs.declared.chimera.Chimera.{Chimera}
-use Rattle.chimera_graph.specs.declared.place.Place.{Place}
-use Rattle.chimera_graph.specs.Graph.{index_of, place_of}
-use Rattle.chimera_graph.specs.Places.{are_joined}
-use Rattle.chimera_graph.specs.laws.Joins.{are_joined-comm}
-use Rattle.chimera_graph.proofs.Numbering.{number_again}
-use Rattle.chain_map.specs.Chains.{Joins}
-use Rattle.chain_map.specs.Valid.{IsCrossing}
-use Rattle.chain_map.specs.Cliques.{diagonal_of, down_qubit, along_qubit, path_of}
+use Rattle.working_graph.proofs.Common.{nat_tests, ◌≡◌, ℕ, ◌+◌, ◌-◌, ◌<◌, ◌≤◌, ◌⊎◌, inl, inr, Bool, true, ◌&&◌, ◌||◌, List, refl, sym, ap, ◌∙◌, arith, cases_lt, or_cases, is_in, Chimera, Place, index_of, place_of, are_joined, are_joined-comm, number_again, Joins, IsCrossing, diagonal_of, down_qubit, along_qubit, path_of, IsBefore, IsPlace, down_place, along_place, place_again, down_in, along_in, path_len, path_down, path_along, cell_joined, joined_on}
 use Rattle.chain_map.proofs.Paths.{is_in_at}
-use Rattle.embedding_check.specs.Checked.{IsBefore, IsPlace}
-use Rattle.chain_map.proofs.CliqueChains.{down_place, along_place, place_again, down_in, along_in, path_len, path_down, path_along, cell_joined}
 use Rattle.working_graph.proofs.CliquePaths.{IsStep, step_of, joined_at, down_down, along_along, down_along, along_down}
-use Rattle.working_graph.specs.CliquePlaces.{joined_on}
 
 -- ---- where two chains meet
 
@@ -42,32 +28,17 @@ meets i k j l m n p q before apart s t linked = elim (cases_lt i m) [
         let line = down_down i k m j l n (joined_at p q _ _ (s.down low) (t.down below) linked) in
         absurd (omega (arith, apart line.line, line.at))
     | inl above ↦
-        let met =
-        down_along i k m j l (n - 1) (joined_at p q _ _ (s.down low) (t.along above) linked) in
+        let met = down_along i k m j l (n - 1) (joined_at p q _ _ (s.down low) (t.along above) linked) in
         let row : m ≡ i = omega (arith, met.0, low, before) in
         let col : n - 1 ≡ j = omega (arith, met.0, met.1, low, before) in
-        let earlier : MeetsEarlier i k j l p q =
-        record {
-          cell = omega (arith, met.0, low, before);
-          first = s.down low ∙ ap (down_place i k) row;
-          second = t.along above ∙ ap (along_place j l) col;
-        } in
-        inr earlier
+        inr (record { cell = omega (arith, met.0, low, before); first = rw row at (s.down low); second = rw col at (t.along above) })
   ]
   | inl high ↦ elim (cases_lt j n) [
     | inr below ↦
-        let met =
-        along_down i k (m - 1) j l n (joined_at p q _ _ (s.along high) (t.down below) linked) in
-        let later : MeetsLater i k j l p q =
-        record {
-          first = s.along high ∙ ap (along_place i k) met.1;
-          second = t.down below ∙ ap (down_place j l) met.0;
-        } in
-        inl later
+        let met = along_down i k (m - 1) j l n (joined_at p q _ _ (s.along high) (t.down below) linked) in
+        inl (record { first = rw met.1 at (s.along high); second = rw met.0 at (t.down below) })
     | inl above ↦
-        let line =
-        along_along i k (m - 1) j l (n - 1)
-        (joined_at p q _ _ (s.along high) (t.along above) linked) in
+        let line = along_along i k (m - 1) j l (n - 1) (joined_at p q _ _ (s.along high) (t.along above) linked) in
         absurd (omega (arith, apart line.line, line.at))
   ]
 ]
@@ -84,8 +55,7 @@ side_before graph i j k l at = omega (arith, at)
 -- ---- the ends of a crossing
 
 both_true : (x y : Bool) → (x && y) ≡ true → (x ≡ true) × (y ≡ true)
-both_true true y both = (refl, both)
-both_true false y both = absurd cc
+both_true x y both = grind (arith, nat_tests)
 
 -- two qubits are a pair, in one order or the other
 abbrev AreEnds : ℕ × ℕ → ℕ → ℕ → Type 0
@@ -101,48 +71,27 @@ record HasEnds (joined : Joins) (c d : List ℕ) (pair : ℕ × ℕ) (a b : ℕ)
 ends_of : (graph : Chimera) (c d : List ℕ) (pair : ℕ × ℕ) → IsCrossing (joined_on graph) c d pair
     → (a : ℕ) × (b : ℕ) × HasEnds (joined_on graph) c d pair a b
 ends_of graph c d pair crossing =
-    let one = is_in c pair.0 && is_in d pair.1 in
-    let other = is_in d pair.0 && is_in c pair.1 in
-    elim (or_cases one other crossing.between.ends) [
+    let back = are_joined-comm (place_of graph pair.1) (place_of graph pair.0) in
+    elim (or_cases (is_in c pair.0 && is_in d pair.1) (is_in d pair.0 && is_in c pair.1) crossing.between.ends) [
       | inl ends ↦
-          let both = both_true (is_in c pair.0) (is_in d pair.1) ends in (
-            pair.0,
-            pair.1,
-            record {
-              first = both.0;
-              second = both.1;
-              linked = crossing.linked;
-              ordered = inl (refl, refl);
-            },
-          )
+          let both = both_true (is_in c pair.0) (is_in d pair.1) ends in
+          (pair.0, pair.1, record { first = both.0; second = both.1; linked = crossing.linked; ordered = inl (refl, refl) })
       | inr ends ↦
-          let both = both_true (is_in d pair.0) (is_in c pair.1) ends in (
-            pair.1,
-            pair.0,
-            record {
-              first = both.1;
-              second = both.0;
-              linked = are_joined-comm (place_of graph pair.1) (place_of graph pair.0)
-                  ∙ crossing.linked;
-              ordered = inr (refl, refl);
-            },
-          )
+          let both = both_true (is_in d pair.0) (is_in c pair.1) ends in
+          (pair.1, pair.0, record { first = both.1; second = both.0; linked = back ∙ crossing.linked; ordered = inr (refl, refl) })
     ]
 
 -- a pair whose lesser qubit is before both ends, or that has these ends
 before_both : (x y a b : ℕ) (pair : ℕ × ℕ) → AreEnds pair a b → x < a → x < b
     → IsBefore (x, y) pair
-before_both x y a b pair (inl e) low low' = inl (omega (arith, e.0, low))
-before_both x y a b pair (inr e) low low' = inl (omega (arith, e.0, low'))
+before_both x y a b pair e low low' = grind (arith, nat_tests)
 
 before_same : (x y a b : ℕ) (pair : ℕ × ℕ) → AreEnds pair a b → a ≡ x → b ≡ y → x < y
     → IsBefore (x, y) pair
-before_same x y a b pair (inl e) f g low = inr (omega (arith, e.0, f), omega (arith, e.1, g))
-before_same x y a b pair (inr e) f g low = inl (omega (arith, e.0, g, low))
+before_same x y a b pair e f g low = grind (arith, nat_tests)
 
 swapped : (a b : ℕ) (pair : ℕ × ℕ) → AreEnds pair a b → AreEnds pair b a
-swapped a b pair (inl e) = inr e
-swapped a b pair (inr e) = inl e
+swapped a b pair e = grind (arith, nat_tests)
 
 -- ---- the place
 
@@ -150,8 +99,7 @@ left_end : (p q r : Bool) → p ≡ true → q ≡ true → ((p && q) || r) ≡ 
 left_end p q r e f = rw (e, f) refl
 
 right_end : (p q r : Bool) → q ≡ true → r ≡ true → (p || (q && r)) ≡ true
-right_end true q r e f = refl
-right_end false q r e f = rw (e, f) refl
+right_end p q r e f = grind (arith, nat_tests)
 
 down_listed : (graph : Chimera) (i k m : ℕ) → i < diagonal_of graph → m ≤ i
     → is_in (path_of graph i k) (down_qubit graph i k m) ≡ true
@@ -179,18 +127,13 @@ pub same_cell : (graph : Chimera) (i k l : ℕ) → i < diagonal_of graph → k 
     → IsPlace (joined_on graph) (path_of graph i k) (path_of graph i l)
     (down_qubit graph i k i, along_qubit graph i l i)
 same_cell graph i k l cell less at =
-    let x = down_qubit graph i k i in
-    let y = along_qubit graph i l i in
     let at' : k < graph.shore = omega (arith, less, at) in
     let here : i ≤ i = omega arith in
-    let up : x < y = side_before graph i i l k at' in
+    let up = side_before graph i i l k at' in
+    let ends = left_end _ _ _ (down_listed graph i k i cell here) (along_listed graph i l i cell here cell) in
     record {
       crossing = record {
-        between = record {
-          upward = up;
-          ends = left_end _ _ _ (down_listed graph i k i cell here)
-              (along_listed graph i l i cell here cell);
-        };
+        between = record { upward = up; ends = ends };
         linked = joined_in_cell graph i i l k here cell at at';
       };
       least = λ pair crossing.
@@ -199,13 +142,12 @@ same_cell graph i k l cell less at =
           let t = step_of graph i l ends.1 cell at ends.2.second in
           elim (meets i k i l s.0 t.0 _ _ here (λ _. less) s.2 t.2 ends.2.linked) [
             | inl later ↦
-                let a : ends.0 ≡ along_qubit graph i k i = numbered graph ends.0 _ later.first in
-                let b : ends.1 ≡ down_qubit graph i l i = numbered graph ends.1 _ later.second in
-                let under : x < along_qubit graph i k i = side_before graph i i k k at' in
-                before_both x y ends.0 ends.1 pair ends.2.ordered (omega (arith, a, under))
-                (omega (arith, b, less))
+                let a = numbered graph ends.0 _ later.first in
+                let b = numbered graph ends.1 _ later.second in
+                before_both _ _ ends.0 ends.1 pair ends.2.ordered
+                (omega (arith, a, side_before graph i i k k at')) (omega (arith, b, less))
             | inr earlier ↦
-                before_same x y ends.0 ends.1 pair ends.2.ordered
+                before_same _ _ ends.0 ends.1 pair ends.2.ordered
                 (numbered graph ends.0 _ earlier.first) (numbered graph ends.1 _ earlier.second) up
           ];
     }
@@ -216,29 +158,23 @@ pub other_cell : (graph : Chimera) (i k j l : ℕ) → i < j → j < diagonal_of
     → IsPlace (joined_on graph) (path_of graph i k) (path_of graph j l)
     (down_qubit graph j l i, along_qubit graph i k j)
 other_cell graph i k j l before cell at at' =
-    let x = down_qubit graph j l i in
-    let y = along_qubit graph i k j in
     let first : i < diagonal_of graph = omega (arith, before, cell) in
     let order : i ≤ j = omega (arith, before) in
-    let up : x < y = side_before graph i j k l at' in
+    let ends = right_end _ _ _ (down_listed graph j l i cell order) (along_listed graph i k j first order cell) in
     record {
       crossing = record {
-        between = record {
-          upward = up;
-          ends = right_end _ _ _ (down_listed graph j l i cell order)
-              (along_listed graph i k j first order cell);
-        };
+        between = record { upward = side_before graph i j k l at'; ends = ends };
         linked = joined_in_cell graph i j k l order cell at at';
       };
       least = λ pair crossing.
           let ends = ends_of graph (path_of graph i k) (path_of graph j l) pair crossing in
           let s = step_of graph i k ends.0 first at ends.2.first in
           let t = step_of graph j l ends.1 cell at' ends.2.second in
-          let apart : i ≡ j → k < l = λ same. absurd (omega (arith, same, before)) in
-          elim (meets i k j l s.0 t.0 _ _ order apart s.2 t.2 ends.2.linked) [
+          let none = λ (same : i ≡ j). absurd (omega (arith, same, before)) in
+          elim (meets i k j l s.0 t.0 _ _ order none s.2 t.2 ends.2.linked) [
             | inl later ↦
-                before_same x y ends.1 ends.0 pair (swapped ends.0 ends.1 pair ends.2.ordered)
-                (numbered graph ends.1 _ later.second) (numbered graph ends.0 _ later.first) up
+                before_same _ _ ends.1 ends.0 pair (swapped ends.0 ends.1 pair ends.2.ordered)
+                (numbered graph ends.1 _ later.second) (numbered graph ends.0 _ later.first) (side_before graph i j k l at')
             | inr earlier ↦ absurd (omega (arith, earlier.cell, before))
           ];
     }

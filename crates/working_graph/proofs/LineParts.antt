@@ -1,20 +1,8 @@
 -- The part that a line names, by the words that stand on it.
-use Rattle.std.proofs.Common.{◌≡◌, ℕ, ◌+◌, ◌<◌, ◌≤◌, not, List, [], ◌∷◌, length, map, take, Ok, Err, refl, ap, ◌∙◌}
-use Rattle.std.specs.Prelude.{Result}
-use Rattle.std.specs.List.{slice_range, position_or_len}
+use Rattle.working_graph.proofs.Common.{◌≡◌, ℕ, ◌+◌, ◌<◌, ◌≤◌, not, List, [], ◌∷◌, length, map, take, Ok, Err, refl, ap, ◌∙◌, Result, slice_range, position_or_len, TextFault, Word, word, words, is_blank, tokens_of_line, ◌>>=◌, fault, words_none, skipped, row_of, slice_none, first_word, Chimera, DeadPart, qubit_at, joined_at, rest_at, part_at, parts_of_words}
 use Rattle.whole_text.specs.declared.faults.TextKind.TheVariants as kinds
-use Rattle.whole_text.specs.declared.faults.TextFault.{TextFault}
 use Rattle.whole_text.specs.declared.token.Style.TheVariants.{Plain}
-use Rattle.whole_text.specs.Tokens.{Word, word, words, is_blank, tokens_of_line}
-use Rattle.whole_text.specs.Steps.{◌>>=◌, fault}
-use Rattle.whole_text.proofs.LineWords.{words_none, skipped}
-use Rattle.whole_text.proofs.Rows.{row_of}
-use Rattle.whole_text.proofs.Slices.{slice_none}
-use Rattle.chain_map.proofs.LineNumbers.{first_word}
-use Rattle.chimera_graph.specs.declared.chimera.Chimera.{Chimera}
-use Rattle.working_graph.specs.declared.parts.DeadPart.{DeadPart}
 use Rattle.working_graph.specs.declared.parts.DeadPart.TheVariants.{Qubit, Coupler}
-use Rattle.working_graph.specs.DeadLists.{qubit_at, joined_at, rest_at, part_at, parts_of_words}
 use Rattle.working_graph.proofs.PartRows.{line_says}
 
 -- ---- words
@@ -34,11 +22,8 @@ pub none_left : (text : List ℕ) (a b n line : ℕ) → a ≤ b → b ≤ lengt
     → a + n ≡ b
     → all_of line text a b ≡ []
 none_left text a b n line ab le first end =
-    ap (map (word line))
-    ((skipped text a b n ab le first).0
-    ∙ ap (λ k. words (slice_range text k b)) end
-    ∙ ap words (slice_none text b)
-    ∙ words_none)
+    let skip = (skipped text a b n ab le first).0 in
+    cc (end, slice_none text b, words_none)
 
 -- blanks, and then a word
 pub some_left : (text : List ℕ) (a b n m line : ℕ) → a ≤ b → b ≤ length text
@@ -96,8 +81,7 @@ pub first_bad : (graph : Chimera) (n : ℕ) (line : List ℕ) (w : Word) (ws : L
     → parts_of_words graph (tokens_of_line Plain n line) ≡ Err f
 unfolding part_at
 first_bad graph n line w ws f said bad =
-    line_says graph n line w ws said
-    ∙ no_part (part_at graph (row_of w ws)) f (ap (λ r. r >>= λ a. rest_at graph a ws) bad)
+    line_says graph n line w ws said ∙ no_part (part_at graph (row_of w ws)) f (rw bad refl)
 
 -- and one that is, and what follows
 pub first_good : (graph : Chimera) (n a : ℕ) (line : List ℕ) (w : Word) (ws : List Word)
@@ -107,9 +91,7 @@ pub first_good : (graph : Chimera) (n a : ℕ) (line : List ℕ) (w : Word) (ws 
     → parts_of_words graph (tokens_of_line Plain n line) ≡ Ok (part ∷ [])
 unfolding part_at
 first_good graph n a line w ws part said good rest =
-    line_says graph n line w ws said
-    ∙ one_part (part_at graph (row_of w ws)) part
-    (ap (λ r. r >>= λ b. rest_at graph b ws) good ∙ rest)
+    cc (line_says graph n line w ws said, one_part (part_at graph (row_of w ws)) part (rw (good, rest) refl))
 
 pub follow_bad : (graph : Chimera) (n a : ℕ) (line : List ℕ) (w : Word) (ws : List Word)
     (f : TextFault) → tokens_of_line Plain n line ≡ w ∷ ws
@@ -118,6 +100,4 @@ pub follow_bad : (graph : Chimera) (n a : ℕ) (line : List ℕ) (w : Word) (ws 
     → parts_of_words graph (tokens_of_line Plain n line) ≡ Err f
 unfolding part_at
 follow_bad graph n a line w ws f said good rest =
-    line_says graph n line w ws said
-    ∙ no_part (part_at graph (row_of w ws)) f
-    (ap (λ r. r >>= λ b. rest_at graph b ws) good ∙ rest)
+    line_says graph n line w ws said ∙ no_part (part_at graph (row_of w ws)) f (rw (good, rest) refl)

@@ -1,11 +1,5 @@
 -- The rows of a text come line by line: the words of a line are a row, where it has words.
-use Rattle.std.proofs.Common.{◌≡◌, ℕ, ◌+◌, ◌<◌, ◌==◌, Bool, true, false, List, [], ◌∷◌, ◌++◌, map, refl, sym, ap, subst, ◌∙◌, arith}
-use Rattle.std.specs.Prelude.{if◌then◌else◌}
-use Rattle.whole_text.specs.declared.token.Style.{Style}
-use Rattle.whole_text.specs.Tokens.{Word, word, is_comment, pieces_of_line, tokens_of_line, tokens_from}
-use Rattle.whole_text.specs.Rows.{Row, onto_rows, by_line, on_line, past_line}
-use Rattle.whole_text.proofs.Rows.{row_of, by_line-first}
-use Rattle.embedding_check.proofs.Sorting.{same_test}
+use Rattle.working_graph.proofs.Common.{inr, inl, true_or_false, nat_tests, ◌≡◌, ℕ, ◌+◌, ◌<◌, ◌==◌, false, List, [], ◌∷◌, ◌++◌, map, refl, sym, ap, ◌∙◌, arith, Style, Word, word, is_comment, pieces_of_line, tokens_of_line, tokens_from, Row, onto_rows, by_line, row_of, by_line-first}
 use Rattle.working_graph.proofs.Pairs.{is_other}
 
 -- ---- the words of one line
@@ -14,23 +8,14 @@ use Rattle.working_graph.proofs.Pairs.{is_other}
 line_words : (style : Style) (n : ℕ) (line : List ℕ)
     → (bytes : List (List ℕ)) × (tokens_of_line style n line ≡ map (word n) bytes)
 unfolding tokens_of_line
-line_words style n line = go (is_comment style line)
-  where
-    go : (b : Bool)
-        → (bytes : List (List ℕ))
-        × ((if b then [] else map (word n) (pieces_of_line style line)) ≡ map (word n) bytes)
-    go true = ([], refl)
-    go false = (pieces_of_line style line, refl)
+line_words style n line = elim (true_or_false (is_comment style line)) [
+  | inl e ↦ ([], rw e refl)
+  | inr e ↦ (pieces_of_line style line, rw e refl)
+]
 
 onto_same : (w : Word) (r : Row) → r.first.line ≡ w.line
     → onto_rows w (r ∷ []) ≡ row_of w (r.first ∷ r.others) ∷ []
-onto_same w r same = go (r.first.line == w.line) (same_test r.first.line w.line same)
-  where
-    go : (b : Bool) → b ≡ true
-        → (if b then row_of w (r.first ∷ r.others) ∷ [] else row_of w [] ∷ r ∷ [])
-        ≡ row_of w (r.first ∷ r.others) ∷ []
-    go true e = refl
-    go false e = absurd cc
+onto_same w r same = grind (arith, nat_tests)
 
 same_row : (n : ℕ) (b : List ℕ) (bs : List (List ℕ))
     → by_line (map (word n) (b ∷ bs)) ≡ row_of (word n b) (map (word n) bs) ∷ []
@@ -49,10 +34,7 @@ one_row style n line w ws said =
   where
     go : (bytes : List (List ℕ)) → map (word n) bytes ≡ w ∷ ws → by_line (w ∷ ws) ≡ row_of w ws ∷ []
     go [] e = absurd cc
-    go (b ∷ bs) e =
-        let first : word n b ≡ w = cc in
-        let others : map (word n) bs ≡ ws = cc in
-        ap by_line (sym e) ∙ same_row n b bs ∙ (λ i. row_of (first i) (others i) ∷ [])
+    go (b ∷ bs) e = let row = same_row n b bs in cc
 
 -- ---- a line and those after it
 
@@ -72,39 +54,21 @@ unfolding tokens_from
 later_past style m n [] low = tt
 later_past style m n (line ∷ lines) low =
     let found = line_words style n line in
-    let rest = tokens_from style (n + 1) lines in
-    subst (λ ws. IsPast m (ws ++ rest)) (sym found.1)
-    (past_words m n found.0 rest low (later_past style m (n + 1) lines (omega (arith, low))))
+    rw found.1
+    (past_words m n found.0 (tokens_from style (n + 1) lines) low
+    (later_past style m (n + 1) lines (omega (arith, low))))
 
 onto_front : (w : Word) (r : Row) (rs others : List Row)
     → onto_rows w (r ∷ rs ++ others) ≡ onto_rows w (r ∷ rs) ++ others
-onto_front w r rs others = go (r.first.line == w.line)
-  where
-    go : (b : Bool)
-        → (if b then row_of w (r.first ∷ r.others) ∷ (rs ++ others)
-        else row_of w [] ∷ r ∷ (rs ++ others))
-        ≡ (if b then row_of w (r.first ∷ r.others) ∷ rs else row_of w [] ∷ r ∷ rs) ++ others
-    go true = refl
-    go false = refl
+onto_front w r rs others = grind (arith, nat_tests)
 
 onto_past : (n : ℕ) (w : Word) (ws : List Word) → w.line ≡ n → IsPast n ws
     → onto_rows w (by_line ws) ≡ row_of w [] ∷ by_line ws
 unfolding by_line
 onto_past n w [] here past = refl
 onto_past n w (v ∷ vs) here past =
-    ap (onto_rows w) first
-    ∙ go (v.line == w.line) (ap (λ m. v.line == m) here ∙ past)
-    ∙ ap (λ rs. row_of w [] ∷ rs) (sym first)
-  where
-    first : by_line (v ∷ vs) ≡ row_of v (on_line v.line vs) ∷ by_line (past_line v.line vs)
-    first = by_line-first v vs
-
-    go : (b : Bool) → b ≡ false
-        → (if b then row_of w (v ∷ on_line v.line vs) ∷ by_line (past_line v.line vs)
-        else row_of w [] ∷ row_of v (on_line v.line vs) ∷ by_line (past_line v.line vs))
-        ≡ row_of w [] ∷ row_of v (on_line v.line vs) ∷ by_line (past_line v.line vs)
-    go true e = absurd cc
-    go false e = refl
+    let first = by_line-first v vs in
+    grind (arith, nat_tests)
 
 rows_apart : (n : ℕ) (bytes : List (List ℕ)) (ws : List Word) → IsPast n ws
     → by_line (map (word n) bytes ++ ws) ≡ by_line (map (word n) bytes) ++ by_line ws
@@ -124,7 +88,6 @@ pub rows_of_lines : (style : Style) (n : ℕ) (line : List ℕ) (lines : List (L
 unfolding tokens_from
 rows_of_lines style n line lines =
     let found = line_words style n line in
-    let rest = tokens_from style (n + 1) lines in
-    ap (λ ws. by_line (ws ++ rest)) found.1
-    ∙ rows_apart n found.0 rest (later_past style n (n + 1) lines (omega arith))
-    ∙ ap (λ ws. by_line ws ++ by_line rest) (sym found.1)
+    let rest = rows_apart n found.0 (tokens_from style (n + 1) lines)
+    (later_past style n (n + 1) lines (omega arith)) in
+    cc (found.1)

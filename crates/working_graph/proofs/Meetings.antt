@@ -3,26 +3,7 @@
 -- A place goes down a column and on along a row. Of two places the later one goes down through the
 -- row of the earlier one; in one cell of the diagonal the earlier one goes down through that of the
 -- later one, too. Qubits of one kind are joined along a line, and no two places share one.
-use Rattle.std.proofs.Common.{◌≡◌, ℕ, ◌+◌, ◌-◌, ◌*◌, ◌/◌, ◌%◌, ◌<◌, ◌≤◌, ◌⊎◌, inl, inr, Bool, true, false, not, ◌&&◌, List, get_or, refl, sym, ap, subst, ◌∙◌, arith, mod-lt}
-use Rattle.std.specs.List.{list_any}
-use Rattle.std.proofs.lemmas.Bool.{cases_eq, cases_lt}
-use Rattle.std.proofs.lemmas.Bool.Decides.{nat_tests}
-use Rattle.std.proofs.lemmas.List.Folds.{list_any_at}
-use Rattle.std.proofs.lemmas.Nat.{div-add-mod'}
-use Rattle.std.proofs.Math.Nat.{min-le_left, min-le_right}
-use Rattle.bits_model.specs.Walks.{is_in}
-use Rattle.chimera_graph.specs.declared.chimera.Chimera.{Chimera}
-use Rattle.chimera_graph.specs.declared.place.Place.{Place}
-use Rattle.chimera_graph.specs.Graph.{IsPlaceIn, place_of, index_of}
-use Rattle.chimera_graph.specs.Places.{are_joined}
-use Rattle.chain_map.specs.Chains.{Joins}
-use Rattle.chain_map.specs.Cliques.{diagonal_of, clique_places, down_qubit, along_qubit, path_of, clique_chain}
-use Rattle.chain_map.proofs.CliqueChains.{down_place, along_place, place_again, down_in, along_in, path_len, path_down, path_along, cell_joined, cell_of, cells_rise}
-use Rattle.embedding_check.proofs.Sorting.{is_in_at, at_of_in}
-use Rattle.working_graph.specs.Fabrics.{Fabric}
-use Rattle.working_graph.specs.Working.{WorkingGraph, exists_in, joined_in, fabric_of}
-use Rattle.working_graph.specs.Places.{are_coupled, is_whole, is_cut, is_cut_at, IsParted}
-use Rattle.working_graph.specs.laws.WorkingJoins.{joined_in-comm, joined_in-plain}
+use Rattle.working_graph.proofs.Common.{true_or_false, ◌≡◌, ℕ, ◌+◌, ◌-◌, ◌*◌, ◌/◌, ◌%◌, ◌<◌, ◌≤◌, ◌⊎◌, inl, inr, Bool, true, false, not, ◌&&◌, List, refl, sym, ap, ◌∙◌, arith, mod-lt, list_any, cases_eq, cases_lt, nat_tests, list_any_at, div-add-mod', min-le_left, min-le_right, is_in, Chimera, Place, IsPlaceIn, place_of, index_of, are_joined, Joins, diagonal_of, clique_places, down_qubit, along_qubit, path_of, clique_chain, down_place, along_place, place_again, down_in, along_in, path_len, path_down, path_along, cell_joined, cell_of, cells_rise, is_in_at, at_of_in, Fabric, WorkingGraph, exists_in, joined_in, fabric_of, are_coupled, is_whole, is_cut, is_cut_at, IsParted, joined_in-comm, joined_in-plain}
 use Rattle.working_graph.proofs.WorkingCliques.{any_of, whole_exists}
 
 -- ---- the qubits of a place
@@ -44,14 +25,7 @@ on_path graph i k q cell inside =
           let next : col + 1 ≡ at.0 = omega (arith, high) in
           let below : col < diagonal_of graph = omega (arith, high, at.1, len) in
           let above : i ≤ col = omega (arith, high) in
-          inr (
-            col,
-            above,
-            below,
-            sym (path_along graph i k col above below)
-                ∙ ap (λ n. get_or (path_of graph i k) n 0) next
-                ∙ at.2,
-          )
+          inr (col, above, below, rw (← path_along graph i k col above below, next) at.2)
     ]
 
 pub in_down : (graph : Chimera) (i k r : ℕ) → i < diagonal_of graph → r ≤ i
@@ -95,10 +69,7 @@ along_down i j k l c r h =
 -- ---- joins of the working graph
 
 last_true : (j e f c : Bool) → (j && e && f && not c) ≡ true → c ≡ true → ⊥
-last_true true true true c h e = absurd cc
-last_true true true false c h e = absurd cc
-last_true true false f c h e = absurd cc
-last_true false e' f c h e = absurd cc
+last_true j e f c h is = grind (arith, nat_tests)
 
 not_cut : (w : WorkingGraph) (a b : ℕ) → joined_in w a b ≡ true → is_cut w a b ≡ true → ⊥
 not_cut w a b = last_true (are_joined (place_of w.graph a) (place_of w.graph b)) (exists_in w a)
@@ -124,8 +95,7 @@ left_joined w p q in_p in_q linked here there free =
 any_in : (p : ℕ → Bool) (xs : List ℕ) (q : ℕ) → is_in xs q ≡ true → p q ≡ true
     → list_any p xs ≡ true
 any_in p xs q inside test =
-    let at = at_of_in xs q inside in
-    list_any_at p xs at.0 0 at.1 (subst (λ n. p n ≡ true) (sym at.2) test)
+    let at = at_of_in xs q inside in list_any_at p xs at.0 0 at.1 (rw at.2 test)
 
 coupled_by : (joined : Joins) (c d : List ℕ) (a b : ℕ) → is_in c a ≡ true → is_in d b ≡ true
     → joined a b ≡ true
@@ -136,8 +106,7 @@ coupled_by joined c d a b in_c in_d linked =
 exists_of : (fabric : Fabric) (xs : List ℕ) (q : ℕ) → is_whole fabric xs ≡ true
     → is_in xs q ≡ true → fabric.exists q ≡ true
 exists_of fabric xs q whole inside =
-    let at = at_of_in xs q inside in
-    subst (λ n. fabric.exists n ≡ true) at.2 (whole_exists fabric xs whole at.0 0 at.1)
+    let at = at_of_in xs q inside in rw at.2 at (whole_exists fabric xs whole at.0 0 at.1)
 
 on_cell : (graph : Chimera) (row col side at : ℕ) → row < diagonal_of graph
     → col < diagonal_of graph → side < 2
@@ -157,10 +126,8 @@ meet_joined : (w : WorkingGraph) (i j k l : ℕ) → i < diagonal_of w.graph
     → is_cut w (down_qubit w.graph j l i) (along_qubit w.graph i k j) ≡ false
     → joined_in w (down_qubit w.graph j l i) (along_qubit w.graph i k j) ≡ true
 meet_joined w i j k l cell cell' at at' here there free =
-    left_joined w (down_place j l i) (along_place i k j)
-    (on_cell w.graph i j 0 l cell cell' (omega arith) at') (on_cell w.graph i j 1 k cell cell'
-    (omega arith) at)
-    (cell_joined i j k l) here there free
+    left_joined w (down_place j l i) (along_place i k j) (on_cell w.graph i j 0 l cell cell' (omega arith) at')
+    (on_cell w.graph i j 1 k cell cell' (omega arith) at) (cell_joined i j k l) here there free
 
 -- two whole places that are not parted are coupled
 pub unparted_coupled : (w : WorkingGraph) (u v : ℕ) → u < v → v < clique_places w.graph
@@ -168,76 +135,50 @@ pub unparted_coupled : (w : WorkingGraph) (u v : ℕ) → u < v → v < clique_p
     → is_whole (fabric_of w) (clique_chain w.graph v) ≡ true
     → (IsParted w v u → ⊥)
     → are_coupled (joined_in w) (clique_chain w.graph v) (clique_chain w.graph u) ≡ true
-unparted_coupled w u v before below whole_u whole_v unparted = first (is_cut_at w v u) refl
-  where
-    graph : Chimera
-    graph = w.graph
-
-    T : ℕ
-    T = graph.shore
-
-    cell_u : u / T < diagonal_of graph
-    cell_u = cell_of graph u (omega (arith, before, below))
-
-    cell_v : v / T < diagonal_of graph
-    cell_v = cell_of graph v below
-
-    order : u / T ≤ v / T
-    order = cells_rise graph u v (omega (arith, before))
-
-    down_in_v : is_in (clique_chain graph v) (down_qubit graph (v / T) (v % T) (u / T)) ≡ true
-    down_in_v = in_down graph (v / T) (v % T) (u / T) cell_v order
-
-    along_in_u : is_in (clique_chain graph u) (along_qubit graph (u / T) (u % T) (v / T)) ≡ true
-    along_in_u = in_along graph (u / T) (u % T) (v / T) cell_u order cell_v
-
-    second : u / T ≡ v / T → (b : Bool) → is_cut_at w u v ≡ b → is_cut_at w v u ≡ true
-        → are_coupled (joined_in w) (clique_chain graph v) (clique_chain graph u) ≡ true
-    second same true e cut = absurd (unparted (record { down = cut; across = λ _. e }))
-    second same false e cut =
-        let down_in_u = in_down graph (u / T) (u % T) (v / T) cell_u (omega (arith, same)) in
-        let along_in_v = in_along graph (v / T) (v % T) (u / T) cell_v (omega
-        (arith, same)) cell_u in
-        let a = down_qubit graph (u / T) (u % T) (v / T) in
-        let b = along_qubit graph (v / T) (v % T) (u / T) in
-        coupled_by (joined_in w) (clique_chain graph v)
-        (clique_chain graph u) b a along_in_v down_in_u
-        (joined_in-comm w b a
-        ∙ meet_joined w (v / T) (u / T) (v % T) (u % T) cell_v cell_u
-        (mod-lt v graph.shape.some_shore)
-        (mod-lt u graph.shape.some_shore) (exists_of (fabric_of w)
-        (clique_chain graph u) a whole_u down_in_u)
-        (exists_of (fabric_of w) (clique_chain graph v) b whole_v along_in_v) e)
-
-    first : (b : Bool) → is_cut_at w v u ≡ b
-        → are_coupled (joined_in w) (clique_chain graph v) (clique_chain graph u) ≡ true
-    first false e =
-        coupled_by (joined_in w) (clique_chain graph v)
-        (clique_chain graph u) _ _ down_in_v along_in_u
-        (meet_joined w (u / T) (v / T) (u % T) (v % T) cell_u cell_v
-        (mod-lt u graph.shape.some_shore)
-        (mod-lt v graph.shape.some_shore) (exists_of (fabric_of w)
-        (clique_chain graph v) _ whole_v down_in_v)
-        (exists_of (fabric_of w) (clique_chain graph u) _ whole_u along_in_u) e)
-    first true e = elim (cases_eq (u / T) (v / T)) [
-      | inl same ↦ second same (is_cut_at w u v) refl e
-      | inr other ↦ absurd (unparted (record { down = e; across = λ same. absurd (other same) }))
+unparted_coupled w u v before below whole_u whole_v unparted =
+    let graph = w.graph in
+    let i = u / graph.shore in
+    let j = v / graph.shore in
+    let cell_u = cell_of graph u (omega (arith, before, below)) in
+    let cell_v = cell_of graph v below in
+    let order = cells_rise graph u v (omega (arith, before)) in
+    let c = clique_chain graph u in
+    let d = clique_chain graph v in
+    let at_u = mod-lt u graph.shape.some_shore in
+    let at_v = mod-lt v graph.shape.some_shore in
+    let in_u = λ (q : ℕ) (inside : is_in c q ≡ true). exists_of (fabric_of w) c q whole_u inside in
+    let in_v = λ (q : ℕ) (inside : is_in d q ≡ true). exists_of (fabric_of w) d q whole_v inside in
+    let down_in_v = in_down graph j (v % graph.shore) i cell_v order in
+    let along_in_u = in_along graph i (u % graph.shore) j cell_u order cell_v in
+    elim (true_or_false (is_cut_at w v u)) [
+      | inr e ↦
+          coupled_by (joined_in w) d c _ _ down_in_v along_in_u
+          (meet_joined w i j _ _ cell_u cell_v at_u at_v (in_v _ down_in_v) (in_u _ along_in_u) e)
+      | inl cut ↦ elim (cases_eq i j) [
+        | inr other ↦ absurd (unparted (record { down = cut; across = λ same. absurd (other same) }))
+        | inl same ↦ elim (true_or_false (is_cut_at w u v)) [
+          | inr e ↦
+              let down_in_u = in_down graph i (u % graph.shore) j cell_u (omega (arith, same)) in
+              let along_in_v = in_along graph j (v % graph.shore) i cell_v (omega (arith, same)) cell_u in
+              coupled_by (joined_in w) d c _ _ along_in_v down_in_u
+              (joined_in-comm w _ _
+              ∙ meet_joined w j i _ _ cell_v cell_u at_v at_u (in_u _ down_in_u) (in_v _ along_in_v) e)
+          | inl e ↦ absurd (unparted (record { down = cut; across = λ _. e }))
+        ]
+      ]
     ]
 
 -- ---- the parted ones
 
 at_down : (graph : Chimera) (i k r q : ℕ) → i < diagonal_of graph → k < graph.shore → r ≤ i
     → down_qubit graph i k r ≡ q → place_of graph q ≡ down_place i k r
-at_down graph i k r q cell at low e =
-    ap (place_of graph) (sym e) ∙ place_again graph (down_place i k r)
-    (down_in graph i k r cell at low)
+at_down graph i k r q cell at low e = rw (← e) (place_again graph (down_place i k r) (down_in graph i k r cell at low))
 
 at_along : (graph : Chimera) (i k c q : ℕ) → i < diagonal_of graph → k < graph.shore
     → c < diagonal_of graph
     → along_qubit graph i k c ≡ q → place_of graph q ≡ along_place i k c
 at_along graph i k c q cell at high e =
-    ap (place_of graph) (sym e) ∙ place_again graph (along_place i k c)
-    (along_in graph i k c cell at high)
+    rw (← e) (place_again graph (along_place i k c) (along_in graph i k c cell at high))
 
 as_places : (graph : Chimera) (x y : ℕ) (p q : Place) → place_of graph x ≡ p → place_of graph y ≡ q
     → are_joined (place_of graph x) (place_of graph y) ≡ true → are_joined p q ≡ true
@@ -253,80 +194,46 @@ pub parted_uncoupled : (w : WorkingGraph) (u v : ℕ) → u < v → v < clique_p
     → IsParted w v u
     → are_coupled (joined_in w) (clique_chain w.graph v) (clique_chain w.graph u) ≡ true → ⊥
 parted_uncoupled w u v before below parted coupled =
-    go (on_path graph j l x cell_v a.1) (on_path graph i k y cell_u b.1)
-  where
-    graph : Chimera
-    graph = w.graph
-
-    T : ℕ
-    T = graph.shore
-
-    i : ℕ
-    i = u / T
-
-    k : ℕ
-    k = u % T
-
-    j : ℕ
-    j = v / T
-
-    l : ℕ
-    l = v % T
-
-    cell_u : i < diagonal_of graph
-    cell_u = cell_of graph u (omega (arith, before, below))
-
-    cell_v : j < diagonal_of graph
-    cell_v = cell_of graph v below
-
-    order : i ≤ j
-    order = cells_rise graph u v (omega (arith, before))
-
-    at_u : k < T
-    at_u = mod-lt u graph.shape.some_shore
-
-    at_v : l < T
-    at_v = mod-lt v graph.shape.some_shore
-
-    a : (q : ℕ) × (is_in (clique_chain graph v) q
-        ≡ true) × (list_any (joined_in w q) (clique_chain graph u) ≡ true)
-    a = any_of (λ p. list_any (joined_in w p) (clique_chain graph u)) (clique_chain graph v) coupled
-
-    x : ℕ
-    x = a.0
-
-    b : (q : ℕ) × (is_in (clique_chain graph u) q ≡ true) × (joined_in w x q ≡ true)
-    b = any_of (joined_in w x) (clique_chain graph u) a.2
-
-    y : ℕ
-    y = b.0
-
-    plain : are_joined (place_of graph x) (place_of graph y) ≡ true
-    plain = joined_in-plain w x y b.2
-
-    go : OnPath graph j l x → OnPath graph i k y → ⊥
-    go (inl p) (inl q) =
-        apart T u v before
-        (down_down i j k l p.0 q.0
-        (as_places graph x y _ _ (at_down graph j l p.0 x cell_v at_v p.1 p.2)
-        (at_down graph i k q.0 y cell_u at_u q.1 q.2) plain))
-    go (inl p) (inr q) =
-        let same = down_along i j k l p.0 q.0
-        (as_places graph x y _ _ (at_down graph j l p.0 x cell_v at_v p.1 p.2)
-        (at_along graph i k q.0 y cell_u at_u q.2 q.3) plain) in
-        let is_x : x ≡ down_qubit graph j l i = sym p.2 ∙ ap (down_qubit graph j l) same.one in
-        let is_y : y ≡ along_qubit graph i k j = sym q.3 ∙ ap (along_qubit graph i k) same.other in
-        not_cut w x y b.2 ((λ n. is_cut w (is_x n) (is_y n)) ∙ parted.down)
-    go (inr p) (inl q) =
-        let same = along_down i j k l p.0 q.0
-        (as_places graph x y _ _ (at_along graph j l p.0 x cell_v at_v p.2 p.3)
-        (at_down graph i k q.0 y cell_u at_u q.1 q.2) plain) in
-        let is_x : x ≡ along_qubit graph j l i = sym p.3 ∙ ap (along_qubit graph j l) same.other in
-        let is_y : y ≡ down_qubit graph i k j = sym q.2 ∙ ap (down_qubit graph i k) same.one in
-        not_cut w y x (joined_in-comm w y x ∙ b.2)
-        ((λ n. is_cut w (is_y n) (is_x n)) ∙ parted.across (omega (arith, order, p.1, same.other)))
-    go (inr p) (inr q) =
-        apart T u v before
-        (along_along i j k l p.0 q.0
-        (as_places graph x y _ _ (at_along graph j l p.0 x cell_v at_v p.2 p.3)
-        (at_along graph i k q.0 y cell_u at_u q.2 q.3) plain))
+    let graph = w.graph in
+    let i = u / graph.shore in
+    let k = u % graph.shore in
+    let j = v / graph.shore in
+    let l = v % graph.shore in
+    let cell_u : i < diagonal_of graph = cell_of graph u (omega (arith, before, below)) in
+    let cell_v : j < diagonal_of graph = cell_of graph v below in
+    let order : i ≤ j = cells_rise graph u v (omega (arith, before)) in
+    let at_u : k < graph.shore = mod-lt u graph.shape.some_shore in
+    let at_v : l < graph.shore = mod-lt v graph.shape.some_shore in
+    let a = any_of (λ p. list_any (joined_in w p) (clique_chain graph u)) (clique_chain graph v) coupled in
+    let x = a.0 in
+    let b = any_of (joined_in w x) (clique_chain graph u) a.2 in
+    let y = b.0 in
+    let places = λ (p q : Place) (at_x : place_of graph x ≡ p) (at_y : place_of graph y ≡ q).
+    as_places graph x y p q at_x at_y (joined_in-plain w x y b.2) in
+    elim (on_path graph j l x cell_v a.1) [
+      | inl p ↦
+          let at_x = at_down graph j l p.0 x cell_v at_v p.1 p.2 in
+          elim (on_path graph i k y cell_u b.1) [
+            | inl q ↦
+                apart graph.shore u v before
+                (down_down i j k l p.0 q.0 (places _ _ at_x (at_down graph i k q.0 y cell_u at_u q.1 q.2)))
+            | inr q ↦
+                let same = down_along i j k l p.0 q.0 (places _ _ at_x (at_along graph i k q.0 y cell_u at_u q.2 q.3)) in
+                let is_x : x ≡ down_qubit graph j l i = sym p.2 ∙ ap (down_qubit graph j l) same.one in
+                let is_y : y ≡ along_qubit graph i k j = sym q.3 ∙ ap (along_qubit graph i k) same.other in
+                not_cut w x y b.2 ((λ n. is_cut w (is_x n) (is_y n)) ∙ parted.down)
+          ]
+      | inr p ↦
+          let at_x = at_along graph j l p.0 x cell_v at_v p.2 p.3 in
+          elim (on_path graph i k y cell_u b.1) [
+            | inl q ↦
+                let same = along_down i j k l p.0 q.0 (places _ _ at_x (at_down graph i k q.0 y cell_u at_u q.1 q.2)) in
+                let is_x : x ≡ along_qubit graph j l i = sym p.3 ∙ ap (along_qubit graph j l) same.other in
+                let is_y : y ≡ down_qubit graph i k j = sym q.2 ∙ ap (down_qubit graph i k) same.one in
+                let cut = parted.across (omega (arith, order, p.1, same.other)) in
+                not_cut w y x (joined_in-comm w y x ∙ b.2) ((λ n. is_cut w (is_y n) (is_x n)) ∙ cut)
+            | inr q ↦
+                apart graph.shore u v before
+                (along_along i j k l p.0 q.0 (places _ _ at_x (at_along graph i k q.0 y cell_u at_u q.2 q.3)))
+          ]
+    ]

@@ -1,9 +1,5 @@
 -- Numbers of pairs, and where in a rising list they stand.
-use Rattle.std.proofs.Common.{◌≡◌, ◌≢◌, ℕ, ◌<◌, ◌≤◌, ◌==◌, false, true, nat_lt, List, length, get_or, min, max, arith}
-use Rattle.std.specs.List.Sorted.{IsPartitionedBy, IsPartitionPoint}
-use Rattle.std.proofs.lemmas.Bool.Decides.{nat_tests}
-use Rattle.std.proofs.lemmas.Grind.{get_or_default_zero}
-use Rattle.working_graph.specs.Index.{pair_number, AreRising}
+use Rattle.working_graph.proofs.Common.{◌≡◌, ◌≢◌, ℕ, ◌<◌, ◌≤◌, ◌==◌, false, true, nat_lt, List, length, get_or, min, max, arith, IsPartitionedBy, IsPartitionPoint, nat_tests, get_or_default_zero, pair_number, AreRising}
 
 pub is_other : (a b : ℕ) → a ≢ b → (a == b) ≡ false
 is_other a b e = grind (arith, nat_tests)
@@ -18,21 +14,14 @@ is_below a b e = grind (arith, nat_tests)
 is_above : (a b : ℕ) → nat_lt a b ≡ false → b ≤ a
 is_above a b e = grind (arith, nat_tests)
 
-below_is : (a b : ℕ) → a < b → nat_lt a b ≡ true
-below_is a b e = grind (arith, nat_tests)
-
 -- the numbers below a bound come first
 pub rising_parted : (xs : List ℕ) (from : ℕ) → AreRising xs
     → IsPartitionedBy (λ n. nat_lt n from) xs
 rising_parted xs from rising = λ i j d le low test.
-    below_is (get_or xs i d) from
-    (omega (
-      arith,
-      rising i j le low,
-      is_below (get_or xs j d) from test,
-      get_or_default_zero xs i d (omega (arith, le, low)),
-      get_or_default_zero xs j d low,
-    ))
+    let up = rising i j le low in
+    let one = get_or_default_zero xs i d (omega (arith, le, low)) in
+    let two = get_or_default_zero xs j d low in
+    grind (arith, nat_tests)
 
 pub below_point : (xs : List ℕ) (from at : ℕ)
     → IsPartitionPoint (λ n. nat_lt n from ≡ true) (λ n. nat_lt n from ≡ false) xs at

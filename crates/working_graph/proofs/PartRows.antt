@@ -1,19 +1,7 @@
 -- The parts that rows name, one row after another, and one line after another.
-use Rattle.std.proofs.Common.{◌≡◌, ℕ, ◌+◌, ◌++◌, List, [], ◌∷◌, Ok, Err, refl, sym, ap, ◌∙◌}
-use Rattle.std.specs.Prelude.{Result}
-use Rattle.std.proofs.lemmas.List.{append_assoc, append-nil}
-use Rattle.whole_text.specs.declared.faults.TextFault.{TextFault}
-use Rattle.whole_text.specs.declared.faults.TextAnswer.{TextAnswer}
+use Rattle.working_graph.proofs.Common.{◌≡◌, ℕ, ◌+◌, ◌++◌, List, [], ◌∷◌, Ok, Err, refl, sym, ap, ◌∙◌, Result, append_assoc, append-nil, TextFault, TextAnswer, Word, tokens_of_line, tokens_from, by_line, each, ◌>>=◌, Fails, row_of, Chimera, after_front, DeadPart, part_at, parts_of_words}
 use Rattle.whole_text.specs.declared.faults.TextAnswer.TheVariants.{Bad, NoMemory}
 use Rattle.whole_text.specs.declared.token.Style.TheVariants.{Plain}
-use Rattle.whole_text.specs.Tokens.{Word, tokens_of_line, tokens_from}
-use Rattle.whole_text.specs.Rows.{by_line, each}
-use Rattle.whole_text.specs.Steps.{◌>>=◌, Fails}
-use Rattle.whole_text.proofs.Rows.{row_of}
-use Rattle.chimera_graph.specs.declared.chimera.Chimera.{Chimera}
-use Rattle.chain_map.specs.Maps.{after_front}
-use Rattle.working_graph.specs.declared.parts.DeadPart.{DeadPart}
-use Rattle.working_graph.specs.DeadLists.{part_at, parts_of_words}
 use Rattle.working_graph.proofs.LineRows.{one_row, rows_of_lines}
 
 -- ---- readings of lists
@@ -81,9 +69,7 @@ pub line_says : (graph : Chimera) (n : ℕ) (line : List ℕ) (w : Word) (ws : L
     → parts_of_words graph (tokens_of_line Plain n line)
     ≡ part_at graph (row_of w ws) >>= λ part. Ok (part ∷ [])
 unfolding parts_of_words each
-line_says graph n line w ws said =
-    ap (λ vs. each (part_at graph) (by_line vs)) said
-    ∙ ap (each (part_at graph)) (one_row Plain n line w ws said)
+line_says graph n line w ws said = rw (said, one_row Plain n line w ws said) refl
 
 -- ---- one line after another
 
@@ -98,10 +84,9 @@ pub line_more : (graph : Chimera) (front next : List DeadPart) (n : ℕ) (line :
     ≡ after_front next (parts_from graph (n + 1) after)
 unfolding parts_of_words
 line_more graph front next n line before after cut said =
-    ap (λ lines. after_front front (parts_from graph n lines)) cut
-    ∙ ap (λ rows. after_front front (each (part_at graph) rows)) (rows_of_lines Plain n line after)
-    ∙ each_more (part_at graph) front next (by_line (tokens_of_line Plain n line))
-    (by_line (tokens_from Plain (n + 1) after)) said
+    rw (cut, rows_of_lines Plain n line after)
+    (each_more (part_at graph) front next (by_line (tokens_of_line Plain n line))
+    (by_line (tokens_from Plain (n + 1) after)) said)
 
 line_bad : (graph : Chimera) (front : List DeadPart) (n : ℕ) (line : List ℕ)
     (before after : List (List ℕ)) (f : TextFault) → before ≡ line ∷ after
@@ -109,10 +94,9 @@ line_bad : (graph : Chimera) (front : List DeadPart) (n : ℕ) (line : List ℕ)
     → after_front front (parts_from graph n before) ≡ Err f
 unfolding parts_of_words
 line_bad graph front n line before after f cut fails =
-    ap (λ lines. after_front front (parts_from graph n lines)) cut
-    ∙ ap (λ rows. after_front front (each (part_at graph) rows)) (rows_of_lines Plain n line after)
-    ∙ each_fails (part_at graph) front (by_line (tokens_of_line Plain n line))
-    (by_line (tokens_from Plain (n + 1) after)) f fails
+    rw (cut, rows_of_lines Plain n line after)
+    (each_fails (part_at graph) front (by_line (tokens_of_line Plain n line))
+    (by_line (tokens_from Plain (n + 1) after)) f fails)
 
 -- a fault of one line
 pub line_fails : (graph : Chimera) (front : List DeadPart) (n : ℕ) (line : List ℕ)
@@ -127,6 +111,4 @@ line_fails graph front n line before after (Bad f) cut fails =
 pub lines_end : (graph : Chimera) (front : List DeadPart) (n : ℕ)
     → after_front front (parts_from graph n []) ≡ Ok front
 unfolding tokens_from
-lines_end graph front n =
-    ap (after_front front) (parts_none graph (tokens_from Plain n []) refl)
-    ∙ ap Ok (append-nil front)
+lines_end graph front n = rw (parts_none graph (tokens_from Plain n []) refl, append-nil) refl

@@ -2,15 +2,8 @@
 --
 -- A step of a walk goes at most one place on in the chain. So the distance of a qubit is its place
 -- in the chain, and the one qubit nearer to the first that it is joined to stands before it.
-use Rattle.std.proofs.Common.{◌≡◌, ℕ, zero, suc, ◌+◌, ◌-◌, ◌<◌, ◌≤◌, inl, inr, true, eqb, List, [], ◌∷◌, length, get_or, take, refl, sym, ap, subst, ◌∙◌, arith}
-use Rattle.std.specs.List.{AllZip}
-use Rattle.std.proofs.lemmas.Bool.{eqb-true, or_cases}
-use Rattle.bits_model.specs.Walks.{is_in, IsWalk, end_of}
-use Rattle.chain_map.specs.Chains.{Joins}
+use Rattle.working_graph.proofs.Common.{◌≡◌, ℕ, zero, suc, ◌+◌, ◌-◌, ◌<◌, ◌≤◌, inl, inr, true, eqb, List, [], ◌∷◌, length, get_or, take, refl, ap, subst, arith, AllZip, eqb-true, or_cases, is_in, IsWalk, end_of, Joins, HasDistance, IsParent, AreParents, one_distance, but_last}
 use Rattle.chain_map.proofs.Paths.{is_in_at}
-use Rattle.embedding_check.specs.Distances.{HasDistance, IsParent, AreParents}
-use Rattle.embedding_check.proofs.Checked.{one_distance}
-use Rattle.working_graph.specs.CliquePlaces.{but_last}
 
 -- each qubit is joined to the next one, and to none further on; and none stands twice
 pub record IsPath (joined : Joins) (chain : List ℕ) : Type 0 where
@@ -65,31 +58,21 @@ walk_short : (joined : Joins) (chain : List ℕ) → IsPath joined chain → (st
 walk_short joined chain path [] j k low high walk ends = omega (arith, path.once j k low high ends)
 walk_short joined chain path (q ∷ qs) j k low high walk ends =
     let next = place_in chain q walk.0 in
-    let one : next.0 ≤ j + 1 =
-    path.near j next.0 low next.1
-    (subst (λ r. joined (get_or chain j 0) r ≡ true) (sym next.2) walk.1) in
-    let rest : k ≤ next.0 + length qs =
-    walk_short joined chain path qs next.0 k next.1 high
-    (subst (λ r. IsWalk joined chain r qs) (sym next.2) walk.2)
-    (subst (λ r. end_of r qs ≡ get_or chain k 0) (sym next.2) ends) in
+    let one = path.near j next.0 low next.1 (rw next.2 walk.1) in
+    let rest = walk_short joined chain path qs next.0 k next.1 high (rw next.2 walk.2) (rw next.2 ends) in
     omega (arith, one, rest)
 
 -- the distance of a qubit is its place
 place_distance : (joined : Joins) (chain : List ℕ) → IsPath joined chain → (k : ℕ)
     → k < length chain → HasDistance joined chain (get_or chain k 0) k
-place_distance joined chain path k below = record {
-  reached = (
-    steps_on chain 0 k,
+place_distance joined chain path k below =
+    let walk = walk_on joined chain path 0 k (omega (arith, below)) in
     record {
-      walk = walk_on joined chain path 0 k (omega (arith, below));
-      ends = end_on chain 0 k k (omega arith);
-    },
-    long_on chain 0 k,
-  );
-  least = λ steps walk.
-      let low : 0 < length chain = omega (arith, below) in
-      omega (arith, walk_short joined chain path steps 0 k low below walk.walk walk.ends);
-}
+      reached =
+          (steps_on chain 0 k, record { walk = walk; ends = end_on chain 0 k k (omega arith) }, long_on chain 0 k);
+      least = λ steps walk.
+          omega (arith, walk_short joined chain path steps 0 k (omega (arith, below)) below walk.walk walk.ends);
+    }
 
 -- ---- parents
 
@@ -103,24 +86,16 @@ place_parent joined chain path k below =
     record {
       nearer = record {
         inside = is_in_at chain k (get_or chain k 0) (omega (arith, below)) refl;
-        linked = subst (λ n. joined (get_or chain k 0) (get_or chain n 0) ≡ true) next
-            (path.linked k (omega (arith, below)));
+        linked = rw next at (path.linked k (omega (arith, below)));
         nearer = (k, here, further);
       };
       least = λ r near.
           let at = place_in chain r near.inside in
-          let there : HasDistance joined chain r at.0 =
-          subst (λ q. HasDistance joined chain q at.0) at.2
-          (place_distance joined chain path at.0 at.1) in
-          let same : k ≡ at.0 =
-          omega (
-            arith,
-            one_distance joined chain r near.nearer.0 at.0 near.nearer.1 there,
-            one_distance joined chain (get_or chain (suc k) 0) (suc near.nearer.0) (suc k)
-                near.nearer.2 further,
-          ) in
-          let is : get_or chain k 0 ≡ r = ap (λ n. get_or chain n 0) same ∙ at.2 in
-          omega (arith, is);
+          let there = rw at.2 at (place_distance joined chain path at.0 at.1) in
+          let one = one_distance joined chain r near.nearer.0 at.0 near.nearer.1 there in
+          let two = one_distance joined chain _ (suc near.nearer.0) (suc k) near.nearer.2 further in
+          let same : k ≡ at.0 = omega (arith, one, two) in
+          omega (arith, ap (λ n. get_or chain n 0) same, at.2);
     }
 
 -- what holds of each two neighbours

@@ -3,8 +3,7 @@ use Rattle.chain_layer.proofs.extending.extended.Goals as goal
 
 pub on_chains-requires-clause-width : goal.on_chains-requires-clause-width
 on_chains-requires-clause-width c =
-    c.requires.width
-    ∙ sym c.requires.kept.counted
+    c.requires.width ∙ sym c.requires.kept.counted
     ∙ ap (λ (cs : List (List ℕ)). length cs) (sym c.chains.ensures)
 
 pub on_chains-requires-clause-within : goal.on_chains-requires-clause-within

@@ -11,14 +11,10 @@ loop-i-preserved c =
     let value = c.deref_mut.ensures.value in
     let wide : length c.deref_mut.result.now ≡ c.args.qubits = ap length value ∙ c.loop-i.invariant.wide in
     let same =
-    changed c.loop-i.y.items next c.loop-i.y.len
-    (omega (arith, ap length value))
-    (omega arith) in
+    changed c.loop-i.y.items next c.loop-i.y.len (omega (arith, ap length value)) (omega arith) in
     record {
       wide = ap length same ∙ c.mark_where.ensures.length ∙ wide;
-      bits = λ q l.
-          ap (λ y. get_or y q false) same
-          ∙ c.mark_where.ensures.bits q
+      bits = λ q l. ap (λ y. get_or y q false) same ∙ c.mark_where.ensures.bits q
           ∙ (λ k. get_or (value k) q false || (bit_at x i && is_in (c.list.ensures.listed k) q))
           ∙ ap (λ b. b || (bit_at x i && is_in (chain_of chains i) q)) (c.loop-i.invariant.bits q l)
           ∙ sym (any_range (λ j. bit_at x j && is_in (chain_of chains j) q) i);

@@ -14,8 +14,7 @@ can c =
     let so_far = c.loop-coupling.invariant in
     let steps = c.in-Some.ensures.steps in
     let small = next_small n xs _ e _ steps so_far.within so_far.small in
-    let same : c.unsigned_abs-size.result ≡ unsigned_abs e.weight =
-    omega (arith, ints, small) in
+    let same : c.unsigned_abs-size.result ≡ unsigned_abs e.weight = omega (arith, ints, small) in
     can_raise n xs _ e _ _ steps so_far.same_length so_far.within so_far.small same
 
 pub raise-requires-clause-small : goal.raise-requires-clause-small
@@ -31,20 +30,19 @@ raise-requires-in-loop-coupling-clause-small c =
 pub loop-coupling-preserved : goal.loop-coupling-preserved
 loop-coupling-preserved c =
     let at = (goal.at.loop-coupling-preserved c).After-unsigned_abs-size in
-    let start = c.args.strengths.now in
     let xs = c.loop-coupling.strengths in
     let all = c.args.couplings.now in
     let e = c.in-Some.coupling in
     let so_far = c.loop-coupling.invariant in
     let raised =
     raised_more xs _ _ e _ _ (can at) c.raise.ensures c.raise-in-loop-coupling.ensures in
-    let left : AreLeft start xs all _ = record {
+    let left : AreLeft c.args.strengths.now xs all _ = record {
       same_length = so_far.same_length;
       within = so_far.within;
       small = so_far.small;
       sums = so_far.sums;
     } in
-    let more = left_more start xs _ all _ e _ c.in-Some.ensures.steps left raised in
+    let more = left_more c.args.strengths.now xs _ all _ e _ c.in-Some.ensures.steps left raised in
     record {
       same_length = more.same_length;
       within = more.within;

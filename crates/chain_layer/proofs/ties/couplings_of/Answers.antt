@@ -26,12 +26,9 @@ push_ties-requires-clause-matched c =
     let e = c.args.source.now in
     let i = c.loop-i.i in
     let at = strength_at e c.args.strengths.now i c.requires.strengths c.loop-i-test.true in
-    omega (
-      arith,
-      ap length (c.list.ensures.listed ∙ ap (λ cs. chain_of cs i) c.chains.ensures),
-      ap length (c.list-in-loop-i.ensures.listed ∙ ap (λ cs. chain_of cs i) c.parents.ensures),
-      filled_lengths e i (node_at e c.requires.kept i at.0),
-    )
+    let long = ap length (c.list.ensures.listed ∙ ap (λ cs. chain_of cs i) c.chains.ensures) in
+    let same = ap length (c.list-in-loop-i.ensures.listed ∙ ap (λ cs. chain_of cs i) c.parents.ensures) in
+    omega (arith, filled_lengths e i (node_at e c.requires.kept i at.0))
 
 pub push_ties-requires-clause-small : goal.push_ties-requires-clause-small
 push_ties-requires-clause-small c =
@@ -47,8 +44,7 @@ loop-i-preserved c =
     let chain = c.list.ensures.listed ∙ ap (λ cs. chain_of cs i) c.chains.ensures in
     let parents = c.list-in-loop-i.ensures.listed ∙ ap (λ cs. chain_of cs i) c.parents.ensures in
     ties_more_nodes e (placed e.ising.couplings e.places) c.loop-i.made c.push_ties.new.couplings i
-    c.loop-i.invariant
-    (c.in_ok-push_ties.ensures
+    c.loop-i.invariant (c.in_ok-push_ties.ensures
     ∙ (λ k. c.loop-i.made ++ ties (λ _. at.1 k) (drop 1 (chain k)) (parents k)))
 
 pub returns : goal.returns

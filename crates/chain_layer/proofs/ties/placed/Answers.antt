@@ -18,7 +18,6 @@ loop-coupling-preserved c =
       made =
           ap (λ es. es ++ placed c.next.new.self (drop (at + 1) places)) pushed
           ∙ placed_more made (placed c.args.couplings.now places) e _ places at place (0, 0)
-          (omega (arith, so_far.here, ap length steps))
-          refl
+          (omega (arith, so_far.here, ap length steps)) refl
           (ap (λ es. made ++ placed es (drop at places)) (sym steps) ∙ so_far.made);
     }

@@ -12,11 +12,8 @@ overflow_sub-cost c =
     let e = c.args.source.now in
     let i = c.loop-i.i in
     let at = strength_at e c.args.strengths.now i c.requires.strengths c.loop-i-test.true in
-    omega (
-      arith,
-      ap length (c.list.ensures.listed ∙ ap (λ cs. chain_of cs i) c.chains.ensures),
-      filled_lengths e i (node_at e c.requires.kept i at.0),
-    )
+    let long = ap length (c.list.ensures.listed ∙ ap (λ cs. chain_of cs i) c.chains.ensures) in
+    omega (arith, filled_lengths e i (node_at e c.requires.kept i at.0))
 
 pub overflow_mul-cost : goal.overflow_mul-cost
 overflow_mul-cost c =
@@ -51,6 +48,5 @@ returns c =
     let wide : length c.args.strengths.now ≡ length e.ising.fields =
     ap length c.requires.strengths ∙ length-map-range_with_len (strength e) 0 (length e.ising.fields) in
     let all : c.loop-i.i ≡ length e.ising.fields = omega (arith, wide) in
-    c.loop-i.invariant
-    ∙ ap (λ n. sum_by (node_cost e) (range_with_len 0 n)) all
+    c.loop-i.invariant ∙ ap (λ n. sum_by (node_cost e) (range_with_len 0 n)) all
     ∙ sym (costs_same e)

@@ -1,5 +1,4 @@
-use Rattle.std.proofs.Common.{◌≡◌}
-use Rattle.chain_map.specs.Cliques.{clique_of}
+use Rattle.chain_map.proofs.Common.{◌≡◌, clique_of}
 use Rattle.chain_map.proofs.clique.clique_chains.Given as goal
 
 -- the chains of the nodes so far

@@ -1,5 +1,4 @@
-use Rattle.std.proofs.Common.{sym, subst, arith}
-use Rattle.chain_map.specs.Cliques.{IsForClique}
+use Rattle.chain_map.proofs.Common.{sym, subst, arith, IsForClique}
 use Rattle.chain_map.proofs.CliqueChains.{clique_valid}
 use Rattle.chain_map.proofs.clique.clique_map.Goals as goal
 

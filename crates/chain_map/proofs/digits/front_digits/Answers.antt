@@ -1,6 +1,4 @@
-use Rattle.std.proofs.Common.{◌≡◌, ◌+◌, ◌-◌, true, get_or, sym, ◌∙◌, arith}
-use Rattle.std.specs.Char.{is_ascii_digit}
-use Rattle.whole_text.proofs.DigitLoop.{more_value, more_digits, pow_more, pow_few, digit_small}
+use Rattle.chain_map.proofs.Common.{◌≡◌, ◌+◌, ◌-◌, true, get_or, sym, ◌∙◌, arith, is_ascii_digit, more_value, more_digits, pow_more, pow_few, digit_small}
 use Rattle.chain_map.proofs.digits.front_digits.Goals as goal
 
 pub overflow_mul-value : goal.overflow_mul-value
@@ -11,15 +9,10 @@ overflow_mul-value c =
 pub overflow_add-value : goal.overflow_add-value
 overflow_add-value c =
     let i = c.loop-len.len in
-    let digit : is_ascii_digit (get_or c.args.bytes.now i 0) ≡ true =
-    sym c.is_ascii_digit.ensures.value ∙ c.if-is_ascii_digit.true in
-    omega (
-      arith,
-      c.from.ensures,
-      pow_more i c.loop-len.value (get_or c.args.bytes.now i 0 - 48) c.loop-len.invariant.small
-          (digit_small (get_or c.args.bytes.now i 0) digit),
-      pow_few (i + 1) (omega arith),
-    )
+    let byte = get_or c.args.bytes.now i 0 in
+    let digit : is_ascii_digit byte ≡ true = sym c.is_ascii_digit.ensures.value ∙ c.if-is_ascii_digit.true in
+    let more = pow_more i c.loop-len.value (byte - 48) c.loop-len.invariant.small (digit_small byte digit) in
+    omega (arith, c.from.ensures, more, pow_few (i + 1) (omega arith))
 
 pub loop-len-preserved : goal.loop-len-preserved
 loop-len-preserved c =
@@ -27,17 +20,13 @@ loop-len-preserved c =
     let i = c.loop-len.len in
     let byte = get_or bytes i 0 in
     let below = c.loop-len-test.true in
-    let digit : is_ascii_digit byte ≡ true =
-    sym c.is_ascii_digit.ensures.value ∙ c.if-is_ascii_digit.true in
+    let digit : is_ascii_digit byte ≡ true = sym c.is_ascii_digit.ensures.value ∙ c.if-is_ascii_digit.true in
     let e = more_value bytes i c.loop-len.value below digit c.loop-len.invariant.value in
+    let small = pow_more i c.loop-len.value (byte - 48) c.loop-len.invariant.small (digit_small byte digit) in
     record {
       within = omega arith;
       few = omega arith;
       digits = more_digits bytes i below digit c.loop-len.invariant.digits;
-      small = omega (
-        arith,
-        c.from.ensures,
-        pow_more i c.loop-len.value (byte - 48) c.loop-len.invariant.small (digit_small byte digit),
-      );
+      small = omega (arith, c.from.ensures, small);
       value = omega (arith, e, c.from.ensures);
     }

@@ -1,10 +1,4 @@
-use Rattle.std.proofs.Common.{◌≡◌, ◌+◌, false, [], map, take, get_or, refl, sym, ap, ◌∙◌, arith}
-use Rattle.std.specs.List.{slice_range, position_or_len}
-use Rattle.std.proofs.lemmas.Result.{err_from_is_err_and}
-use Rattle.whole_text.specs.Tokens.{is_blank, word, words}
-use Rattle.whole_text.proofs.LineWords.{words_none}
-use Rattle.whole_text.proofs.Slices.{slice_none}
-use Rattle.chain_map.specs.Maps.{qubits_at, after_front}
+use Rattle.chain_map.proofs.Common.{◌≡◌, ◌+◌, false, [], map, get_or, refl, sym, ap, ◌∙◌, arith, slice_range, err_from_is_err_and, is_blank, word, words, words_none, slice_none, qubits_at, after_front}
 use Rattle.chain_map.proofs.LineNumbers.{blank_passed, first_word}
 use Rattle.chain_map.proofs.Rows.{qubits_more, qubits_fail, qubits_end, front_none}
 use Rattle.chain_map.proofs.reading.fill_qubits.Goals as goal
@@ -19,34 +13,21 @@ loop-at-init c =
 
 pub loop-at-preserved-then-is_blank : goal.loop-at-preserved-then-is_blank
 loop-at-preserved-then-is_blank c =
-    let text = c.args.text.now in
-    let line = c.args.line in
     let front = c.loop-at.qubits.items in
-    let passed = blank_passed text c.loop-at.at c.args.end c.loop-at-test.true c.requires.within
+    let passed = blank_passed c.args.text.now c.loop-at.at c.args.end c.loop-at-test.true c.requires.within
     (sym c.is_blank.ensures ∙ c.if-is_blank.true) in
     record {
       high = omega (arith, c.loop-at-test.true);
-      read = ap (λ ws. after_front front (qubits_at (map (word line) ws))) (sym passed)
-          ∙ c.loop-at.invariant.read;
+      read = ap (λ ws. after_front front (qubits_at (map (word c.args.line) ws))) (sym passed) ∙ c.loop-at.invariant.read;
     }
 
 pub returns-in_err-qubit : goal.returns-in_err-qubit
 returns-in_err-qubit c =
-    let text = c.args.text.now in
-    let line = c.args.line in
-    let at = c.loop-at.at in
-    let end = c.args.end in
-    let front = c.loop-at.qubits.items in
-    let bytes = slice_range text at end in
-    let n = position_or_len is_blank bytes in
-    let ink : is_blank (get_or text at 0) ≡ false = sym c.is_blank.ensures ∙ c.if-is_blank.false in
-    let w = first_word text at end n line c.loop-at-test.true c.requires.within ink refl in
+    let ink : is_blank (get_or c.args.text.now c.loop-at.at 0) ≡ false = sym c.is_blank.ensures ∙ c.if-is_blank.false in
+    let w = first_word _ _ _ _ c.args.line c.loop-at-test.true c.requires.within ink refl in
     let p = err_from_is_err_and c.from_residual.result c.from_residual.ensures.1 in
-    rw (p.1, p.2)
-    (sym c.loop-at.invariant.read
-    ∙ ap (λ ws. after_front front (qubits_at ws)) w.2
-    ∙ qubits_fail front (word line (take n bytes))
-    (map (word line) (words (slice_range text (at + n) end))) _ c.in_err-qubit.ensures.value)
+    let fail = qubits_fail c.loop-at.qubits.items _ _ _ c.in_err-qubit.ensures.value in
+    rw (p.1, p.2, ← c.loop-at.invariant.read, w.2) fail
 
 pub loop-at-smaller : goal.loop-at-smaller
 loop-at-smaller c =
@@ -59,34 +40,23 @@ loop-at-smaller c =
 pub loop-at-preserved : goal.loop-at-preserved
 loop-at-preserved c =
     let text = c.args.text.now in
-    let line = c.args.line in
     let at = c.loop-at.at in
-    let end = c.args.end in
-    let front = c.loop-at.qubits.items in
-    let n = c.in_ok-qubit.len in
-    let q = c.in_ok-qubit.qubit in
-    let bytes = slice_range text at end in
-    let rest = map (word line) (words (slice_range text (at + n) end)) in
     let ink : is_blank (get_or text at 0) ≡ false = sym c.is_blank.ensures ∙ c.if-is_blank.false in
-    let w = first_word text at end n line c.loop-at-test.true c.requires.within ink c.in_ok-qubit.ensures.len in
+    let w = first_word text at c.args.end c.in_ok-qubit.len c.args.line c.loop-at-test.true
+    c.requires.within ink c.in_ok-qubit.ensures.len in
+    let rest = map (word c.args.line) (words (slice_range text (at + c.in_ok-qubit.len) c.args.end)) in
+    let more = qubits_more c.loop-at.qubits.items _ rest _ c.in_ok-qubit.ensures.value in
     record {
       high = w.1;
-      read = ap (λ xs. after_front xs (qubits_at rest)) c.in_ok-push.ensures.items
-          ∙ sym (qubits_more front (word line (take (position_or_len is_blank bytes) bytes)) rest q
-          c.in_ok-qubit.ensures.value)
-          ∙ sym (ap (λ ws. after_front front (qubits_at ws)) w.2)
-          ∙ c.loop-at.invariant.read;
+      read = cc (c.in_ok-push.ensures.items, more, w.2, c.loop-at.invariant.read);
     }
 
 pub returns : goal.returns
 returns c =
     let text = c.args.text.now in
-    let line = c.args.line in
     let end = c.args.end in
-    let front = c.loop-at.qubits.items in
     let here : c.loop-at.at ≡ end = omega (arith, c.loop-at.invariant.high, c.loop-at-test.false) in
-    let none : words (slice_range text c.loop-at.at end) ≡ [] =
-    ap (λ k. words (slice_range text k end)) here ∙ ap words (slice_none text end) ∙ words_none in
+    let none : words (slice_range text c.loop-at.at end) ≡ [] = rw here (ap words (slice_none text end) ∙ words_none) in
     sym c.loop-at.invariant.read
-    ∙ ap (λ ws. after_front front (qubits_at (map (word line) ws))) none
-    ∙ qubits_end front
+    ∙ ap (λ ws. after_front c.loop-at.qubits.items (qubits_at (map (word c.args.line) ws))) none
+    ∙ qubits_end c.loop-at.qubits.items

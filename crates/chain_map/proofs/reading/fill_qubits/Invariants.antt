@@ -1,7 +1,4 @@
-use Rattle.std.proofs.Common.{◌≡◌, ◌-◌, ◌≤◌, map}
-use Rattle.std.specs.List.{slice_range}
-use Rattle.whole_text.specs.Tokens.{word, words}
-use Rattle.chain_map.specs.Maps.{qubits_at, after_front}
+use Rattle.chain_map.proofs.Common.{◌≡◌, ◌-◌, ◌≤◌, map, slice_range, word, words, qubits_at, after_front}
 use Rattle.chain_map.proofs.reading.fill_qubits.Given as goal
 
 -- the qubits so far, in front of what the other words say, are all of them

@@ -1,6 +1,4 @@
-use Rattle.std.proofs.Common.{◌≡◌, ◌+◌, ◌-◌, ◌≤◌, length}
-use Rattle.whole_text.proofs.Lines.{lines_from}
-use Rattle.chain_map.specs.Maps.{rows_from, chains_at, after_front, reading}
+use Rattle.chain_map.proofs.Common.{◌≡◌, ◌+◌, ◌-◌, ◌≤◌, length, lines_from, rows_from, chains_at, after_front, reading}
 use Rattle.chain_map.proofs.reading.read_map.Given as goal
 
 -- the chains so far, in front of what the other lines say, are all of them

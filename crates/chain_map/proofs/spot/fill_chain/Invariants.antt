@@ -1,5 +1,4 @@
-use Rattle.std.proofs.Common.{◌≡◌, take}
-use Rattle.chain_map.specs.Cliques.{path_of}
+use Rattle.chain_map.proofs.Common.{◌≡◌, take, path_of}
 use Rattle.chain_map.proofs.spot.fill_chain.Given as goal
 
 -- the qubits so far

@@ -12,6 +12,5 @@ tie_chains-requires-clause-held c = all_held c.args.source.now c.requires.kept _
 
 pub tie_chains-requires-clause-unseen : goal.tie_chains-requires-clause-unseen
 tie_chains-requires-clause-unseen c =
-    let e = c.args.source.now in
-    let none : c.in_ok-seen.seen.items ≡ replicate e.qubits false = search rules in
-    none_seen e c.requires.kept _ (c.deref_mut-2.ensures.value ∙ none)
+    let none : c.in_ok-seen.seen.items ≡ replicate c.args.source.now.qubits false = search rules in
+    none_seen c.args.source.now c.requires.kept _ (c.deref_mut-2.ensures.value ∙ none)

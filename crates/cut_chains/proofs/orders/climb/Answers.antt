@@ -14,16 +14,14 @@ loop-seen-preserved c =
     subst (IsWalking up before (set seen q true) c.args.from (up q))
     (sym c.in_ok-push.ensures.items)
     (walking_more up before seen (set seen q true) c.args.from q c.loop-seen.path.items walking
-    (get_or_default seen q true false within ∙ c.loop-seen-test.true)
-    (c.requires.within q 0 known)
+    (get_or_default seen q true false within ∙ c.loop-seen-test.true) (c.requires.within q 0 known)
     refl)
 
 pub returns : goal.returns
 returns c =
-    let seen = c.loop-seen.seen in
     let q = c.loop-seen.q in
     let walking = c.loop-seen.invariant in
-    let within : q < length seen = omega (arith, walking.bound, walking.sized) in
+    let within : q < length c.loop-seen.seen = omega (arith, walking.bound, walking.sized) in
     record {
       climbed = record {
         sized = walking.sized;
@@ -31,7 +29,7 @@ returns c =
           q,
           walking.walk,
           walking.bound,
-          sym (walking.marked q walking.bound) ∙ get_or_default seen q true false within
+          sym (walking.marked q walking.bound) ∙ get_or_default c.loop-seen.seen q true false within
               ∙ c.loop-seen-test.false,
         );
         unmarked = walking.unmarked;

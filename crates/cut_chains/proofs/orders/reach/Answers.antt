@@ -1,68 +1,46 @@
-use Rattle.cut_chains.proofs.Common.{◌≡◌, ◌<◌, ◌≤◌, ◌++◌, ◌-◌, [], ◌∷◌, length, get_or, drop, take, refl, sym, ap, subst, ◌∙◌, arith, take_more, take_all, length-drop, is_in, first_of, is_in_at}
+use Rattle.cut_chains.proofs.Common.{◌≡◌, ◌<◌, ◌≤◌, ◌-◌, length, get_or, drop, take, refl, ap, subst, ◌∙◌, arith, take_more, take_all, length-drop, is_in, first_of, is_in_at}
 use Rattle.cut_chains.proofs.Reaching.{IsReaching, reach_more, reach_end, reach_others, chain_parts}
 use Rattle.cut_chains.proofs.orders.reach.Goals as goal
 
 pub loop-qubit-preserved : goal.loop-qubit-preserved
 loop-qubit-preserved c =
-    let up = c.args.up.now in
-    let before = c.args.seen.now in
-    let first = first_of c.args.chain.now in
-    let cs = drop 1 c.args.chain.now in
-    let i = c.loop-qubit.qubit-index in
-    let order = c.loop-qubit.order.items in
-    let path = c.climb.new.path.items in
     let chain = c.args.chain.now in
+    let first = first_of chain in
+    let cs = drop 1 chain in
+    let i = c.loop-qubit.qubit-index in
     let whole : take (length chain - 1) cs ≡ cs =
     take_all (length chain - 1) cs (omega (arith, length-drop 1 chain)) in
-    let within : i < length cs =
-    omega (arith, ap length whole) in
+    let within : i < length cs = omega (arith, ap length whole) in
     let from = get_or (take (length chain - 1) cs) i 0 in
     let same : from ≡ get_or cs i 0 = ap (λ qs. get_or qs i 0) whole in
     record {
       empty = c.in_ok-list_path.ensures.empty;
-      reaching = λ t.
-          subst (IsReaching up before first cs t c.climb.new.seen c.list_path.new.order.items)
-          (sym (take_more cs i 0 within))
-          (subst (λ r. IsReaching up before first cs t c.climb.new.seen c.list_path.new.order.items
-          (take i cs ++ r ∷ [])) same
-          (subst (λ os. IsReaching up before first cs t c.climb.new.seen os
-          (take i cs ++ from ∷ []))
-          (sym c.in_ok-list_path.ensures.listed)
-          (reach_more up before first cs t c.loop-qubit.seen c.climb.new.seen order (take i cs) path
-          from
+      reaching = λ t. rw (take_more cs i 0 within, ← same, c.in_ok-list_path.ensures.listed)
+          (reach_more c.args.up.now c.args.seen.now first cs t c.loop-qubit.seen c.climb.new.seen
+          c.loop-qubit.order.items (take i cs) c.climb.new.path.items from
           (c.loop-qubit.invariant.reaching t)
-          (ap (is_in cs) same ∙ is_in_at cs i (get_or cs i 0) within refl)
-          c.in_ok-climb.ensures.climbed)));
+          (ap (is_in cs) same ∙ is_in_at cs i (get_or cs i 0) within refl) c.in_ok-climb.ensures.climbed);
     }
 
 pub returns-clause-ordered : goal.returns-clause-ordered
 returns-clause-ordered c t =
-    let up = c.args.up.now in
     let before = c.args.seen.now in
     let first = first_of c.args.chain.now in
     let cs = drop 1 c.args.chain.now in
-    let i = c.loop-qubit.qubit-index in
     let chain = c.args.chain.now in
     let whole : take (length chain - 1) cs ≡ cs =
     take_all (length chain - 1) cs (omega (arith, length-drop 1 chain)) in
-    let all : length cs ≤ i =
-    omega (arith, ap length whole) in
-    reach_end up before first cs t c.loop-qubit.seen c.loop-qubit.order.items
-    (subst (IsReaching up before first cs t c.loop-qubit.seen c.loop-qubit.order.items)
-    (take_all i cs all)
-    (c.loop-qubit.invariant.reaching t))
+    let all : length cs ≤ c.loop-qubit.qubit-index = omega (arith, ap length whole) in
+    reach_end c.args.up.now before first cs t c.loop-qubit.seen c.loop-qubit.order.items
+    (subst (IsReaching c.args.up.now before first cs t c.loop-qubit.seen c.loop-qubit.order.items)
+    (take_all c.loop-qubit.qubit-index cs all) (c.loop-qubit.invariant.reaching t))
 
 pub returns-clause-others : goal.returns-clause-others
 returns-clause-others c q within out =
-    let up = c.args.up.now in
-    let before = c.args.seen.now in
     let chain = c.args.chain.now in
     let first = first_of chain in
     let cs = drop 1 chain in
     let t = c.requires.tree in
-    reach_others up before first cs t c.loop-qubit.seen c.loop-qubit.order.items
-    (take c.loop-qubit.qubit-index cs)
-    (c.loop-qubit.invariant.reaching t)
-    q
-    within
+    reach_others c.args.up.now c.args.seen.now first cs t c.loop-qubit.seen c.loop-qubit.order.items
+    (take c.loop-qubit.qubit-index cs) (c.loop-qubit.invariant.reaching t) q within
     (ap (λ qs. is_in qs q) (chain_parts chain c.requires.filled) ∙ out)

@@ -11,32 +11,22 @@ loop-i-init c = record {
 
 pub bounds-up-qubit : goal.bounds-up-qubit
 bounds-up-qubit c =
-    giver_known c.args.up.now c.args.sums.now c.args.order.now c.loop-i.sums c.requires.able
-    c.loop-i.invariant.sized (c.loop-i.i - 1) (omega arith)
+    giver_known _ _ _ _ c.requires.able c.loop-i.invariant.sized (c.loop-i.i - 1) (omega arith)
 
 pub give-requires-clause-from : goal.give-requires-clause-from
 give-requires-clause-from c =
-    giver_below c.args.up.now c.args.sums.now c.args.order.now c.loop-i.sums c.requires.able
-    c.loop-i.invariant.sized (c.loop-i.i - 1) (omega arith)
+    giver_below _ _ _ _ c.requires.able c.loop-i.invariant.sized (c.loop-i.i - 1) (omega arith)
 
 pub give-requires-clause-to : goal.give-requires-clause-to
 give-requires-clause-to c =
-    parent_below c.args.up.now c.args.sums.now c.args.order.now c.loop-i.sums c.requires.able
-    c.loop-i.invariant.sized (c.loop-i.i - 1) (omega arith)
+    parent_below _ _ _ _ c.requires.able c.loop-i.invariant.sized (c.loop-i.i - 1) (omega arith)
 
 pub give-requires-clause-small : goal.give-requires-clause-small
 give-requires-clause-small c =
-    let up = c.args.up.now in
-    let sums = c.args.sums.now in
-    let order = c.args.order.now in
-    let xs = c.loop-i.sums in
-    let a = c.loop-i.i - 1 in
-    let within : a < length order = omega arith in
-    let last : c.loop-i.i ≡ a + 1 = omega arith in
-    let sinking =
-    subst (Sinks up sums order xs c.requires.able xs) last
-    (c.loop-i.invariant.sinking c.requires.able) in
-    step_fits up sums order xs c.requires.able c.loop-i.invariant.sized a within sinking
+    let last : c.loop-i.i ≡ c.loop-i.i - 1 + 1 = omega arith in
+    let sinking = c.loop-i.invariant.sinking c.requires.able in
+    step_fits c.args.up.now c.args.sums.now c.args.order.now c.loop-i.sums c.requires.able
+    c.loop-i.invariant.sized (c.loop-i.i - 1) (omega arith) (rw last at sinking)
 
 pub loop-i-preserved : goal.loop-i-preserved
 loop-i-preserved c =
@@ -50,12 +40,10 @@ loop-i-preserved c =
     let last : c.loop-i.i ≡ a + 1 = omega arith in
     record {
       sized = ap length given ∙ length-set xs _ _ ∙ c.loop-i.invariant.sized;
-      sinking = λ t.
-          subst (λ ys. Sinks up sums order xs t ys a) (sym given)
+      sinking = λ t. subst (λ ys. Sinks up sums order xs t ys a) (sym given)
           (step_next up sums order xs t c.loop-i.invariant.sized a within
           (subst (Sinks up sums order xs t xs) last (c.loop-i.invariant.sinking t)));
-      others = λ t q out.
-          ap (λ ys. get_or ys q 0) given
+      others = λ t q out. ap (λ ys. get_or ys q 0) given
           ∙ step_others up sums order xs t c.loop-i.invariant.sized a within q out
           ∙ c.loop-i.invariant.others t q out;
     }
@@ -63,15 +51,11 @@ loop-i-preserved c =
 pub returns-clause-below : goal.returns-clause-below
 returns-clause-below c t q in' =
     let none : c.loop-i.i ≡ 0 = omega arith in
-    ends_below c.args.up.now c.args.sums.now c.args.order.now c.loop-i.sums t
-    (subst (Sinks c.args.up.now c.args.sums.now c.args.order.now c.loop-i.sums t c.loop-i.sums) none
-    (c.loop-i.invariant.sinking t))
-    q
-    in'
+    let sinking = c.loop-i.invariant.sinking t in
+    ends_below c.args.up.now c.args.sums.now c.args.order.now c.loop-i.sums t (rw none at sinking) q in'
 
 pub returns-clause-all : goal.returns-clause-all
 returns-clause-all c t =
     let none : c.loop-i.i ≡ 0 = omega arith in
-    ends_all c.args.up.now c.args.sums.now c.args.order.now c.loop-i.sums t
-    (subst (Sinks c.args.up.now c.args.sums.now c.args.order.now c.loop-i.sums t c.loop-i.sums) none
-    (c.loop-i.invariant.sinking t))
+    let sinking = c.loop-i.invariant.sinking t in
+    ends_all c.args.up.now c.args.sums.now c.args.order.now c.loop-i.sums t (rw none at sinking)

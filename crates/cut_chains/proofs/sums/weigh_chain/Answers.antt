@@ -18,8 +18,7 @@ reach-requires-clause-tree c =
     climbable c.note_parents.new.up c.args.seen.now c.args.chain.now c.args.parents.now
     c.requires.tree
     (subst (λ m. All (λ q. q < m) c.args.chain.now) (sym c.requires.seens) c.requires.inside)
-    c.requires.unseen
-    c.note_parents.ensures.parents
+    c.requires.unseen c.note_parents.ensures.parents
 
 -- the order of the chain, and what it asks of the sums
 abbrev able_at : (c : After-deref)
@@ -31,24 +30,19 @@ able_at c =
     (subst (IsOrder (first_of chain) (drop 1 chain) c.args.parents.now) (sym c.deref.ensures.value)
     (c.in_ok-reach.ensures.ordered
     (climbable c.note_parents.new.up c.args.seen.now chain c.args.parents.now c.requires.tree
-    (subst (λ m. All (λ q. q < m) chain) (sym c.requires.seens) c.requires.inside)
-    c.requires.unseen
-    c.note_parents.ensures.parents)))
-    c.requires.inside
-    (c.note_parents.ensures.sized ∙ c.requires.ups)
-    c.note_parents.ensures.parents
-    c.requires.small
+    (subst (λ m. All (λ q. q < m) chain) (sym c.requires.seens) c.requires.inside) c.requires.unseen
+    c.note_parents.ensures.parents))) c.requires.inside
+    (c.note_parents.ensures.sized ∙ c.requires.ups) c.note_parents.ensures.parents c.requires.small
 
 pub sink-requires : goal.sink-requires
 sink-requires c = record { able = able_at (goal.at.sink-requires c).After-deref }
 
 pub returns-clause-below : goal.returns-clause-below
 returns-clause-below c q in' =
-    let chain = c.args.chain.now in
     let weight : ℕ → ℕ = λ r. get_or c.args.sums.now r 0 in
     subst (λ qs. get_or c.sink.new.sums q 0
     ≡ side_weight weight qs (is_below qs c.args.parents.now q))
-    (chain_parts chain c.requires.tree.filled)
+    (chain_parts c.args.chain.now c.requires.tree.filled)
     (c.sink.ensures.below (able_at (goal.at.returns-clause-below c).After-deref) q in')
 
 pub returns-clause-all : goal.returns-clause-all
@@ -66,5 +60,4 @@ pub returns-clause-known : goal.returns-clause-known
 returns-clause-known c =
     c.note_parents.ensures.within (length c.args.sums.now) c.requires.known
     (parents_within (length c.args.sums.now) c.args.chain.now (drop 1 c.args.chain.now)
-    c.args.parents.now
-    c.requires.tree.tree.ties c.requires.inside)
+    c.args.parents.now c.requires.tree.tree.ties c.requires.inside)

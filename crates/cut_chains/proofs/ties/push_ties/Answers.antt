@@ -1,5 +1,4 @@
-use Rattle.cut_chains.proofs.Common.{◌≡◌, ◌+◌, ◌++◌, [], ◌∷◌, pos, neg_ℤ, drop, get_or, ap, ◌∙◌, arith, rules, first_of, coupling_entry, ties, strength_in}
-use Rattle.cut_chains.proofs.TiesOf.{ties_of_more}
+use Rattle.cut_chains.proofs.Common.{ties_of_more, ◌≡◌, ◌+◌, ◌++◌, [], ◌∷◌, pos, neg_ℤ, drop, get_or, ap, ◌∙◌, arith, rules, first_of, coupling_entry, ties, strength_in}
 use Rattle.cut_chains.proofs.ties.push_ties.Goals as goal
 
 pub loop-i-preserved : goal.loop-i-preserved
@@ -15,8 +14,4 @@ loop-i-preserved c =
     search rules in
     ap (λ es. es ++ ties strong (drop (i + 1 + 1) chain) (drop (i + 1) parents)) pushed
     ∙ ties_of_more made (c.args.couplings.now ++ ties strong (drop 1 chain) parents) strong chain
-    parents i n
-    (omega arith)
-    (omega arith)
-    c.strength-strength.ensures
-    c.loop-i.invariant
+    parents i n (omega arith) (omega arith) c.strength-strength.ensures c.loop-i.invariant

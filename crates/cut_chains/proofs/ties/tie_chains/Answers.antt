@@ -6,12 +6,7 @@ use Rattle.cut_chains.proofs.ties.tie_chains.Goals as goal
 
 pub list-parents-requires : goal.list-parents-requires
 list-parents-requires c =
-    omega (
-      arith,
-      ap length c.chains.ensures,
-      ap length c.parents.ensures,
-      zip_lengths _ _ _ c.requires.kept.trees,
-    )
+    omega (arith, ap length c.chains.ensures, ap length c.parents.ensures, zip_lengths)
 
 -- the node whose chain is tied next
 next_at : (c : After-list-parents)
@@ -54,16 +49,14 @@ push_ties-requires-clause-matched c =
 pub push_ties-requires-clause-parts : goal.push_ties-requires-clause-parts
 push_ties-requires-clause-parts c =
     let next = next_at (goal.at.push_ties-requires-clause-parts c).After-list-parents in
-    let weighed = c.in_ok-weigh_chain.ensures in
     parts_small _ _ _ _ _ next c.weigh_chain.new.sums
-    (record { below = weighed.below; all = weighed.all })
+    (record { below = c.in_ok-weigh_chain.ensures.below; all = c.in_ok-weigh_chain.ensures.all })
 
 pub push_ties-requires-clause-small : goal.push_ties-requires-clause-small
 push_ties-requires-clause-small c =
     let next = next_at (goal.at.push_ties-requires-clause-small c).After-list-parents in
-    let weighed = c.in_ok-weigh_chain.ensures in
     all_small _ _ _ _ _ next c.weigh_chain.new.sums
-    (record { below = weighed.below; all = weighed.all })
+    (record { below = c.in_ok-weigh_chain.ensures.below; all = c.in_ok-weigh_chain.ensures.all })
 
 pub loop-i-preserved : goal.loop-i-preserved
 loop-i-preserved c =
@@ -72,24 +65,19 @@ loop-i-preserved c =
     let so_far = c.loop-i.invariant in
     let weighed = c.in_ok-weigh_chain.ensures in
     let next = next_at (goal.at.loop-i-preserved c).After-list-parents in
-    let tied =
-    node_made _ _ _ _ _ next c.weigh_chain.new.sums
+    let tied = node_made _ _ _ _ _ next c.weigh_chain.new.sums
     (record { below = weighed.below; all = weighed.all }) in
     let before = flat_map (node_ties e) (range_with_len 0 i) in
     let apart : (j : ℕ) → i + 1 ≤ j → j < length e.ising.fields → (q : ℕ)
     → is_in (chain_of e.chains j) q ≡ true → is_in c.list-qubits.result.now q ≡ false =
-    λ j later j_in q q_in.
-    ap (λ qs. is_in qs q) next.chain_is
-    ∙ false_from_ne_true _ (λ here.
+    λ j later j_in q q_in. ap (λ qs. is_in qs q) next.chain_is ∙ false_from_ne_true _ (λ here.
     let same =
-    one_chain e.chains q i j (next.kept.once q)
-    (omega (arith, next.within, next.kept.counted))
+    one_chain e.chains q i j (next.kept.once q) (omega (arith, next.within, next.kept.counted))
     (omega (arith, j_in, next.kept.counted)) here q_in in
     omega (arith, same, later)) in
     record {
       made =
-          c.in_ok-push_ties.ensures
-          ∙ (λ k. so_far.made k ++ tied k)
+          c.in_ok-push_ties.ensures ∙ (λ k. so_far.made k ++ tied k)
           ∙ append_assoc c.args.made.now before (node_ties e i)
           ∙ ap (λ es. c.args.made.now ++ es) (sym (flat_range (node_ties e) i));
       sized = weighed.sized ∙ so_far.sized;
@@ -97,8 +85,7 @@ loop-i-preserved c =
       known = subst (λ n. All (λ q. q < n) c.weigh_chain.new.up) so_far.sized weighed.known;
       seens = weighed.seens ∙ so_far.seens;
       empty = weighed.empty;
-      held = λ j later j_in q q_in.
-          weighed.others q (apart j later j_in q q_in)
+      held = λ j later j_in q q_in. weighed.others q (apart j later j_in q q_in)
           ∙ so_far.held j (omega (arith, later)) j_in q q_in;
       unseen = λ j later j_in q q_in.
           let below_all : q < e.qubits =

@@ -3,8 +3,7 @@ use Rattle.cut_chains.proofs.weights.add_couplings.Goals.{After-unsigned_abs-siz
 use Rattle.cut_chains.proofs.weights.add_couplings.Goals as goal
 
 -- the couplings that are left begin with this one
-next : (c : After-unsigned_abs-size)
-    → drop c.loop-k.k c.args.couplings.now
+next : (c : After-unsigned_abs-size) → drop c.loop-k.k c.args.couplings.now
     ≡ c.at-coupling.result ∷ drop (c.loop-k.k + 1) c.args.couplings.now
 next c =
     let all = c.args.couplings.now in
@@ -24,8 +23,7 @@ can c =
     let e : Entry = c.at-coupling.result in
     let so_far = c.loop-k.invariant in
     let small = next_small n xs left e _ (next c) so_far.within so_far.small in
-    let same : c.unsigned_abs-size.result ≡ unsigned_abs e.weight =
-    omega (arith, ints, small) in
+    let same : c.unsigned_abs-size.result ≡ unsigned_abs e.weight = omega (arith, ints, small) in
     can_raise n xs left e _ c.unsigned_abs-size.result (next c) so_far.same_length so_far.within
     so_far.small same
 

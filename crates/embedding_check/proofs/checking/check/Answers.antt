@@ -1,10 +1,4 @@
-use Rattle.std.proofs.Common.{refl, sym, subst, ℕ, List}
-use Rattle.std.specs.List.{AllZip}
-use Rattle.std.proofs.lemmas.Result.{err_from_is_err_and}
-use Rattle.chain_map.specs.Valid.{IsValid}
-use Rattle.embedding_check.specs.Checked.{ArePlaces}
-use Rattle.embedding_check.specs.Distances.{AreParents}
-use Rattle.embedding_check.specs.Faults.{IsFault}
+use Rattle.embedding_check.proofs.Common.{refl, sym, subst, ℕ, List, AllZip, err_from_is_err_and, IsValid, ArePlaces, AreParents, IsFault}
 use Rattle.embedding_check.proofs.Checked.{checked_embeds}
 use Rattle.embedding_check.proofs.Faulty.{if_fault, fault_invalid}
 use Rattle.embedding_check.proofs.checking.check.Goals as goal

@@ -1,7 +1,4 @@
-use Rattle.std.proofs.Common.{◌≡◌, ◌<◌, length, sym, subst, ap, ◌∙◌}
-use Rattle.std.proofs.lemmas.Result.{IfOk-weaker, IfErr-weaker}
-use Rattle.ising_form.specs.Isings.{IsingContent}
-use Rattle.embedding_check.specs.Faults.{Exists, IsInside}
+use Rattle.embedding_check.proofs.Common.{◌<◌, ◌≡◌, length, sym, subst, ap, ◌∙◌, IfOk-weaker, IfErr-weaker, IsingContent, Exists, IsInside}
 use Rattle.embedding_check.proofs.Faulty.{is_inside, is_apart, repeated_fault}
 use Rattle.embedding_check.proofs.checking.check_apart.Given.{Over}
 use Rattle.embedding_check.proofs.checking.check_apart.Goals.{In_ok-check_inside}
@@ -11,14 +8,13 @@ use Rattle.embedding_check.proofs.checking.check_apart.Goals as goal
 inside : (g : Over) (c : In_ok-check_inside g)
     → IsInside (λ q. q < g.H.Hardware.qubits c.args.hardware.now) c.args.ising.now c.args.map.now
 inside g c =
-    let f = c.args.ising.now in
     let map = c.args.map.now in
-    let counted : length map ≡ length f.fields =
+    let counted : length map ≡ length c.args.ising.now.fields =
     sym c.len.ensures
     ∙ c.if-len-as_slice.false
     ∙ ap (λ xs. length xs) c.as_slice.ensures
     ∙ ap (λ (x : IsingContent). length x.fields) c.ising.view_is in
-    is_inside _ f map counted c.in-None.ensures
+    is_inside _ c.args.ising.now map counted c.in-None.ensures
     (λ u hu j hj. subst (λ m. Exists m map u j) c.qubits-qubits.ensures
     (c.in_ok-check_inside.ensures.within u hu j hj))
 

@@ -1,5 +1,4 @@
-use Rattle.std.proofs.Common.{◌≤◌, ℕ, List, sym, subst}
-use Rattle.chain_map.specs.Chains.{occurrences}
+use Rattle.embedding_check.proofs.Common.{◌≤◌, ℕ, List, sym, subst, occurrences}
 use Rattle.embedding_check.proofs.checking.laid_out.Goals as goal
 
 pub sorted_chains-requires : goal.sorted_chains-requires

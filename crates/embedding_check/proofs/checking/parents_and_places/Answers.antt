@@ -1,11 +1,4 @@
-use Rattle.std.proofs.Common.{◌<◌, List, All, length, sym, ap, subst, ◌∙◌}
-use Rattle.std.proofs.lemmas.Result.{err_from_is_err_and}
-use Rattle.bits_model.specs.declared.output.Entry.{Entry}
-use Rattle.ising_form.specs.Isings.{IsingContent}
-use Rattle.quad_form.specs.Quads.{IsCoupler}
-use Rattle.chain_map.specs.Faults.{IfFault}
-use Rattle.embedding_check.specs.Checked.{ArePlaces}
-use Rattle.embedding_check.specs.Faults.{IsLinked, NamesUncoupled}
+use Rattle.embedding_check.proofs.Common.{◌<◌, List, All, length, sym, ap, subst, ◌∙◌, err_from_is_err_and, Entry, IsingContent, IsCoupler, IfFault, ArePlaces, IsLinked, NamesUncoupled}
 use Rattle.embedding_check.proofs.Faulty.{is_linked, is_valid, uncoupled_fault, searchable}
 use Rattle.embedding_check.proofs.checking.parents_and_places.Given.{Over}
 use Rattle.embedding_check.proofs.checking.parents_and_places.Goals.{In_ok-parents}

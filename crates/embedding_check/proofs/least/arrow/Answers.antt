@@ -10,4 +10,4 @@ returns-in-Some g c =
 pub returns : goal.returns
 returns g c =
     arrow_none (g.H.Hardware.joined c.args.hardware.now) c.args.c.now c.args.d.now
-    (λ i low. c.loop-k.invariant i (omega (arith, low, c.loop-k-test.false)))
+    (λ i low. c.loop-k.invariant i (omega (arith, low)))

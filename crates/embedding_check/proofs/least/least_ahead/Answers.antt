@@ -1,7 +1,4 @@
-use Rattle.std.proofs.Common.{ℕ, ◌<◌, Option, sym, subst}
-use Rattle.chimera_graph.specs.declared.span.Span.{Span}
-use Rattle.chimera_graph.specs.Spans.{CanBeJoined}
-use Rattle.embedding_check.specs.Least.{IsAhead, IsNumberedAhead}
+use Rattle.embedding_check.proofs.Common.{ℕ, ◌<◌, Option, sym, subst, Span, CanBeJoined, IsAhead, IsNumberedAhead}
 use Rattle.embedding_check.proofs.Sorting.{at_of_in}
 use Rattle.embedding_check.proofs.LeastPairs.{least_of_two, ahead_ways}
 use Rattle.embedding_check.proofs.least.least_ahead.Goals as goal

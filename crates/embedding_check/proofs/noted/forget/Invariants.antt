@@ -1,5 +1,4 @@
-use Rattle.std.proofs.Common.{◌≡◌, ℕ, ◌<◌, length, get_or}
-use Rattle.embedding_check.specs.declared.noted.Mark.{Mark}
+use Rattle.embedding_check.proofs.Common.{◌≡◌, ℕ, ◌<◌, length, get_or, Mark}
 use Rattle.embedding_check.proofs.noted.forget.Given as goal
 
 -- the marks so far are of no turn

@@ -1,5 +1,4 @@
-use Rattle.std.proofs.Common.{◌≡◌, ℕ, ◌+◌, ◌<◌, ◌≤◌, length, get_or}
-use Rattle.embedding_check.specs.Owners.{owner_of, IsRun}
+use Rattle.embedding_check.proofs.Common.{◌≡◌, ℕ, ◌+◌, ◌<◌, ◌≤◌, length, get_or, owner_of, IsRun}
 use Rattle.embedding_check.proofs.owners.mark_runs.Given as goal
 
 -- the runs of the last qubits are marked, and the last one of them is not ended yet

@@ -1,5 +1,4 @@
-use Rattle.std.proofs.Common.{◌≡◌, subst, arith}
-use Rattle.embedding_check.specs.Owners.{owner_of}
+use Rattle.embedding_check.proofs.Common.{◌≡◌, subst, arith, owner_of}
 use Rattle.embedding_check.proofs.Sorting.{at_of_in}
 use Rattle.embedding_check.proofs.owners.own.Goals as goal
 
@@ -7,4 +6,4 @@ pub returns-clause-inside : goal.returns-clause-inside
 returns-clause-inside c = λ b in'.
     let i = at_of_in c.args.chain.now b in' in
     subst (λ x. owner_of c.loop-k.owners x ≡ c.args.owner) i.2
-    (c.loop-k.invariant.given i.0 (omega (arith, i.1, c.loop-k-test.false)))
+    (c.loop-k.invariant.given i.0 (omega (arith, i.1)))

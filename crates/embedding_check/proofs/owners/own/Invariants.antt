@@ -1,6 +1,4 @@
-use Rattle.std.proofs.Common.{◌≡◌, ℕ, ◌<◌, ◌⊎◌, true, length, get_or}
-use Rattle.bits_model.specs.Walks.{is_in}
-use Rattle.embedding_check.specs.Owners.{owner_of}
+use Rattle.embedding_check.proofs.Common.{◌≡◌, ℕ, ◌<◌, ◌⊎◌, true, length, get_or, is_in, owner_of}
 use Rattle.embedding_check.proofs.owners.own.Given as goal
 
 abbrev pub invariant-loop-k : goal.invariant-loop-k

@@ -1,6 +1,4 @@
-use Rattle.std.proofs.Common.{◌≡◌, ℕ, ◌⊎◌, true, List, All, length, ◌<◌, sym, subst, ◌∙◌, arith}
-use Rattle.bits_model.specs.Walks.{is_in}
-use Rattle.embedding_check.specs.Owners.{owner_of}
+use Rattle.embedding_check.proofs.Common.{◌≡◌, ℕ, ◌⊎◌, true, List, All, length, ◌<◌, sym, subst, ◌∙◌, arith, is_in, owner_of}
 use Rattle.embedding_check.proofs.Owning.{own_more, owned_all}
 use Rattle.embedding_check.proofs.Passing.{chain_within}
 use Rattle.embedding_check.proofs.owners.own_all.Goals as goal
@@ -9,7 +7,7 @@ pub own-requires : goal.own-requires
 own-requires c =
     subst (λ n. All (λ q. q < n) c.list.result.now) (sym c.loop-node.invariant.len)
     (chain_within (length c.args.owners.now) c.args.chains.now c.loop-node.node c.list.result.now
-    c.list.ensures.listed (omega (arith, c.loop-node-test.true, c.len-node-end.ensures)) c.requires.within)
+    c.list.ensures.listed (omega arith) c.requires.within)
 
 pub loop-node-preserved : goal.loop-node-preserved
 loop-node-preserved c =
@@ -18,11 +16,11 @@ loop-node-preserved c =
     let new = c.own.new.owners in
     record {
       len = c.own.ensures.len ∙ c.loop-node.invariant.len;
-      owned = own_more chains c.loop-node.owners new node c.requires.once (omega (arith, c.loop-node-test.true, c.len-node-end.ensures)) c.requires.few c.loop-node.invariant.owned c.own.ensures.len
+      owned = own_more chains c.loop-node.owners new node c.requires.once (omega arith) c.requires.few c.loop-node.invariant.owned c.own.ensures.len
           (subst (λ (xs : List ℕ). (b : ℕ) → is_in xs b ≡ true → owner_of new b ≡ node) c.list.ensures.listed c.own.ensures.inside)
           (subst (λ (xs : List ℕ). (b : ℕ) → (is_in xs b ≡ true) ⊎ (owner_of new b ≡ owner_of c.loop-node.owners b)) c.list.ensures.listed c.own.ensures.outside);
     }
 
 pub returns-clause-owners : goal.returns-clause-owners
 returns-clause-owners c =
-    owned_all c.args.chains.now c.loop-node.owners c.loop-node.node (omega (arith, c.loop-node-test.false, c.len-node-end.ensures)) c.loop-node.invariant.owned
+    owned_all c.args.chains.now c.loop-node.owners c.loop-node.node (omega arith) c.loop-node.invariant.owned

@@ -1,12 +1,4 @@
-use Rattle.std.proofs.Common.{◌≡◌, ◌+◌, ℕ, ◌<◌, ◌≤◌, ◌==◌, List, [], ◌∷◌, length, take, get_or, ◌++◌, ◌∙◌, sym, subst, ap, arith}
-use Rattle.std.specs.List.{count_by, AllZip}
-use Rattle.std.proofs.lemmas.List.{take_all}
-use Rattle.std.proofs.lemmas.List.Elements.{all_zip_more}
-use Rattle.chain_map.specs.Chains.{chain_of}
-use Rattle.bits_model.specs.Walks.{IsReached}
-use Rattle.embedding_check.specs.Distances.{AreParents}
-use Rattle.embedding_check.specs.Reached.{AreFound, IsFirstBad}
-use Rattle.embedding_check.specs.Faults.{IsReachedAt}
+use Rattle.embedding_check.proofs.Common.{◌≡◌, ◌+◌, ℕ, ◌<◌, ◌≤◌, ◌==◌, List, [], ◌∷◌, length, take, get_or, ◌++◌, ◌∙◌, sym, subst, ap, arith, count_by, AllZip, take_all, all_zip_more, chain_of, IsReached, AreParents, AreFound, IsFirstBad, IsReachedAt}
 use Rattle.chain_map.specs.declared.faults.EmbedFault.TheVariants.{Disconnected}
 use Rattle.embedding_check.specs.declared.search.Parents.TheVariants.{All}
 use Rattle.embedding_check.proofs.Passing.{chain_within, once_each, places_more, first_at, default_free}
@@ -15,18 +7,18 @@ use Rattle.embedding_check.proofs.passes.all_parents.Goals as goal
 pub parents_of-requires-clause-once : goal.parents_of-requires-clause-once
 parents_of-requires-clause-once g c = λ q.
     subst (λ (xs : List ℕ). count_by (λ p. p == q) xs ≤ 1) (sym c.list-listed.ensures.listed)
-    (once_each c.args.chains.now c.requires.chains.once c.loop-node.node (omega (arith, c.loop-node-test.true, c.len-node-end.ensures)) q)
+    (once_each c.args.chains.now c.requires.chains.once c.loop-node.node (omega arith) q)
 
 pub parents_of-requires-clause-within : goal.parents_of-requires-clause-within
 parents_of-requires-clause-within g c =
     chain_within (g.H.Hardware.qubits c.args.hardware.now) c.args.chains.now c.loop-node.node
     c.list-listed.result.now c.list-listed.ensures.listed
-    (omega (arith, c.loop-node-test.true, c.len-node-end.ensures)) c.requires.chains.within
+    (omega arith) c.requires.chains.within
 
 pub parents_of-requires-clause-sorted : goal.parents_of-requires-clause-sorted
 parents_of-requires-clause-sorted g c =
     rw (c.list-listed.ensures.listed, c.list.ensures.listed)
-    (c.requires.sorted.each c.loop-node.node (omega (arith, c.loop-node-test.true, c.len-node-end.ensures)))
+    (c.requires.sorted.each c.loop-node.node (omega arith))
 
 pub returns-in-Unreached-clause-fault : goal.returns-in-Unreached-clause-fault
 returns-in-Unreached-clause-fault g c =
@@ -39,7 +31,7 @@ returns-in-Unreached-clause-fault g c =
     let bad = subst (λ (xs : List ℕ). IsFirstBad (length xs) (λ j. IsReached joined xs (get_or xs j 0)) k) same found in (
       node,
       k,
-      first_at chains (IsReachedAt joined chains) node k (omega (arith, c.loop-node-test.true, c.len-node-end.ensures)) c.loop-node.invariant.reached bad,
+      first_at chains (IsReachedAt joined chains) node k (omega arith) c.loop-node.invariant.reached bad,
       ap (λ (xs : List ℕ). Disconnected node (get_or xs k 0)) same,
     )
 
@@ -48,7 +40,7 @@ loop-node-preserved g c =
     let joined = g.H.Hardware.joined c.args.hardware.now in
     let chains = c.args.chains.now in
     let node = c.loop-node.node in
-    let below : node < length chains = omega (arith, c.loop-node-test.true, c.len-node-end.ensures) in
+    let below : node < length chains = omega arith in
     let same : c.list-listed.result.now ≡ chain_of chains node = c.list-listed.ensures.listed in
     let found = subst (λ r. AreFound joined c.list-listed.result.now r) c.in-All.is c.in_ok-found.ensures in
     let both = subst (λ (xs : List ℕ). AreFound joined xs (All c.in-All.found)) same found in
@@ -65,5 +57,5 @@ pub returns-clause-parents : goal.returns-clause-parents
 returns-clause-parents g c =
     let R = AreParents (g.H.Hardware.joined c.args.hardware.now) in
     subst (λ (xs : List (List ℕ)). AllZip R xs c.loop-node.parents)
-    (take_all c.loop-node.node c.args.chains.now (omega (arith, c.loop-node-test.false, c.len-node-end.ensures)))
+    (take_all c.loop-node.node c.args.chains.now (omega arith))
     c.loop-node.invariant.parents

@@ -1,8 +1,4 @@
-use Rattle.std.proofs.Common.{ℕ, ◌<◌, take, length}
-use Rattle.std.specs.List.{AllZip}
-use Rattle.chain_map.specs.Chains.{chain_of}
-use Rattle.embedding_check.specs.Distances.{AreParents}
-use Rattle.embedding_check.specs.Faults.{IsReachedAt}
+use Rattle.embedding_check.proofs.Common.{ℕ, ◌<◌, take, length, AllZip, chain_of, AreParents, IsReachedAt}
 use Rattle.embedding_check.proofs.passes.all_parents.Given as goal
 
 abbrev pub invariant-loop-node : goal.invariant-loop-node

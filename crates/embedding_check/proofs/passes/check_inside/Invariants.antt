@@ -1,6 +1,4 @@
-use Rattle.std.proofs.Common.{ℕ, ◌<◌, length}
-use Rattle.chain_map.specs.Chains.{chain_of}
-use Rattle.embedding_check.specs.Faults.{Exists}
+use Rattle.embedding_check.proofs.Common.{ℕ, ◌<◌, length, chain_of, Exists}
 use Rattle.embedding_check.proofs.passes.check_inside.Given as goal
 
 -- all numbers of the chains so far are qubits

@@ -1,5 +1,4 @@
-use Rattle.std.proofs.Common.{◌≢◌, ℕ, ◌<◌, []}
-use Rattle.chain_map.specs.Chains.{chain_of}
+use Rattle.embedding_check.proofs.Common.{◌≢◌, ℕ, ◌<◌, [], chain_of}
 use Rattle.embedding_check.proofs.passes.first_empty.Given as goal
 
 abbrev pub invariant-loop-node : goal.invariant-loop-node

@@ -1,10 +1,5 @@
-use Rattle.std.proofs.Common.{◌≡◌, ◌+◌, ℕ, ◌<◌, ◌==◌, List, length, take, get_or, refl, sym, subst, ap, ◌∙◌, arith}
-use Rattle.std.specs.List.{count_by}
-use Rattle.chain_map.specs.Chains.{chain_of, occurrences}
-use Rattle.embedding_check.specs.Faults.{IsNew}
+use Rattle.embedding_check.proofs.Common.{◌≡◌, ◌+◌, ℕ, ◌<◌, ◌==◌, List, length, take, get_or, refl, sym, subst, ap, ◌∙◌, arith, count_by, chain_of, occurrences, IsNew, occurrences_more, take_all}
 use Rattle.embedding_check.proofs.Passing.{places_more}
-use Rattle.chain_map.proofs.Occurrences.{occurrences_more}
-use Rattle.std.proofs.lemmas.List.{take_all}
 use Rattle.embedding_check.proofs.Passing.{marked-le}
 use Rattle.embedding_check.proofs.passes.first_repeated.Goals as goal
 
@@ -12,7 +7,7 @@ pub loop-node-preserved : goal.loop-node-preserved
 loop-node-preserved c =
     let map = c.args.map.now in
     let node = c.loop-node.node in
-    let below : node < length map = omega (arith, c.loop-node-test.true, c.len-node-end.ensures) in
+    let below : node < length map = omega arith in
     let chain : List ℕ = c.chain.result.now in
     let same : chain ≡ chain_of map node = c.chain.ensures in
     let none = c.in-None.ensures in
@@ -30,6 +25,5 @@ loop-node-preserved c =
 pub returns-clause-once : goal.returns-clause-once
 returns-clause-once c = λ none q.
     let map = c.args.map.now in
-    let node = c.loop-node.node in
-    let all : take node map ≡ map = take_all node map (omega (arith, c.loop-node-test.false, c.len-node-end.ensures)) in
+    let all : take c.loop-node.node map ≡ map = take_all c.loop-node.node map (omega arith) in
     omega (arith, marked-le c.loop-node.seen q, c.loop-node.invariant.all q, ap (occurrences q) all)

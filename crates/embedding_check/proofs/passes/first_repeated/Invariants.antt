@@ -1,7 +1,4 @@
-use Rattle.std.proofs.Common.{◌≡◌, ℕ, ◌<◌, take, length}
-use Rattle.chain_map.specs.Chains.{chain_of, occurrences}
-use Rattle.embedding_check.specs.Marks.{marked}
-use Rattle.embedding_check.specs.Faults.{IsNew}
+use Rattle.embedding_check.proofs.Common.{◌≡◌, ℕ, ◌<◌, take, length, chain_of, occurrences, marked, IsNew}
 use Rattle.embedding_check.proofs.passes.first_repeated.Given as goal
 
 abbrev pub invariant-loop-node : goal.invariant-loop-node

@@ -1,23 +1,21 @@
-use Rattle.std.proofs.Common.{◌<◌, ◌^◌, ℕ, List, [], ◌∷◌, ◌++◌, length, get_or, sym, subst, ap, ◌∙◌, arith}
-use Rattle.std.proofs.lemmas.List.{take_more, take_all}
+use Rattle.embedding_check.proofs.Common.{◌<◌, ◌^◌, ℕ, List, [], ◌∷◌, ◌++◌, length, get_or, sym, subst, ap, ◌∙◌, arith, take_more, take_all}
 use Rattle.embedding_check.proofs.passes.qubits_of.Goals as goal
 
 pub narrow-requires : goal.narrow-requires
 narrow-requires c =
     subst (λ (xs : List ℕ). (j : ℕ) → j < length xs → get_or xs j 0 < 2 ^ 32) (sym c.chain.ensures)
-    (c.requires c.loop-node.node (omega (arith, c.loop-node-test.true, c.len-node-end.ensures)))
+    (c.requires c.loop-node.node (omega arith))
 
 pub loop-node-preserved : goal.loop-node-preserved
 loop-node-preserved c =
-    let map = c.args.map.now in
     let node = c.loop-node.node in
     let here = c.deref.ensures.value ∙ c.in_ok-narrow.ensures ∙ c.chain.ensures in
     c.in_ok-push.ensures.pushed
     ∙ ap (λ xs. c.loop-node.chains ++ xs ∷ []) here
-    ∙ ap (λ (ys : List (List ℕ)). ys ++ get_or map node [] ∷ []) c.loop-node.invariant
-    ∙ sym (take_more map node [] (omega (arith, c.loop-node-test.true, c.len-node-end.ensures)))
+    ∙ ap (λ (ys : List (List ℕ)). ys ++ get_or c.args.map.now node [] ∷ []) c.loop-node.invariant
+    ∙ sym (take_more c.args.map.now node [] (omega arith))
 
 pub returns-clause-same : goal.returns-clause-same
 returns-clause-same c =
     c.loop-node.invariant
-    ∙ take_all c.loop-node.node c.args.map.now (omega (arith, c.loop-node-test.false, c.len-node-end.ensures))
+    ∙ take_all c.loop-node.node c.args.map.now (omega arith)

@@ -1,10 +1,4 @@
-use Rattle.std.proofs.Common.{◌<◌, List, All, ℕ, pos, length, get_or, sym, subst, arith}
-use Rattle.bits_model.specs.declared.output.Entry.{Entry}
-use Rattle.quad_form.specs.Quads.{IsCoupler}
-use Rattle.chain_map.specs.Chains.{chain_of}
-use Rattle.embedding_check.specs.Search.{qubit_at}
-use Rattle.embedding_check.specs.Least.{IsLeastPair}
-use Rattle.embedding_check.specs.Noted.{AreNoted, noted_at, IsChainJoin}
+use Rattle.embedding_check.proofs.Common.{◌<◌, List, All, ℕ, pos, length, get_or, sym, subst, arith, Entry, IsCoupler, chain_of, qubit_at, IsLeastPair, AreNoted, noted_at, IsChainJoin}
 use Rattle.embedding_check.proofs.Noting.{noted_place}
 use Rattle.embedding_check.proofs.Passing.{chain_within}
 use Rattle.embedding_check.proofs.places.note_row.Given.{Over}
@@ -49,5 +43,5 @@ returns-clause-noted g c = λ yes k d low.
     (λ j h. subst (λ n. qubit_at (chain_of chains v) j < n) (sym c.requires.all)
     (c.requires.within v below j h))
     (subst (λ (xs : List ℕ). IsLeastPair (IsChainJoin joined owners node xs (length xs) v) (noted_at noted v))
-    c.list-own.ensures.listed (c.note_chain.ensures.noted v (omega (arith, below, c.requires.len)))) in
+    c.list-own.ensures.listed (c.note_chain.ensures.noted v (omega (arith, below)))) in
     subst (λ n. AreNoted joined chains n noted) (sym (c.first-node.ensures k d low)) here

@@ -1,7 +1,4 @@
-use Rattle.std.proofs.Common.{◌<◌, List, ℕ, length, sym, subst, arith}
-use Rattle.std.specs.List.{All}
-use Rattle.chain_map.specs.Chains.{chain_of}
-use Rattle.embedding_check.specs.Least.{IsPlaceIn}
+use Rattle.embedding_check.proofs.Common.{◌<◌, List, ℕ, length, sym, subst, arith, All, chain_of, IsPlaceIn}
 use Rattle.embedding_check.proofs.Faulty.{place_same, sorted_within}
 use Rattle.embedding_check.proofs.places.place_of.Goals as goal
 
@@ -9,7 +6,7 @@ pub place_between-requires-clause-from : goal.place_between-requires-clause-from
 place_between-requires-clause-from g c =
     let n = g.H.Hardware.qubits c.args.hardware.now in
     let first = c.args.first in
-    let below : first < length c.args.chains.now = omega (arith, c.requires.upward, c.requires.node) in
+    let below : first < length c.args.chains.now = omega arith in
     subst (λ (xs : List ℕ). All (λ q. q < n) xs) (sym c.list.ensures.listed)
     (sorted_within n (chain_of c.args.chains.now first) (chain_of c.args.sorted.now first)
     (c.requires.within first below) (c.requires.sorted first below))
@@ -18,10 +15,9 @@ pub place_between-requires-clause-to : goal.place_between-requires-clause-to
 place_between-requires-clause-to g c =
     let n = g.H.Hardware.qubits c.args.hardware.now in
     let second = c.args.second in
-    let below = c.requires.node in
     subst (λ (xs : List ℕ). All (λ q. q < n) xs) (sym c.list-2.ensures.listed)
     (sorted_within n (chain_of c.args.chains.now second) (chain_of c.args.sorted.now second)
-    (c.requires.within second below) (c.requires.sorted second below))
+    (c.requires.within second c.requires.node) (c.requires.sorted second c.requires.node))
 
 pub returns : goal.returns
 returns g c =
@@ -30,7 +26,7 @@ returns g c =
     let sorted = c.args.sorted.now in
     let first = c.args.first in
     let second = c.args.second in
-    let below : first < length c.args.chains.now = omega (arith, c.requires.upward, c.requires.node) in
+    let below : first < length c.args.chains.now = omega arith in
     let r = c.place_between.result in
     place_same joined (chain_of chains first) (chain_of chains second) (chain_of sorted first)
     (chain_of sorted second) r (c.requires.sorted first below)

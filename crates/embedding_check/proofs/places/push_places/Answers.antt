@@ -1,11 +1,4 @@
-use Rattle.std.proofs.Common.{◌≡◌, ◌<◌, pos, inl, inr, length, get_or, sym, subst, refl, arith}
-use Rattle.std.proofs.lemmas.Bool.{cases_lt}
-use Rattle.bits_model.specs.declared.output.Entry.{Entry}
-use Rattle.quad_form.specs.Quads.{IsCoupler}
-use Rattle.chain_map.specs.Chains.{chain_of}
-use Rattle.chain_map.specs.Valid.{IsCoupled}
-use Rattle.embedding_check.specs.Checked.{IsPlace, IsPlaceOf}
-use Rattle.embedding_check.specs.Noted.{AreNoted}
+use Rattle.embedding_check.proofs.Common.{◌≡◌, ◌<◌, pos, inl, inr, length, get_or, subst, refl, arith, cases_lt, Entry, IsCoupler, chain_of, IsCoupled, IsPlace, IsPlaceOf}
 use Rattle.embedding_check.proofs.Passing.{default_free}
 use Rattle.embedding_check.proofs.PlacedRows.{placed_next}
 use Rattle.embedding_check.proofs.places.push_places.Goals as goal
@@ -15,7 +8,7 @@ place_of-requires-clause-upward g c =
     let row = c.args.row.now in
     let k = c.loop-k.k in
     let zero : Entry = record { first = 0; second = 0; weight = pos 0 } in
-    let below : k < length row = omega (arith, c.loop-k-test.true, c.len-k-end.ensures) in
+    let below : k < length row = omega arith in
     let coupler : IsCoupler (length c.args.chains.now) (get_or row k zero) = c.requires.nodes k zero below in
     omega (arith, coupler.upward, c.first-first.ensures k zero below, c.second-second.ensures zero)
 
@@ -24,18 +17,15 @@ place_of-requires-clause-node g c =
     let row = c.args.row.now in
     let k = c.loop-k.k in
     let zero : Entry = record { first = 0; second = 0; weight = pos 0 } in
-    let below : k < length row = omega (arith, c.loop-k-test.true, c.len-k-end.ensures) in
+    let below : k < length row = omega arith in
     let coupler : IsCoupler (length c.args.chains.now) (get_or row k zero) = c.requires.nodes k zero below in
     omega (arith, coupler.within, c.second-second.ensures zero)
 
 pub place_of-requires-clause-noted : goal.place_of-requires-clause-noted
 place_of-requires-clause-noted g c = λ yes.
-    let row = c.args.row.now in
-    let k = c.loop-k.k in
     let zero : Entry = record { first = 0; second = 0; weight = pos 0 } in
-    let below : k < length row = omega (arith, c.loop-k-test.true, c.len-k-end.ensures) in
-    subst (λ n. AreNoted (g.H.Hardware.joined c.args.hardware.now) c.args.chains.now n c.args.noted.now)
-    (c.first-first.ensures k zero below) (c.requires.noted yes k zero below)
+    let below : c.loop-k.k < length c.args.row.now = omega arith in
+    rw (← c.first-first.ensures c.loop-k.k zero below) (c.requires.noted yes c.loop-k.k zero below)
 
 pub loop-k-preserved : goal.loop-k-preserved
 loop-k-preserved g c =
@@ -47,14 +37,10 @@ loop-k-preserved g c =
     let R = IsPlaceOf joined chains in
     let zero : Entry = record { first = 0; second = 0; weight = pos 0 } in
     let entry = get_or row k zero in
-    let below : k < length row = omega (arith, c.loop-k-test.true, c.len-k-end.ensures) in
-    let first = c.first-first.result in
-    let second = c.second-second.result in
-    let place : IsPlace joined (chain_of chains first) (chain_of chains second) p =
+    let below : k < length row = omega arith in
+    let place : IsPlace joined (chain_of chains c.first-first.result) (chain_of chains c.second-second.result) p =
     record { crossing = c.in-Some.ensures.0; least = c.in-Some.ensures.1 } in
-    let here : R entry p =
-    subst (λ n. IsPlace joined (chain_of chains n) (chain_of chains entry.second) p) (sym (c.first-first.ensures k zero below))
-    (subst (λ n. IsPlace joined (chain_of chains first) (chain_of chains n) p) (sym (c.second-second.ensures zero)) place) in
+    let here : R entry p = rw (c.first-first.ensures k zero below, c.second-second.ensures zero) place in
     record {
       placed = λ before all.
           placed_next R before row k zero c.loop-k.places.items c.push.new.self.items p below
@@ -62,9 +48,9 @@ loop-k-preserved g c =
       coupled = λ i d low. elim (cases_lt i k) [
         | inl less ↦ c.loop-k.invariant.coupled i d less
         | inr past ↦
-            let last : k ≡ i = omega (arith, low, past) in
-            subst (λ j. IsCoupled joined chains (get_or row j d)) last
-            (subst (IsCoupled joined chains) (default_free row k zero d below) (p, here.crossing))
+            let last : i ≡ k = omega (arith, low, past) in
+            let coupled : IsCoupled joined chains entry = (p, here.crossing) in
+            rw (last, ← default_free row k zero d below) coupled
       ];
     }
 
@@ -75,7 +61,7 @@ returns-in-None-clause-fault g c =
     let row = c.args.row.now in
     let k = c.loop-k.k in
     let zero : Entry = record { first = 0; second = 0; weight = pos 0 } in
-    let below : k < length row = omega (arith, c.loop-k-test.true, c.len-k-end.ensures) in
+    let below : k < length row = omega arith in
     let first : (d : Entry) → (get_or row k d).first ≡ c.first-first.result = λ d. c.first-first.ensures k d below in
     let second : (d : Entry) → (get_or row k d).second ≡ c.second-second.result = c.second-second.ensures in (
       c.first-first.result,

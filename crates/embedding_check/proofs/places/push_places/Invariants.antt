@@ -1,8 +1,4 @@
-use Rattle.std.proofs.Common.{ℕ, ◌<◌, ◌++◌, List, take, get_or}
-use Rattle.std.specs.List.{AllZip}
-use Rattle.bits_model.specs.declared.output.Entry.{Entry}
-use Rattle.chain_map.specs.Valid.{IsCoupled}
-use Rattle.embedding_check.specs.Checked.{IsPlaceOf}
+use Rattle.embedding_check.proofs.Common.{ℕ, ◌<◌, ◌++◌, List, take, get_or, AllZip, Entry, IsCoupled, IsPlaceOf}
 use Rattle.embedding_check.proofs.places.push_places.Given as goal
 
 -- the places are those that were there, and those of the couplings so far

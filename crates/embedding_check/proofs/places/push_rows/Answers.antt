@@ -1,15 +1,6 @@
-use Rattle.std.proofs.Common.{◌≡◌, ◌<◌, ◌+◌, ℕ, List, ◌++◌, length, All, sym, ap, subst, ◌∙◌, arith}
-use Rattle.std.specs.List.{AllZip}
-use Rattle.std.proofs.lemmas.Result.{err_from_is_err_and}
-use Rattle.bits_model.specs.declared.output.Entry.{Entry}
-use Rattle.bits_model.specs.Entries.{rows_of}
-use Rattle.quad_form.specs.Quads.{IsCoupler}
-use Rattle.chain_map.specs.Valid.{IsCoupled}
+use Rattle.embedding_check.proofs.Common.{◌≡◌, ◌<◌, ◌+◌, ℕ, List, ◌++◌, length, All, sym, ap, subst, ◌∙◌, arith, AllZip, err_from_is_err_and, Entry, rows_of, IsCoupler, IsCoupled, ArePlaces, IsPlaceOf, IsUncoupled, rows_before, rows_more, rows_all}
 use Rattle.chain_map.specs.declared.faults.EmbedFault.TheVariants.{NoCoupler}
-use Rattle.embedding_check.specs.Checked.{ArePlaces, IsPlaceOf}
-use Rattle.embedding_check.specs.Faults.{IsUncoupled}
 use Rattle.embedding_check.proofs.Faulty.{if_fault, zip_all}
-use Rattle.bits_model.proofs.EntryRows.{rows_before, rows_more, rows_all}
 use Rattle.embedding_check.proofs.PlacedRows.{all_in_row, some_in_row, uncoupled_in_row}
 use Rattle.embedding_check.proofs.places.push_rows.Goals as goal
 
@@ -17,18 +8,18 @@ pub note_row-noting-requires-clause-nodes : goal.note_row-noting-requires-clause
 note_row-noting-requires-clause-nodes g c =
     let P = IsCoupler (length c.args.chains.now) in
     subst (λ (es : List Entry). All P es) (sym c.row-row.ensures)
-    (all_in_row P c.args.couplings.now c.loop-k.k (omega (arith, c.loop-k-test.true, c.row_count-k-end.ensures)) c.requires.nodes)
+    (all_in_row P c.args.couplings.now c.loop-k.k (omega arith) c.requires.nodes)
 
 pub note_row-noting-requires-clause-some : goal.note_row-noting-requires-clause-some
 note_row-noting-requires-clause-some g c =
     subst (λ (es : List Entry). 0 < length es) (sym c.row-row.ensures)
-    (some_in_row c.args.couplings.now c.loop-k.k (omega (arith, c.loop-k-test.true, c.row_count-k-end.ensures)))
+    (some_in_row c.args.couplings.now c.loop-k.k (omega arith))
 
 pub push_places-requires-clause-nodes : goal.push_places-requires-clause-nodes
 push_places-requires-clause-nodes g c =
     let P = IsCoupler (length c.args.chains.now) in
     subst (λ (es : List Entry). All P es) (sym c.row-row.ensures)
-    (all_in_row P c.args.couplings.now c.loop-k.k (omega (arith, c.loop-k-test.true, c.row_count-k-end.ensures)) c.requires.nodes)
+    (all_in_row P c.args.couplings.now c.loop-k.k (omega arith) c.requires.nodes)
 
 pub loop-k-preserved : goal.loop-k-preserved
 loop-k-preserved g c =
@@ -39,7 +30,7 @@ loop-k-preserved g c =
       table = c.note_row-noting.ensures.len;
       placed = subst (λ (es : List Entry). ArePlaces joined c.args.chains.now es c.push_places.new.places.items)
           (ap (λ (row : List Entry). rows_before couplings k ++ row) c.row-row.ensures
-          ∙ sym (rows_more couplings k (omega (arith, c.loop-k-test.true, c.row_count-k-end.ensures))))
+          ∙ sym (rows_more couplings k (omega arith)))
           (c.in_ok-push_places.ensures.places (rows_before couplings k) c.loop-k.invariant.placed);
     }
 
@@ -49,7 +40,7 @@ returns-in_err-push_places-clause-fault g c =
     let chains = c.args.chains.now in
     let couplings = c.args.couplings.now in
     let k = c.loop-k.k in
-    let below : k < length (rows_of couplings) = omega (arith, c.loop-k-test.true, c.row_count-k-end.ensures) in
+    let below : k < length (rows_of couplings) = omega arith in
     let coupled : All (IsCoupled joined chains) (rows_before couplings k) =
     zip_all (IsPlaceOf joined chains) (IsCoupled joined chains) (rows_before couplings k) c.loop-k.places.items
     (λ e place p. (place, p.crossing)) c.loop-k.invariant.placed in
@@ -71,5 +62,5 @@ pub returns-clause-places : goal.returns-clause-places
 returns-clause-places g c =
     let R = IsPlaceOf (g.H.Hardware.joined c.args.hardware.now) c.args.chains.now in
     subst (λ (xs : List Entry). AllZip R xs c.loop-k.places.items)
-    (rows_all c.args.couplings.now c.loop-k.k (omega (arith, c.loop-k-test.false, c.row_count-k-end.ensures, c.loop-k.auto.k-end)))
+    (rows_all c.args.couplings.now c.loop-k.k (omega arith))
     c.loop-k.invariant.placed

@@ -1,7 +1,4 @@
-use Rattle.std.proofs.Common.{◌≡◌, length}
-use Rattle.std.specs.List.{AllZip}
-use Rattle.embedding_check.specs.Checked.{IsPlaceOf}
-use Rattle.bits_model.proofs.EntryRows.{rows_before}
+use Rattle.embedding_check.proofs.Common.{◌≡◌, length, AllZip, IsPlaceOf, rows_before}
 use Rattle.embedding_check.proofs.places.push_rows.Given as goal
 
 -- the couplings of the rows so far have their places

@@ -1,27 +1,16 @@
-use Rattle.std.proofs.Common.{◌≡◌, ◌≢◌, ◌+◌, ◌-◌, ◌≤◌, ◌<◌, ℕ, true, false, inl, inr, List, [], ◌∷◌, ◌++◌, length, take, drop, sym, subst, ap, ◌∙◌, arith}
-use Rattle.std.specs.List.{AllZip}
-use Rattle.std.proofs.lemmas.List.Elements.{all_zip_more}
-use Rattle.std.proofs.lemmas.List.{length-drop}
-use Rattle.std.proofs.lemmas.Bool.{cases_eq}
-use Rattle.std.proofs.lemmas.Grind.{get_or_default_zero}
-use Rattle.bits_model.specs.Walks.{IsReached, first_of}
-use Rattle.embedding_check.specs.Distances.{IsParent}
-use Rattle.embedding_check.specs.Search.{Found, qubit_at, waits_at, parent_at}
+use Rattle.embedding_check.proofs.Common.{◌≡◌, ◌≢◌, ◌+◌, ◌-◌, ◌≤◌, ◌<◌, ℕ, true, false, inl, inr, List, length, drop, sym, subst, ap, ◌∙◌, arith, AllZip, all_zip_more, length-drop, cases_eq, get_or_default_zero, IsReached, first_of, IsParent, Found, qubit_at, waits_at, parent_at}
 use Rattle.embedding_check.proofs.Sorting.{one_place, rest_at, rest_all}
 use Rattle.embedding_check.proofs.search.found_parents.Goals as goal
 
 pub returns-then-has : goal.returns-then-has
 returns-then-has c = λ joined found.
-    let chain = c.args.chain.now in
     let at = c.position_in-at.result in
-    let s = c.args.search.now in
-    let waits : waits_at s at ≡ true =
+    let waits : waits_at c.args.search.now at ≡ true =
     subst (λ (f : Found). waits_at f at ≡ true) c.search.view_is (sym c.has.ensures ∙ c.if-has.true) in
     let place = c.position_in-at.ensures in
     record {
       below = c.loop-i-test.true;
-      bad = λ reaches. found.unreached at place.within waits
-          (subst (λ q. IsReached joined chain q) (sym place.same) reaches);
+      bad = λ reaches. found.unreached at place.within waits (rw place.same reaches);
       before = (c.loop-i.invariant joined found).reached;
     }
 
@@ -31,32 +20,29 @@ loop-i-preserved c = λ joined found.
     let i = c.loop-i.i in
     let q = qubit_at chain i in
     let at = c.position_in-at.result in
-    let s = c.args.search.now in
     let place = c.position_in-at.ensures in
-    let waits : waits_at s at ≡ false =
-    subst (λ (f : Found). waits_at f at ≡ false) c.search.view_is (sym c.has.ensures ∙ c.if-has.false) in
-    let reached : IsReached joined chain q = subst (λ x. IsReached joined chain x) place.same (found.reached at place.within waits) in
+    let view = c.search.view_is in
+    let waits : waits_at c.args.search.now at ≡ false =
+    subst (λ (f : Found). waits_at f at ≡ false) view (sym c.has.ensures ∙ c.if-has.false) in
+    let reached = rw place.same at (found.reached at place.within waits) in
     let not_first : qubit_at c.args.sorted.now at ≢ first_of chain = λ e.
-    one_place chain c.requires.once 0 i (omega (arith, c.loop-i.auto.i)) c.loop-i-test.true (sym e ∙ place.same) in
-    let parent : IsParent joined chain q (parent_at s at) =
-    subst (λ x. IsParent joined chain x (parent_at s at)) place.same (found.parent at place.within waits not_first) in
+    one_place chain c.requires.once 0 i (omega arith) c.loop-i-test.true (sym e ∙ place.same) in
+    let parent = rw place.same at (found.parent at place.within waits not_first) in
     let inner = c.search.inside.parents.items in
-    let few : at < length inner = omega (arith, place.within, found.parents, ap (λ (f : Found). length f.parents) c.search.view_is) in
-    let pushed : c.index.result.now ≡ parent_at s at =
-    c.index.ensures ∙ get_or_default_zero inner at c.index.result.now few ∙ ap (λ (f : Found). parent_at f at) c.search.view_is in
-    let some : 1 ≤ i = omega (arith, c.loop-i.auto.i) in
+    let few : at < length inner = omega (arith, place.within, found.parents, ap (λ (f : Found). length f.parents) view) in
+    let pushed : c.index.result.now ≡ parent_at c.args.search.now at =
+    c.index.ensures ∙ get_or_default_zero inner at c.index.result.now few ∙ ap (λ (f : Found). parent_at f at) view in
+    let some : 1 ≤ i = omega arith in
     let R = IsParent joined chain in
-    let more : AllZip R (take (i - 1 + 1) (drop 1 chain)) (c.loop-i.parents.items ++ (c.index.result.now ∷ [])) =
-    all_zip_more R (drop 1 chain) c.loop-i.parents.items (i - 1) q c.index.result.now
-    (omega (arith, some, length-drop 1 chain, c.loop-i-test.true))
+    let more = all_zip_more R (drop 1 chain) c.loop-i.parents.items (i - 1) q c.index.result.now
+    (omega (arith, some, length-drop 1 chain))
     (sym (rest_at chain i q some ∙ get_or_default_zero chain i q c.loop-i-test.true))
     (c.loop-i.invariant joined found).parents (subst (λ x. R q x) (sym pushed) parent) in
-    let step : i - 1 + 1 ≡ i + 1 - 1 = omega (arith, some) in
+    let step : i + 1 - 1 ≡ i - 1 + 1 = omega (arith, some) in
     record {
-      parents = subst (λ (xs : List ℕ). AllZip R (take (i + 1 - 1) (drop 1 chain)) xs) (sym c.in_ok-push.ensures.items)
-          (subst (λ n. AllZip R (take n (drop 1 chain)) (c.loop-i.parents.items ++ (c.index.result.now ∷ []))) step more);
+      parents = rw (c.in_ok-push.ensures.items, step) more;
       reached = λ j low. elim (cases_eq j i) [
-        | inl e ↦ subst (λ k. IsReached joined chain (qubit_at chain k)) (sym e) reached
+        | inl e ↦ rw e reached
         | inr e ↦ (c.loop-i.invariant joined found).reached j (omega (arith, low, e))
       ];
     }

@@ -1,9 +1,4 @@
-use Rattle.std.proofs.Common.{ℕ, ◌-◌, ◌<◌, take, drop}
-use Rattle.std.specs.List.{AllZip}
-use Rattle.bits_model.specs.Walks.{IsReached}
-use Rattle.embedding_check.specs.Distances.{IsParent}
-use Rattle.chain_map.specs.Chains.{Joins}
-use Rattle.embedding_check.specs.Search.{qubit_at, IsSearched}
+use Rattle.embedding_check.proofs.Common.{ℕ, ◌-◌, ◌<◌, take, drop, AllZip, IsReached, IsParent, Joins, qubit_at, IsSearched}
 use Rattle.embedding_check.proofs.search.found_parents.Given as goal
 
 -- the parents so far, and that all qubits so far are reached

@@ -1,28 +1,18 @@
-use Rattle.std.proofs.Common.{◌≡◌, ◌≤◌, ◌<◌, ℕ, suc, true, List, [], ◌∷◌, length, get_or, sym, subst, ap, ◌∙◌, arith, rules}
-use Rattle.std.proofs.lemmas.Bool.Decides.{nat_tests}
-use Rattle.std.proofs.lemmas.List.Elements.{Contains-get_or}
-use Rattle.std.proofs.lemmas.List.Sorted.{Contains-permutation, IsPermutation-sym, length_permutation}
-use Rattle.bits_model.specs.Walks.{is_in, first_of}
-use Rattle.embedding_check.specs.Search.{Found, qubit_at, AtLevel, LevelTakes, waiting}
+use Rattle.embedding_check.proofs.Common.{◌≡◌, ◌<◌, ℕ, suc, true, List, [], ◌∷◌, length, get_or, sym, subst, ap, ◌∙◌, arith, rules, nat_tests, Contains-get_or, Contains-permutation, IsPermutation-sym, length_permutation, is_in, first_of, Found, waiting}
 use Rattle.embedding_check.proofs.Levels.{level_first, level_next, level_last, one_rising, nothing_in}
 use Rattle.embedding_check.proofs.search.search_chain.Goals as goal
 
 pub levels-init : goal.levels-init
 levels-init g c =
     let joined = g.H.Hardware.joined c.args.hardware.now in
-    let chain = c.args.chain.now in
-    let qs = c.args.sorted.now in
-    let s = c.in_ok-search.search in
     let first = c.args.first in
     let begun = c.in_ok-search.ensures in
     let one : c.in_ok-level.level.items ≡ first ∷ [] = c.in_ok-level.ensures.items in
+    let at = level_first joined c.args.chain.now c.args.sorted.now c.in_ok-search.search first c.requires.sorted begun.waits
+    c.requires.below c.requires.first begun.gone begun.others in
     record {
-      at = (
-        0,
-        subst (λ (l : List ℕ). AtLevel joined chain qs l 0 s) (sym one)
-            (level_first joined chain qs s first c.requires.sorted begun.waits c.requires.below c.requires.first begun.gone begun.others),
-      );
-      rising = subst (λ (l : List ℕ). (i j : ℕ) → i ≤ j → j < length l → qubit_at l i ≤ qubit_at l j) (sym one) (one_rising first);
+      at = (0, rw one at);
+      rising = rw one (one_rising first);
       none = begun.none;
       parents = begun.parents;
     }
@@ -37,42 +27,33 @@ spread_level-requires-clause-level g c =
 pub levels-smaller : goal.levels-smaller
 levels-smaller g c =
     let level = c.levels.level.items in
-    let joined = g.H.Hardware.joined c.args.hardware.now in
-    let takes = c.in_ok-spread_level.ensures in
     let some : 0 < length level = search (rules, nat_tests, c.is_empty.ensures, c.levels-test.true) in
-    let waits : waiting c.next_level-level.new.self ≡ waiting c.spread_level.new.self = ap (λ (f : Found). waiting f) c.next_level-level.ensures.rest in
-    omega (
-      arith,
-      some,
-      waits,
-      length_permutation _ _ c.next_level-level.ensures.permutation,
-      takes.moves.counted,
-      ap (λ (l : List ℕ). length l) c.levels.invariant.none,
-    )
+    let waits = ap (λ (f : Found). waiting f) c.next_level-level.ensures.rest in
+    let moved = length_permutation _ _ c.next_level-level.ensures.permutation in
+    let none = ap (λ (l : List ℕ). length l) c.levels.invariant.none in
+    omega (arith, some, waits, moved, c.in_ok-spread_level.ensures.moves.counted, none)
 
 pub levels-preserved : goal.levels-preserved
 levels-preserved g c =
     let joined = g.H.Hardware.joined c.args.hardware.now in
     let chain = c.args.chain.now in
     let qs = c.args.sorted.now in
-    let s = c.levels.search in
-    let level = c.levels.level.items in
     let next = c.next_level-level.result.items in
     let t = c.spread_level.new.self in
-    let d = c.levels.invariant.at.0 in
+    let inv = c.levels.invariant in
     let rest = c.next_level-level.ensures.rest in
     let moved = c.next_level-level.ensures.permutation in
     let in' : is_in chain (first_of chain) ≡ true =
     subst (λ q. is_in chain q ≡ true) c.requires.first (c.requires.sorted.inside c.args.first c.requires.below) in
-    let takes = subst (λ (l : List ℕ). LevelTakes joined qs l (length l) s t) c.deref.ensures.value c.in_ok-spread_level.ensures in
-    let after = level_next joined chain qs level next d s t in' c.requires.sorted c.levels.invariant.at.1 c.levels.invariant.none c.levels.invariant.rising takes
+    let takes = rw c.deref.ensures.value at c.in_ok-spread_level.ensures in
+    let after = level_next joined chain qs c.levels.level.items next inv.at.0 c.levels.search t in' c.requires.sorted inv.at.1 inv.none inv.rising takes
     (λ i h. Contains-permutation next t.next i (IsPermutation-sym t.next next moved) h)
     (λ i h. Contains-permutation t.next next i moved h) in
     record {
-      at = (suc d, subst (λ (f : Found). AtLevel joined chain qs next (suc d) f) (sym rest) after);
+      at = (suc inv.at.0, rw rest after);
       rising = λ i j le below. c.next_level-level.ensures.sorted i j 0 le below;
       none = ap (λ (f : Found). f.next) rest;
-      parents = ap (λ (f : Found). length f.parents) rest ∙ takes.moves.parents ∙ c.levels.invariant.parents;
+      parents = ap (λ (f : Found). length f.parents) rest ∙ takes.moves.parents ∙ inv.parents;
     }
 
 pub returns : goal.returns

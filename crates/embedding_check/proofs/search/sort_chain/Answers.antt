@@ -1,5 +1,4 @@
-use Rattle.std.proofs.Common.{rules}
-use Rattle.std.proofs.lemmas.List.Sorted.{IsNonDecreasingBy-from_sort}
+use Rattle.embedding_check.proofs.Common.{rules, IsNonDecreasingBy-from_sort}
 use Rattle.embedding_check.proofs.Sorting.{sorted_is}
 use Rattle.embedding_check.proofs.search.sort_chain.Goals as goal
 

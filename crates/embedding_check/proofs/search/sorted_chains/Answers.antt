@@ -1,8 +1,4 @@
-use Rattle.std.proofs.Common.{◌≡◌, ◌≤◌, ◌==◌, ◌<◌, ◌+◌, ℕ, List, [], ◌∷◌, ◌++◌, length, get_or, sym, subst, ap, ◌∙◌, arith}
-use Rattle.std.specs.List.{count_by}
-use Rattle.std.proofs.lemmas.List.{length-append}
-use Rattle.chain_map.specs.Chains.{chain_of}
-use Rattle.embedding_check.specs.Search.{IsSortedChain}
+use Rattle.embedding_check.proofs.Common.{◌≡◌, ◌≤◌, ◌==◌, ◌<◌, ◌+◌, ℕ, List, [], ◌∷◌, ◌++◌, length, get_or, sym, subst, ap, ◌∙◌, arith, count_by, length-append, chain_of, IsSortedChain}
 use Rattle.embedding_check.proofs.Passing.{once_each}
 use Rattle.embedding_check.proofs.Faulty.{pushed_more}
 use Rattle.embedding_check.proofs.search.sorted_chains.Goals as goal
@@ -10,7 +6,7 @@ use Rattle.embedding_check.proofs.search.sorted_chains.Goals as goal
 pub sort_chain-requires : goal.sort_chain-requires
 sort_chain-requires c = λ q.
     subst (λ (xs : List ℕ). count_by (λ p. p == q) xs ≤ 1) (sym c.list.ensures.listed)
-    (once_each c.args.chains.now c.requires c.loop-node.node (omega (arith, c.loop-node-test.true, c.len-node-end.ensures)) q)
+    (once_each c.args.chains.now c.requires c.loop-node.node (omega arith) q)
 
 pub loop-node-preserved : goal.loop-node-preserved
 loop-node-preserved c =
@@ -21,7 +17,7 @@ loop-node-preserved c =
     let here = subst (λ (xs : List ℕ). IsSortedChain xs new.items) c.list.ensures.listed c.in_ok-sort_chain.ensures in
     let pushed : c.push.new.self ≡ old ++ new.items ∷ [] = c.in_ok-push.ensures.pushed ∙ ap (λ xs. old ++ xs ∷ []) c.deref.ensures.value in
     record {
-      len = ap length pushed ∙ (let l : length (old ++ new.items ∷ []) ≡ node + 1 = omega (arith, length-append old (new.items ∷ []), c.loop-node.invariant.len) in l);
+      len = ap length pushed ∙ (let l : length (old ++ new.items ∷ []) ≡ node + 1 = omega (arith, length-append old (new.items ∷ [])) in l);
       sorted = subst (λ (ys : List (List ℕ)). (u : ℕ) → u < node + 1 → IsSortedChain (chain_of chains u) (get_or ys u [])) (sym pushed)
           (pushed_more (λ u ys. IsSortedChain (chain_of chains u) ys) old node new.items []
           c.loop-node.invariant.len c.loop-node.invariant.sorted here);

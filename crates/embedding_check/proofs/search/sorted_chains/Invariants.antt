@@ -1,6 +1,4 @@
-use Rattle.std.proofs.Common.{◌≡◌, ℕ, ◌<◌, length}
-use Rattle.chain_map.specs.Chains.{chain_of}
-use Rattle.embedding_check.specs.Search.{IsSortedChain}
+use Rattle.embedding_check.proofs.Common.{◌≡◌, ℕ, ◌<◌, length, chain_of, IsSortedChain}
 use Rattle.embedding_check.proofs.search.sorted_chains.Given as goal
 
 abbrev pub invariant-loop-node : goal.invariant-loop-node

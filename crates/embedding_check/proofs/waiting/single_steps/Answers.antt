@@ -1,5 +1,4 @@
-use Rattle.std.proofs.Common.{◌≡◌, ◌+◌, ◌<◌, ℕ, List, length, get_or, refl, sym, subst, ap, ◌∙◌}
-use Rattle.std.proofs.lemmas.List.{length_push}
+use Rattle.embedding_check.proofs.Common.{◌≡◌, ◌+◌, ◌<◌, ℕ, List, length, get_or, refl, sym, subst, ap, ◌∙◌, length_push}
 use Rattle.embedding_check.proofs.Faulty.{pushed_more}
 use Rattle.embedding_check.proofs.waiting.single_steps.Goals as goal
 

@@ -1,6 +1,4 @@
-use Rattle.std.proofs.Common.{◌≡◌, ℕ, false, length, take}
-use Rattle.std.specs.List.{slice_index_or}
-use Rattle.bits_model.specs.Output.{is_chained}
+use Rattle.ising_form.proofs.Common.{◌≡◌, ℕ, false, length, take, slice_index_or, is_chained}
 use Rattle.ising_form.proofs.chained.marked.Given as goal
 
 -- the qubits of the chains so far are marked

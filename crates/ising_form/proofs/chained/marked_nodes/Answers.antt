@@ -1,8 +1,4 @@
-use Rattle.std.proofs.Common.{◌≡◌, ◌++◌, ◌∷◌, [], pos, length, length-append, get_or, to_z, of_z, sym, ap, ◌∙◌, arith, rules}
-use Rattle.std.specs.Int.{w128}
-use Rattle.std.proofs.lemmas.Int.{to_z-of_z}
-use Rattle.bits_model.specs.declared.output.Entry.{Entry}
-use Rattle.bits_model.specs.Entries.{listed_entries}
+use Rattle.ising_form.proofs.Common.{◌≡◌, ◌++◌, ◌∷◌, [], pos, length, length-append, get_or, to_z, of_z, sym, ap, ◌∙◌, arith, rules, w128, to_z-of_z, Entry, listed_entries}
 use Rattle.ising_form.proofs.ChainedNodes.{marked_more_yes, marked_more_no, listed_push}
 use Rattle.ising_form.proofs.chained.marked_nodes.Goals.{then-marks-i+in_ok-push_node, else-marks-i}
 use Rattle.ising_form.proofs.chained.marked_nodes.Goals as goal

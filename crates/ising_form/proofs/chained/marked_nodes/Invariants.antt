@@ -1,8 +1,4 @@
-use Rattle.std.proofs.Common.{◌≡◌, length, take}
-use Rattle.std.specs.List.{filter}
-use Rattle.bits_model.specs.Entries.{listed_entries}
-use Rattle.quad_form.specs.Quads.{node_entries}
-use Rattle.ising_form.specs.Outputs.{is_marked}
+use Rattle.ising_form.proofs.Common.{◌≡◌, length, take, filter, listed_entries, node_entries, is_marked}
 use Rattle.ising_form.proofs.chained.marked_nodes.Given as goal
 
 -- the marked nodes so far are listed

@@ -1,7 +1,4 @@
-use Rattle.std.proofs.Common.{◌≡◌, pos, ◌+ℤ◌, to_z, of_z, get_or, slice_set, ap, arith}
-use Rattle.std.specs.Int.{w128}
-use Rattle.std.proofs.lemmas.Int.{ints}
-use Rattle.quad_form.proofs.NodeEnergies.{weights_within}
+use Rattle.ising_form.proofs.Common.{◌≡◌, pos, ◌+ℤ◌, to_z, of_z, get_or, slice_set, ap, arith, w128, ints, weights_within}
 use Rattle.ising_form.proofs.spins.raise.Goals as goal
 
 pub overflow_add-fields : goal.overflow_add-fields

@@ -1,10 +1,4 @@
-use Rattle.std.proofs.Common.{ℕ, ◌<◌, pos, ◌+ℤ◌, unsigned_abs, take, get_or, length, subst, sym, ap, ◌∙◌, arith}
-use Rattle.std.proofs.lemmas.List.Elements.{All-get_or}
-use Rattle.bits_model.specs.declared.output.Entry.{Entry}
-use Rattle.bits_model.proofs.Energies.{weight_within, weights-append}
-use Rattle.quad_form.specs.Quads.{QuadContent, IsQuad, IsCoupler, node_entries}
-use Rattle.ising_form.specs.Spins.{spins_constant, spins_fields, raised}
-use Rattle.ising_form.specs.laws.Spun.{length-fields}
+use Rattle.ising_form.proofs.Common.{nat_tests, ℕ, ◌<◌, pos, ◌+ℤ◌, unsigned_abs, take, get_or, length, subst, sym, ap, ◌∙◌, arith, All-get_or, Entry, weight_within, weights-append, QuadContent, IsQuad, IsCoupler, node_entries, spins_constant, spins_fields, raised, length-fields}
 use Rattle.ising_form.proofs.CouplerSteps.{taken, next_taken, all_taken}
 use Rattle.ising_form.proofs.FieldSums.{node_total, size-fields, size-constant, constant_coupled, fields_coupled}
 use Rattle.ising_form.proofs.spins.spins_of.Goals as goal
@@ -41,15 +35,11 @@ add-requires-clause-constant c =
     let d : Entry = record { first = 0; second = 0; weight = pos 0 } in
     let i = taken q.couplers c.loop-coupler.coupler-iterator in
     let step = next_taken q.couplers _ _ c.in-Some.coupler d c.loop-coupler.invariant.here c.in-Some.ensures.steps in
-    omega (
-      arith,
-      ap unsigned_abs c.loop-coupler.invariant.constant,
-      size-constant q.constant q.diagonal (take i q.couplers),
-      weight_within q.couplers i d step.below,
-      ap (λ (e : Entry). unsigned_abs e.weight) step.item,
-      weights-append (node_entries 0 q.diagonal) q.couplers,
-      c.requires,
-    )
+    let so_far = ap unsigned_abs c.loop-coupler.invariant.constant in
+    let most = size-constant q.constant q.diagonal (take i q.couplers) in
+    let own = ap (λ (e : Entry). unsigned_abs e.weight) step.item in
+    let both = weights-append (node_entries 0 q.diagonal) q.couplers in
+    omega (arith, so_far, most, weight_within q.couplers i d step.below, own, both, c.requires)
 
 pub add-requires-clause-fields : goal.add-requires-clause-fields
 add-requires-clause-fields c =
@@ -57,15 +47,11 @@ add-requires-clause-fields c =
     let d : Entry = record { first = 0; second = 0; weight = pos 0 } in
     let i = taken q.couplers c.loop-coupler.coupler-iterator in
     let step = next_taken q.couplers _ _ c.in-Some.coupler d c.loop-coupler.invariant.here c.in-Some.ensures.steps in
-    omega (
-      arith,
-      ap (node_total 0) c.loop-coupler.invariant.fields,
-      size-fields q.diagonal (take i q.couplers),
-      weight_within q.couplers i d step.below,
-      ap (λ (e : Entry). unsigned_abs e.weight) step.item,
-      weights-append (node_entries 0 q.diagonal) q.couplers,
-      c.requires,
-    )
+    let so_far = ap (node_total 0) c.loop-coupler.invariant.fields in
+    let most = size-fields q.diagonal (take i q.couplers) in
+    let own = ap (λ (e : Entry). unsigned_abs e.weight) step.item in
+    let both = weights-append (node_entries 0 q.diagonal) q.couplers in
+    omega (arith, so_far, most, weight_within q.couplers i d step.below, own, both, c.requires)
 
 pub loop-coupler-preserved : goal.loop-coupler-preserved
 loop-coupler-preserved c =
@@ -93,13 +79,7 @@ loop-coupler-preserved c =
     }
 
 pub returns-clause-constant : goal.returns-clause-constant
-returns-clause-constant c =
-    let q = c.args.source.now in
-    c.loop-coupler.invariant.constant
-    ∙ ap (λ cs. spins_constant q.constant q.diagonal cs) (all_taken q.couplers _ c.in-None.ensures.steps.0)
+returns-clause-constant c = grind (arith, nat_tests, all_taken)
 
 pub returns-clause-fields : goal.returns-clause-fields
-returns-clause-fields c =
-    let q = c.args.source.now in
-    c.loop-coupler.invariant.fields
-    ∙ ap (λ cs. spins_fields q.diagonal cs) (all_taken q.couplers _ c.in-None.ensures.steps.0)
+returns-clause-fields c = grind (arith, nat_tests, all_taken)

@@ -1,5 +1,4 @@
-use Rattle.std.proofs.Common.{◌≡◌, take, drop}
-use Rattle.ising_form.specs.Spins.{spins_constant, spins_fields}
+use Rattle.ising_form.proofs.Common.{◌≡◌, take, drop, spins_constant, spins_fields}
 use Rattle.ising_form.proofs.CouplerSteps.{taken}
 use Rattle.ising_form.proofs.spins.spins_of.Given as goal
 

@@ -1,9 +1,4 @@
-use Rattle.std.proofs.Common.{◌≡◌, ◌++◌, ◌∷◌, [], pos, ◌+ℤ◌, ◌*ℤ◌, to_z, of_z, unsigned_abs, take, get_or, sym, ap, ◌∙◌, arith, rules}
-use Rattle.std.specs.Int.{w128}
-use Rattle.std.proofs.lemmas.Int.{ints, to_z-of_z}
-use Rattle.std.proofs.lemmas.List.{take_all}
-use Rattle.quad_form.proofs.NodeEnergies.{weights_within}
-use Rattle.ising_form.specs.Spins.{spins_constant}
+use Rattle.ising_form.proofs.Common.{nat_tests, ◌≡◌, ◌++◌, ◌∷◌, [], pos, ◌+ℤ◌, ◌*ℤ◌, to_z, of_z, unsigned_abs, take, get_or, sym, ap, ◌∙◌, arith, rules, w128, ints, to_z-of_z, take_all, weights_within, spins_constant}
 use Rattle.ising_form.proofs.FieldSums.{fields_more, constant_more, size-constant}
 use Rattle.ising_form.proofs.spins.spins_of_nodes.Goals as goal
 
@@ -17,14 +12,8 @@ overflow_add-sum c =
     let i = c.loop-weight.weight-index in
     let back : to_z w128 (of_z w128 c.args.constant) ≡ c.args.constant = to_z-of_z w128 c.args.constant (search rules) in
     let so_far = c.loop-weight.invariant.constant ∙ ap (λ z. spins_constant z (take i ws) []) back in
-    omega (
-      arith,
-      ints,
-      ap unsigned_abs so_far,
-      size-constant c.args.constant (take i ws) [],
-      weights_within ws i (pos 0) c.loop-weight-test.true,
-      c.requires,
-    )
+    let size = size-constant c.args.constant (take i ws) [] in
+    omega (arith, ints, ap unsigned_abs so_far, size, weights_within ws i (pos 0) c.loop-weight-test.true, c.requires)
 
 pub loop-weight-preserved : goal.loop-weight-preserved
 loop-weight-preserved c =
@@ -47,8 +36,4 @@ loop-weight-preserved c =
     }
 
 pub returns-clause-constant : goal.returns-clause-constant
-returns-clause-constant c =
-    let ws = c.args.nodes.now in
-    let back : to_z w128 (of_z w128 c.args.constant) ≡ c.args.constant = to_z-of_z w128 c.args.constant (search rules) in
-    let all : take c.loop-weight.weight-index ws ≡ ws = take_all c.loop-weight.weight-index ws c.loop-weight-test.false in
-    c.loop-weight.invariant.constant ∙ (λ j. spins_constant (back j) (all j) [])
+returns-clause-constant c = grind (arith, nat_tests, ints, to_z-of_z, take_all)

@@ -1,5 +1,4 @@
-use Rattle.std.proofs.Common.{◌≡◌, [], take}
-use Rattle.ising_form.specs.Spins.{spins_constant, spins_fields}
+use Rattle.ising_form.proofs.Common.{◌≡◌, [], take, spins_constant, spins_fields}
 use Rattle.ising_form.proofs.spins.spins_of_nodes.Given as goal
 
 -- the constant and the fields of the nodes so far

@@ -1,6 +1,4 @@
-use Rattle.std.proofs.Common.{◌≡◌, ◌+◌, [], ◌∷◌, ◌++◌, sym, ◌∙◌, arith}
-use Rattle.std.proofs.lemmas.List.FromFn.{map-range_with_len_more}
-use Rattle.chain_map.specs.Cliques.{clique_chain, clique_of}
+use Rattle.working_graph.proofs.Common.{◌≡◌, ◌+◌, [], ◌∷◌, ◌++◌, sym, ◌∙◌, arith, map-range_with_len_more, clique_chain, clique_of}
 use Rattle.working_graph.proofs.clique_chains.clique_chains.Goals as goal
 
 pub loop-node-preserved : goal.loop-node-preserved

@@ -1,5 +1,4 @@
-use Rattle.std.proofs.Common.{◌≡◌}
-use Rattle.chain_map.specs.Cliques.{clique_of}
+use Rattle.working_graph.proofs.Common.{◌≡◌, clique_of}
 use Rattle.working_graph.proofs.clique_chains.clique_chains.Given as goal
 
 -- the chains of the nodes so far

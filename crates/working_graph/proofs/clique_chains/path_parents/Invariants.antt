@@ -1,5 +1,4 @@
-use Rattle.std.proofs.Common.{◌≡◌, map, take}
-use Rattle.working_graph.specs.CliquePlaces.{but_last}
+use Rattle.working_graph.proofs.Common.{◌≡◌, map, take, but_last}
 use Rattle.working_graph.proofs.clique_chains.path_parents.Given as goal
 
 -- the parents on the chains so far

@@ -1,11 +1,4 @@
-use Rattle.std.proofs.Common.{◌<◌, ◌++◌, List, map, length, All, sym, ap, subst, ◌∙◌, arith}
-use Rattle.std.proofs.lemmas.List.{map-append}
-use Rattle.bits_model.specs.declared.output.Entry.{Entry}
-use Rattle.quad_form.specs.Quads.{IsCoupler}
-use Rattle.chain_map.specs.Cliques.{clique_places}
-use Rattle.bits_model.proofs.EntryRows.{rows_before, rows_more, rows_all}
-use Rattle.embedding_check.proofs.PlacedRows.{all_in_row, some_in_row}
-use Rattle.working_graph.specs.CliquePlaces.{clique_place}
+use Rattle.working_graph.proofs.Common.{◌<◌, ◌++◌, List, map, length, All, sym, ap, subst, ◌∙◌, arith, map-append, Entry, IsCoupler, clique_places, rows_before, rows_more, rows_all, all_in_row, some_in_row, clique_place}
 use Rattle.working_graph.proofs.clique_places.all_places.Goals as goal
 
 pub push_places-requires-clause-some : goal.push_places-requires-clause-some
@@ -34,9 +27,8 @@ loop-k-preserved c =
 
 pub returns : goal.returns
 returns c =
-    let couplings = c.args.couplings.now in
     c.new.ensures
     ∙ c.loop-k.invariant
     ∙ ap (map (clique_place c.args.graph.now))
-    (rows_all couplings c.loop-k.k
+    (rows_all c.args.couplings.now c.loop-k.k
     (omega (arith, c.loop-k-test.false, c.row_count-k-end.ensures, c.loop-k.auto.k-end)))

@@ -1,6 +1,4 @@
-use Rattle.std.proofs.Common.{◌≡◌, map}
-use Rattle.bits_model.proofs.EntryRows.{rows_before}
-use Rattle.working_graph.specs.CliquePlaces.{clique_place}
+use Rattle.working_graph.proofs.Common.{◌≡◌, map, rows_before, clique_place}
 use Rattle.working_graph.proofs.clique_places.all_places.Given as goal
 
 -- the places of the couplings of the rows so far

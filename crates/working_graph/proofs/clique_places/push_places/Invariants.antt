@@ -1,5 +1,4 @@
-use Rattle.std.proofs.Common.{◌≡◌, ◌++◌, map, take}
-use Rattle.working_graph.specs.CliquePlaces.{clique_place}
+use Rattle.working_graph.proofs.Common.{◌≡◌, ◌++◌, map, take, clique_place}
 use Rattle.working_graph.proofs.clique_places.push_places.Given as goal
 
 -- the places of the couplings so far are added

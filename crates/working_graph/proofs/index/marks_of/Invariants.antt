@@ -1,7 +1,4 @@
-use Rattle.std.proofs.Common.{◌≡◌, ℕ, false, length, take, get_or}
-use Rattle.std.specs.List.{list_any}
-use Rattle.chimera_graph.specs.Graph.{qubits_of}
-use Rattle.working_graph.specs.Working.{is_qubit}
+use Rattle.working_graph.proofs.Common.{◌≡◌, ℕ, false, length, take, get_or, list_any, qubits_of, is_qubit}
 use Rattle.working_graph.proofs.index.marks_of.Given as goal
 
 -- the marks say the parts so far

@@ -1,5 +1,4 @@
-use Rattle.std.proofs.Common.{◌≡◌, take}
-use Rattle.working_graph.specs.Index.{numbers_of}
+use Rattle.working_graph.proofs.Common.{◌≡◌, take, numbers_of}
 use Rattle.working_graph.proofs.index.numbers_of.Given as goal
 
 -- the numbers of the parts so far

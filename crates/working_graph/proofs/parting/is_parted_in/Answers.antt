@@ -1,9 +1,4 @@
-use Rattle.std.proofs.Common.{◌≡◌, ℕ, ◌+◌, ◌*◌, ◌-◌, ◌/◌, ◌<◌, ◌≤◌, true, length, get_or, sym, ap, subst, ◌∙◌, arith, mod-lt}
-use Rattle.chimera_graph.specs.declared.chimera.Chimera.{Chimera}
-use Rattle.chain_map.specs.Cliques.{diagonal_of, clique_places}
-use Rattle.chain_map.proofs.CliqueChains.{cell_of}
-use Rattle.working_graph.specs.Index.{pair_number}
-use Rattle.working_graph.specs.Places.{first_across, is_marked, IsParted}
+use Rattle.working_graph.proofs.Common.{◌≡◌, ℕ, ◌+◌, ◌*◌, ◌-◌, ◌/◌, ◌<◌, ◌≤◌, true, length, get_or, sym, ap, subst, ◌∙◌, arith, mod-lt, Chimera, diagonal_of, clique_places, cell_of, pair_number, first_across, is_marked, IsParted}
 use Rattle.working_graph.proofs.Barriers.{HasPassed, passed_more}
 use Rattle.working_graph.proofs.EmptyForm.{few_places}
 use Rattle.working_graph.proofs.FreePlaces.{BarsIn, place_below, unbarred}
@@ -17,30 +12,26 @@ row_low graph row place low within = omega (arith, low, cell_of graph place with
 
 pub qubit_at-requires-clause-row : goal.qubit_at-requires-clause-row
 qubit_at-requires-clause-row c =
-    let graph = c.args.working.now.graph in
-    subst (λ (h : Chimera). c.args.row < h.rows) (sym c.graph-graph.ensures)
-    (omega (arith, row_low graph c.args.row c.args.place c.requires.row c.requires.place))
+    let low = row_low c.args.working.now.graph c.args.row c.args.place c.requires.row c.requires.place in
+    rw c.graph-graph.ensures (omega (arith, low))
 
 pub qubit_at-requires-clause-col : goal.qubit_at-requires-clause-col
 qubit_at-requires-clause-col c =
-    let graph = c.args.working.now.graph in
     subst (λ (h : Chimera). c.args.place / h.shore < h.cols) (sym c.graph-graph.ensures)
-    (omega (arith, cell_of graph c.args.place c.requires.place))
+    (omega (arith, cell_of c.args.working.now.graph c.args.place c.requires.place))
 
 pub qubit_at-requires-clause-at : goal.qubit_at-requires-clause-at
 qubit_at-requires-clause-at c = mod-lt c.args.place c.graph-graph.result.shape.some_shore
 
 pub qubit_at-requires-2-clause-row : goal.qubit_at-requires-2-clause-row
 qubit_at-requires-2-clause-row c =
-    let graph = c.args.working.now.graph in
-    subst (λ (h : Chimera). c.args.row < h.rows) (sym c.graph-graph.ensures)
-    (omega (arith, row_low graph c.args.row c.args.place c.requires.row c.requires.place))
+    let low = row_low c.args.working.now.graph c.args.row c.args.place c.requires.row c.requires.place in
+    rw c.graph-graph.ensures (omega (arith, low))
 
 pub qubit_at-requires-2-clause-col : goal.qubit_at-requires-2-clause-col
 qubit_at-requires-2-clause-col c =
-    let graph = c.args.working.now.graph in
     subst (λ (h : Chimera). c.args.place / h.shore < h.cols) (sym c.graph-graph.ensures)
-    (omega (arith, cell_of graph c.args.place c.requires.place))
+    (omega (arith, cell_of c.args.working.now.graph c.args.place c.requires.place))
 
 pub loop-k-init : goal.loop-k-init
 loop-k-init c =
@@ -72,25 +63,17 @@ overflow_add-row c =
     let shore = ap (λ (h : Chimera). h.shore) c.graph-graph.ensures in
     let same = ap (λ (h : Chimera). row * h.shore) c.graph-graph.ensures in
     let low = row_low graph row c.args.place c.requires.row c.requires.place in
-    omega (
-      arith,
-      same,
-      few_places graph,
-      place_below graph row other low (omega (arith, c.if-cuts-k.true, c.from.ensures, shore)),
-    )
+    let below = place_below graph row other low (omega (arith, c.if-cuts-k.true, c.from.ensures, shore)) in
+    omega (arith, same, few_places graph, below)
 
 pub is_barred-requires-clause-other : goal.is_barred-requires-clause-other
 is_barred-requires-clause-other c =
-    let w = c.args.working.now in
-    let place = c.args.place in
-    let row = c.args.row in
+    let graph = c.args.working.now.graph in
     let same = c.graph-graph.ensures in
     let other = get_or c.cuts-cuts.result.now c.loop-k.k 0 - c.pair_number-from.result in
-    let low : row < diagonal_of w.graph =
-    omega (arith, c.requires.row, cell_of w.graph place c.requires.place) in
+    let low = row_low graph c.args.row c.args.place c.requires.row c.requires.place in
     let shore = ap (λ (h : Chimera). h.shore) same in
-    subst (λ (h : Chimera). row * h.shore + other < clique_places w.graph) (sym same)
-    (place_below w.graph row other low (omega (arith, c.if-cuts-k.true, c.from.ensures, shore)))
+    rw same (place_below graph c.args.row other low (omega (arith, c.if-cuts-k.true, c.from.ensures, shore)))
 
 pub loop-k-preserved : goal.loop-k-preserved
 loop-k-preserved c =
@@ -112,15 +95,14 @@ free c done =
     let marks = c.args.marks.now in
     let cuts = c.cuts-cuts.result.now in
     let from = c.pair_number-from.result in
-    let same = c.graph-graph.ensures in
     let begins : from ≡ first_across w.graph place row =
     c.pair_number-from.ensures
     ∙ (λ i. pair_number (c.qubit_at.ensures i) (c.qubit_at-2.ensures i))
-    ∙ ap (λ (h : Chimera). first_across h place row) same in
+    ∙ ap (λ (h : Chimera). first_across h place row) c.graph-graph.ensures in
     let passed : HasPassed cuts from c.loop-k.k (BarsIn w marks place row) =
     subst (λ (h : Chimera). HasPassed cuts from c.loop-k.k
     (λ at. (is_marked marks (row * h.shore + at) ≡ true) × IsParted w place (row * h.shore + at)))
-    same c.loop-k.invariant in
+    c.graph-graph.ensures c.loop-k.invariant in
     unbarred w place row c.loop-k.k cuts from marks c.requires.place c.requires.row
     c.cuts-cuts.ensures.numbers begins c.cuts-cuts.ensures.rising passed done
 

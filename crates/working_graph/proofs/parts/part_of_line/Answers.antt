@@ -1,9 +1,5 @@
-use Rattle.std.proofs.Common.{◌≡◌, ◌+◌, ◌<◌, [], refl, sym, arith}
-use Rattle.std.specs.List.{slice_range}
-use Rattle.std.proofs.lemmas.Result.{err_from_is_err_and}
+use Rattle.working_graph.proofs.Common.{◌≡◌, [], refl, sym, arith, slice_range, err_from_is_err_and, tokens_of_line, line_blank, line_comment, line_tokens}
 use Rattle.whole_text.specs.declared.token.Style.TheVariants.{Plain}
-use Rattle.whole_text.specs.Tokens.{tokens_of_line}
-use Rattle.chain_map.proofs.LineNumbers.{line_blank, line_comment, line_tokens}
 use Rattle.working_graph.proofs.LineParts.{first_bad, first_good, follow_bad}
 use Rattle.working_graph.proofs.PartRows.{parts_none}
 use Rattle.working_graph.proofs.parts.part_of_line.Goals.{then-at-end-via-then-at-end, then-at-end-via-else-at-end+then-text-at-eq99}
@@ -14,16 +10,13 @@ returns-then-at-end-clause-read c =
     let text = c.args.text.now in
     let start = c.args.start in
     let end = c.args.end in
-    let line = c.args.line in
-    let n = c.blank_len.result in
     let first = c.blank_len.ensures.first in
-    let none : tokens_of_line Plain line (slice_range text start end) ≡ [] =
+    let none : tokens_of_line Plain c.args.line (slice_range text start end) ≡ [] =
     elim c.then-at-end.branch [
       | then-at-end-via-then-at-end w ↦
-          line_blank text start end n line c.requires.ordered c.requires.within first w.if-at-end.true
+          line_blank text start end _ c.args.line c.requires.ordered c.requires.within first w.if-at-end.true
       | then-at-end-via-else-at-end+then-text-at-eq99 w ↦
-          let below : start + n < end = omega arith in
-          line_comment text start end n line c.requires.ordered c.requires.within first below
+          line_comment text start end _ c.args.line c.requires.ordered c.requires.within first (omega arith)
           w.if-text-at-eq99.true
     ] in
     parts_none c.args.graph.now _ none

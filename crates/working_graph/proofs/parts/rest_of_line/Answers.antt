@@ -1,6 +1,4 @@
-use Rattle.std.proofs.Common.{Err, refl, sym, ap, ◌∙◌, arith}
-use Rattle.std.proofs.lemmas.Result.{err_from_is_err_and}
-use Rattle.working_graph.specs.DeadLists.{rest_at}
+use Rattle.working_graph.proofs.Common.{Err, refl, sym, ap, ◌∙◌, arith, err_from_is_err_and, rest_at}
 use Rattle.working_graph.proofs.LineParts.{none_left, some_left, rest_none, rest_bad, rest_one, rest_more}
 use Rattle.working_graph.proofs.parts.rest_of_line.Goals as goal
 

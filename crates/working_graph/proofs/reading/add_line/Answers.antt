@@ -1,8 +1,4 @@
-use Rattle.std.proofs.Common.{Ok, ap, ◌∙◌}
-use Rattle.std.specs.Option.{option_to_list}
-use Rattle.std.proofs.lemmas.List.{append-nil}
-use Rattle.std.proofs.lemmas.Result.{err_from_is_err_and}
-use Rattle.chain_map.specs.Maps.{after_front}
+use Rattle.working_graph.proofs.Common.{Ok, ap, ◌∙◌, option_to_list, append-nil, err_from_is_err_and, after_front}
 use Rattle.working_graph.proofs.reading.add_line.Goals as goal
 
 pub returns-in_err-part-clause-read : goal.returns-in_err-part-clause-read

@@ -1,5 +1,4 @@
-use Rattle.std.proofs.Common.{Ok, sym, ap, ◌∙◌}
-use Rattle.whole_text.specs.Steps.{◌>>=◌}
+use Rattle.working_graph.proofs.Common.{Ok, sym, ap, ◌∙◌, ◌>>=◌}
 use Rattle.working_graph.proofs.reading.read_dead.Goals as goal
 
 pub returns-clause-exact : goal.returns-clause-exact

@@ -1,15 +1,5 @@
-use Rattle.std.proofs.Common.{◌≡◌, ◌+◌, inl, inr, List, [], length, sym, ap, subst, ◌∙◌, arith, rules}
-use Rattle.std.proofs.lemmas.Bool.{cases_lt}
-use Rattle.std.proofs.lemmas.List.{take_rest}
-use Rattle.std.proofs.lemmas.Result.{err_from_is_err_and}
+use Rattle.working_graph.proofs.Common.{◌≡◌, ◌+◌, inl, inr, List, [], length, sym, ap, subst, ◌∙◌, arith, rules, cases_lt, take_rest, err_from_is_err_and, tokens_of, tokens_from, Fails, lines_from, line_cut, line_last, after_front, front_none, DeadPart, parts_of_words, dead_parts}
 use Rattle.whole_text.specs.declared.token.Style.TheVariants.{Plain}
-use Rattle.whole_text.specs.Tokens.{tokens_of, tokens_from}
-use Rattle.whole_text.specs.Steps.{Fails}
-use Rattle.whole_text.proofs.Lines.{lines_from, line_cut, line_last}
-use Rattle.chain_map.specs.Maps.{after_front}
-use Rattle.chain_map.proofs.Rows.{front_none}
-use Rattle.working_graph.specs.declared.parts.DeadPart.{DeadPart}
-use Rattle.working_graph.specs.DeadLists.{parts_of_words, dead_parts}
 use Rattle.working_graph.proofs.PartRows.{line_more, line_fails, lines_end}
 use Rattle.working_graph.proofs.reading.read_parts.Goals as goal
 
@@ -27,24 +17,20 @@ loop-parts-init c =
 
 pub returns-in_err-add_line-clause-read : goal.returns-in_err-add_line-clause-read
 returns-in_err-add_line-clause-read c =
-    let graph = c.args.graph.now in
     let text = c.args.text.now in
     let start = c.loop-parts.start in
     let n = c.line_len.result in
-    let first = rw (take_rest c.args.text.now c.loop-parts.start) at c.line_len.ensures.first in
+    let first = rw (take_rest text start) at c.line_len.ensures.first in
     let e = c.in_err-add_line.field-0.0 in
-    let residual = c.from_residual in
-    let p = err_from_is_err_and residual.result residual.ensures.1 in
+    let p = err_from_is_err_and c.from_residual.result c.from_residual.ensures.1 in
+    let fails = c.in_err-add_line.ensures.read in
     rw (p.1, p.2)
     (subst (Fails e) c.loop-parts.invariant.read
     (elim (cases_lt (start + n) (length text)) [
-      | inl low ↦
-          line_fails graph _ _ _ _ _ e (line_cut text start n first low)
-          c.in_err-add_line.ensures.read
+      | inl low ↦ line_fails c.args.graph.now _ _ _ _ _ e (line_cut text start n first low) fails
       | inr high ↦
-          line_fails graph _ _ _ _ _ e
-          (line_last text start n c.loop-parts.invariant.within first (omega (arith, high)))
-          c.in_err-add_line.ensures.read
+          let last = line_last text start n c.loop-parts.invariant.within first (omega (arith, high)) in
+          line_fails c.args.graph.now _ _ _ _ _ e last fails
     ]))
 
 pub returns-then-end-text-clause-read : goal.returns-then-end-text-clause-read

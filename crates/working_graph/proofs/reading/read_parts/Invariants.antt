@@ -1,9 +1,5 @@
-use Rattle.std.proofs.Common.{◌≡◌, ◌+◌, ◌-◌, ◌≤◌, All, length}
+use Rattle.working_graph.proofs.Common.{◌≡◌, ◌+◌, ◌-◌, ◌≤◌, All, length, tokens_from, lines_from, after_front, parts_of_words, dead_parts, IsPartOf}
 use Rattle.whole_text.specs.declared.token.Style.TheVariants.{Plain}
-use Rattle.whole_text.specs.Tokens.{tokens_from}
-use Rattle.whole_text.proofs.Lines.{lines_from}
-use Rattle.chain_map.specs.Maps.{after_front}
-use Rattle.working_graph.specs.DeadLists.{parts_of_words, dead_parts, IsPartOf}
 use Rattle.working_graph.proofs.reading.read_parts.Given as goal
 
 -- the parts so far, in front of what the other lines name, are all of them

@@ -1,11 +1,4 @@
-use Rattle.std.proofs.Common.{◌≡◌, ℕ, ◌<◌, ◌&&◌, List, true, false, length, get_or, sym, ap, subst, ◌∙◌, arith}
-use Rattle.std.specs.List.{list_all}
-use Rattle.std.proofs.lemmas.Bool.{and_left}
-use Rattle.chimera_graph.specs.declared.chimera.Chimera.{Chimera}
-use Rattle.chimera_graph.specs.Graph.{qubits_of}
-use Rattle.chain_map.specs.Cliques.{clique_places, clique_chain}
-use Rattle.working_graph.specs.Working.{exists_in, joined_in}
-use Rattle.working_graph.specs.Places.{are_linked}
+use Rattle.working_graph.proofs.Common.{◌≡◌, ℕ, ◌<◌, ◌&&◌, List, true, false, length, get_or, sym, ap, subst, ◌∙◌, arith, list_all, and_left, Chimera, qubits_of, clique_places, clique_chain, exists_in, joined_in, are_linked}
 use Rattle.working_graph.proofs.EmptyForm.{clique_within}
 use Rattle.working_graph.proofs.taken.is_whole.Goals as goal
 
@@ -16,12 +9,11 @@ fill_chain-requires c =
 pub are_linked-requires : goal.are_linked-requires
 are_linked-requires c =
     let graph = c.args.working.now.graph in
-    let place = c.args.place in
     let same = c.deref.ensures.value
     ∙ c.in_ok-fill_chain.ensures
-    ∙ ap (λ (h : Chimera). clique_chain h place) c.graph-graph.ensures in
+    ∙ ap (λ (h : Chimera). clique_chain h c.args.place) c.graph-graph.ensures in
     subst (λ (qs : List ℕ). (j : ℕ) → j < length qs → get_or qs j 0 < qubits_of graph) (sym same)
-    (λ j low. clique_within graph place c.requires j 0 low)
+    (λ j low. clique_within graph c.args.place c.requires j 0 low)
 
 pub returns-then-not-all_exist-clause-whole : goal.returns-then-not-all_exist-clause-whole
 returns-then-not-all_exist-clause-whole c =

@@ -1,10 +1,4 @@
-use Rattle.std.proofs.Common.{◌≡◌, ℕ, ◌+◌, ◌<◌, List, [], ◌∷◌, Bool, true, length, map, set, refl, sym, ap, subst, ◌∙◌, arith}
-use Rattle.std.proofs.lemmas.List.{length-append, length-set}
-use Rattle.bits_model.specs.Walks.{is_in}
-use Rattle.chain_map.specs.Cliques.{clique_places, clique_chain}
-use Rattle.embedding_check.proofs.Sorting.{at_of_in}
-use Rattle.working_graph.specs.Working.{fabric_of}
-use Rattle.working_graph.specs.Places.{is_marked, taken_of}
+use Rattle.working_graph.proofs.Common.{◌≡◌, ℕ, ◌+◌, ◌<◌, List, [], ◌∷◌, Bool, true, length, map, refl, sym, ap, ◌∙◌, arith, length-append, length-set, clique_places, clique_chain, at_of_in, fabric_of, taken_of}
 use Rattle.working_graph.proofs.TakenPlaces.{are_taken}
 use Rattle.working_graph.proofs.FreePlaces.{next_free, next_barred, mark_more, more_chains, chains_front, chains_all}
 use Rattle.working_graph.proofs.taken.take_places.Goals.{then-free+in_ok-push_qubits, else-free}
@@ -12,9 +6,8 @@ use Rattle.working_graph.proofs.taken.take_places.Goals as goal
 
 pub returns-then-len-nodes : goal.returns-then-len-nodes
 returns-then-len-nodes c =
-    let w = c.args.working.now in
     let places = c.clique_places-places.ensures ∙ ap clique_places c.graph-graph.ensures in
-    chains_front w c.loop-place.place c.args.nodes c.loop-place.taken
+    chains_front c.args.working.now c.loop-place.place c.args.nodes c.loop-place.taken
     (omega (arith, c.loop-place-test.true, places)) c.loop-place.invariant.0
     (omega (arith, c.len.ensures, c.if-len-nodes.true))
 
@@ -29,12 +22,11 @@ returns c =
 
 pub is_free-requires-clause-earlier : goal.is_free-requires-clause-earlier
 is_free-requires-clause-earlier c = λ u marked.
-    let f = fabric_of c.args.working.now in
     let chain = clique_chain c.args.working.now.graph in
-    let place = c.loop-place.place in
-    let taken = are_taken f chain place in
-    let at = at_of_in (taken_of f chain place) u (sym (c.loop-place.invariant.1 u) ∙ marked) in
-    subst (λ n. n < place) at.2 (taken.below at.0 at.1)
+    let taken = are_taken (fabric_of c.args.working.now) chain c.loop-place.place in
+    let at = at_of_in (taken_of (fabric_of c.args.working.now) chain c.loop-place.place) u
+    (sym (c.loop-place.invariant.1 u) ∙ marked) in
+    rw at.2 at (taken.below at.0 at.1)
 
 pub loop-place-preserved : goal.loop-place-preserved
 loop-place-preserved c =
@@ -49,36 +41,24 @@ loop-place-preserved c =
     let free = c.in_ok-free.ensures.free xs inv.1 (are_taken f chain place) in
     let places = c.clique_places-places.ensures ∙ ap clique_places c.graph-graph.ensures in
     let below : place < length seen = omega (arith, c.loop-place-test.true, places, inv.2) in
-    let room : length old < c.args.nodes =
-    omega (arith, inv.3, c.len.ensures, c.if-len-nodes.false) in
     elim c.if-free.branch [
       | then-free+in_ok-push_qubits w ↦
           let more = next_free f chain place xs refl (sym free ∙ w.if-free.true) in
-          let marks : c.if-free.marks ≡ set seen place true = w.marks-is in (
-            w.taken-is ∙ w.in_ok-push_qubits.ensures.pushed
-                ∙ more_chains chain xs next place old _ inv.0
-                (w.deref.ensures.value ∙ c.in_ok-free.ensures.filled w.if-free.true) more,
-            λ u.
-                ap (λ (ms : List Bool). is_marked ms u) marks
-                ∙ mark_more seen xs place below inv.1 u
-                ∙ ap (λ (ys : List ℕ). is_in ys u) more,
+          let marks = w.marks-is in
+          let pushed = w.taken-is ∙ w.in_ok-push_qubits.ensures.pushed in
+          let here = w.deref.ensures.value ∙ c.in_ok-free.ensures.filled w.if-free.true in
+          let count = length-append old (w.deref.result.now ∷ []) in
+          let size = ap (λ (m : List (List ℕ)). length m) pushed in (
+            pushed ∙ more_chains chain xs next place old _ inv.0 here more,
+            λ u. cc (marks, mark_more seen xs place below inv.1 u, more),
             ap (λ (ms : List Bool). length ms) marks ∙ length-set seen place true ∙ inv.2,
-            omega (
-              arith,
-              room,
-              length-append old (w.deref.result.now ∷ []),
-              ap (λ (m : List (List ℕ)). length m) (w.taken-is ∙ w.in_ok-push_qubits.ensures.pushed),
-            ),
+            omega (arith, inv.3, c.len.ensures, c.if-len-nodes.false, count, size),
           )
       | else-free w ↦
-          let same : xs ≡ next = next_barred f chain place xs refl (sym free
-          ∙ w.if-free.false) in
-          let marks : c.if-free.marks ≡ seen = w.marks-is in (
+          let same = next_barred f chain place xs refl (sym free ∙ w.if-free.false) in
+          let marks = w.marks-is in (
             w.taken-is ∙ inv.0 ∙ ap (map chain) same,
-            λ u.
-                ap (λ (ms : List Bool). is_marked ms u) marks
-                ∙ inv.1 u
-                ∙ ap (λ (ys : List ℕ). is_in ys u) same,
+            λ u. cc (marks, inv.1 u, same),
             ap (λ (ms : List Bool). length ms) marks ∙ inv.2,
             omega (arith, inv.3, ap (λ (m : List (List ℕ)). length m) w.taken-is),
           )

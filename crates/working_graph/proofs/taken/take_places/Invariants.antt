@@ -1,7 +1,4 @@
-use Rattle.std.proofs.Common.{◌≡◌, ◌≤◌, length, map}
-use Rattle.chain_map.specs.Cliques.{clique_places, clique_chain}
-use Rattle.working_graph.specs.Working.{fabric_of}
-use Rattle.working_graph.specs.Places.{taken_of, AreMarked}
+use Rattle.working_graph.proofs.Common.{◌≡◌, ◌≤◌, length, map, clique_places, clique_chain, fabric_of, taken_of, AreMarked}
 use Rattle.working_graph.proofs.taken.take_places.Given as goal
 
 -- the chains of those that are taken so far, their marks, and no more than are asked for

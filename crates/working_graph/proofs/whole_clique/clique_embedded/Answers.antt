@@ -1,9 +1,4 @@
-use Rattle.std.proofs.Common.{length, refl, subst, sym}
-use Rattle.chimera_graph.specs.Graph.{qubits_of}
-use Rattle.chain_map.specs.Cliques.{clique_of}
-use Rattle.embedding_check.specs.Embeddings.{Embedding}
-use Rattle.embedding_check.specs.Checked.{IsChecked}
-use Rattle.working_graph.specs.CliquePlaces.{joined_on}
+use Rattle.working_graph.proofs.Common.{length, refl, subst, sym, qubits_of, clique_of, Embedding, IsChecked, joined_on}
 use Rattle.working_graph.proofs.CliqueEmbeds.{made_of_parts, made_checked, made_embeds}
 use Rattle.working_graph.proofs.whole_clique.clique_embedded.Goals as goal
 

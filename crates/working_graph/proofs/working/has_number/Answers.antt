@@ -1,21 +1,16 @@
-use Rattle.std.proofs.Common.{◌≡◌, ℕ, ◌==◌, Bool, false, inl, inr, Err, get_or, sym, arith}
-use Rattle.std.proofs.lemmas.Bool.{cases_lt}
-use Rattle.std.proofs.lemmas.List.Folds.{list_any_none}
-use Rattle.std.proofs.lemmas.List.Elements.{All-from_get_or}
-use Rattle.std.proofs.lemmas.List.Sorted.{searched}
+use Rattle.working_graph.proofs.Common.{◌≡◌, ℕ, ◌==◌, Bool, false, inl, inr, Err, get_or, sym, arith, cases_lt, list_any_none, All-from_get_or, searched}
 use Rattle.working_graph.proofs.Pairs.{is_other}
 use Rattle.working_graph.proofs.working.has_number.Goals as goal
 
 pub returns-in-Err : goal.returns-in-Err
 returns-in-Err c =
     let xs = c.args.numbers.now in
-    let at = c.in-Err.field-0 in
-    let here = searched xs _ (Err at) c.in-Err.ensures.position c.requires in
+    let here = searched xs _ (Err c.in-Err.field-0) c.in-Err.ensures.position c.requires in
     let test : ℕ → Bool = λ n. n == c.args.number in
     sym
     (list_any_none test xs
     (All-from_get_or (λ n. test n ≡ false) xs 0 (λ i below. is_other (get_or xs i 0) _ (λ same.
-    elim (cases_lt i at) [
+    elim (cases_lt i c.in-Err.field-0) [
       | inl before ↦ omega (arith, same, here.1 i before)
       | inr after ↦ omega (arith, same, here.2 i after below)
     ]))))

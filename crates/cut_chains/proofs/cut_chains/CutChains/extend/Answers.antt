@@ -5,10 +5,8 @@ use Rattle.cut_chains.proofs.cut_chains.CutChains.extend.Goals as goal
 pub returns-clause-reaches : goal.returns-clause-reaches
 returns-clause-reaches c =
     let e = c.args.source.now in
-    let x = c.args.x.now in
     let link = c.args._link.now in
-    let reaches = cut_reaches link e x c.requires.fits c.requires.width in
+    let reaches = cut_reaches link e c.args.x.now c.requires.fits c.requires.width in
     IfOk-weaker c.extended.result _ _
     (λ y same. subst (Extends (form_of e) (isings.form_of (cut_image e)) (decoding link) (pos 1)
-    (cut_offset e) x) (sym same) reaches)
-    c.extended.ensures
+    (cut_offset e) c.args.x.now) (sym same) reaches) c.extended.ensures

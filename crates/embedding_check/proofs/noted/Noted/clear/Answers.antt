@@ -1,6 +1,4 @@
-use Rattle.std.proofs.Common.{◌≡◌, ◌<◌, ◌+◌, length, sym, ap, ◌∙◌, arith}
-use Rattle.std.proofs.lemmas.List.{length-map}
-use Rattle.embedding_check.specs.Noted.{marked_pair}
+use Rattle.embedding_check.proofs.Common.{◌≡◌, ◌<◌, ◌+◌, length, sym, ap, ◌∙◌, arith, length-map, marked_pair}
 use Rattle.embedding_check.proofs.Noting.{cleared}
 use Rattle.embedding_check.proofs.noted.Noted.clear.Goals as goal
 
@@ -10,7 +8,7 @@ returns-then-self-clause-none c = λ v low.
     let len : length c.args.self.now ≡ length inside.marks.items =
     sym (ap length c.self.view_is) ∙ length-map inside.marks.items (marked_pair inside.turn) in
     let below : v < length c.forget.new.marks.items =
-    omega (arith, low, len, c.forget.ensures.len) in
+    omega (arith, low, len) in
     cleared 1 c.forget.new.marks.items v below (λ i d h. omega (arith, c.forget.ensures.none i d h))
 
 pub returns-else-self-clause-none : goal.returns-else-self-clause-none

@@ -1,20 +1,18 @@
-use Rattle.std.proofs.Common.{◌≡◌, ◌∙◌, sym, arith}
-use Rattle.embedding_check.specs.Noted.{IsJoin}
+use Rattle.embedding_check.proofs.Common.{◌≡◌, ◌∙◌, sym, arith, IsJoin}
 use Rattle.embedding_check.proofs.Noting.{notes_same}
 use Rattle.embedding_check.proofs.noted.Noted.note.Goals as goal
 
 pub returns-then-joined : goal.returns-then-joined
 returns-then-joined g c =
     let joined = g.H.Hardware.joined c.args.hardware.now in
-    let owners = c.args.owners.now in
     let owner = c.owner-owner.result in
     let pair = c.ordered-from.result in
     notes_same (λ v p. (v ≡ owner) × (p ≡ (pair.0, pair.1)))
-    (IsJoin joined owners c.args.node c.args.a c.args.b) c.args.self.now c.put.new.self
+    (IsJoin joined c.args.owners.now c.args.node c.args.a c.args.b) c.args.self.now c.put.new.self
     (λ v p low x. record {
-      below = omega (arith, c.requires.second, c.requires.owners);
+      below = omega arith;
       owner = sym c.owner-owner.ensures ∙ sym x.0;
-      later = omega (arith, c.if-node-owner.true, x.0);
+      later = omega (arith, x.0);
       linked = sym c.joined.ensures ∙ c.if-joined.true;
       pair = x.1 ∙ c.ordered-from.ensures;
     })

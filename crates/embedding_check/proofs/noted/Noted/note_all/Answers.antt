@@ -1,7 +1,4 @@
-use Rattle.std.proofs.Common.{◌+◌, inl, inr, subst, arith}
-use Rattle.std.proofs.lemmas.Bool.{cases_eq}
-use Rattle.embedding_check.specs.Search.{qubit_at}
-use Rattle.embedding_check.specs.Noted.{IsQubitJoin, IsChainJoin}
+use Rattle.embedding_check.proofs.Common.{◌+◌, inl, inr, arith, cases_eq, qubit_at, IsQubitJoin, IsChainJoin}
 use Rattle.embedding_check.proofs.Noting.{notes_same, notes_both}
 use Rattle.embedding_check.proofs.noted.Noted.note_all.Goals as goal
 
@@ -12,20 +9,18 @@ loop-k-preserved g c =
     let node = c.args.node in
     let chain = c.args.chain.now in
     let k = c.loop-k.k in
-    let Old = IsChainJoin joined owners node chain k in
-    let New = IsQubitJoin joined owners node (qubit_at chain k) in
+    let both = notes_both (IsChainJoin joined owners node chain k) (IsQubitJoin joined owners node (qubit_at chain k)) c.args.self.now
+    c.loop-k.self c.note_qubit-done.new.self c.loop-k.invariant.noted c.note_qubit-done.ensures.noted in
     record {
-      noted = notes_same _ (IsChainJoin joined owners node chain (k + 1)) c.args.self.now
-          c.note_qubit-done.new.self
+      noted = notes_same _ (IsChainJoin joined owners node chain (k + 1)) c.args.self.now c.note_qubit-done.new.self
           (λ v p low. elim [
             | inl x ↦ (x.0, omega (arith, x.1), x.2)
             | inr x ↦ (k, omega arith, x)
           ])
           (λ v p low x. elim (cases_eq x.0 k) [
-            | inl e ↦ inr (subst (λ i. IsQubitJoin joined owners node (qubit_at chain i) v p) e x.2)
+            | inl e ↦ inr (rw e at x.2)
             | inr e ↦ inl (x.0, omega (arith, x.1, e), x.2)
           ])
-          (notes_both Old New c.args.self.now c.loop-k.self c.note_qubit-done.new.self
-          c.loop-k.invariant.noted c.note_qubit-done.ensures.noted);
+          both;
       done = c.note_qubit-done.ensures.done;
     }

@@ -1,5 +1,4 @@
-use Rattle.std.specs.Prelude.{IfSome}
-use Rattle.embedding_check.specs.Noted.{Notes, IsChainJoin, AreNotedFrom}
+use Rattle.embedding_check.proofs.Common.{IfSome, Notes, IsChainJoin, AreNotedFrom}
 use Rattle.embedding_check.proofs.noted.Noted.note_all.Given as goal
 
 -- the joins of the qubits so far are noted

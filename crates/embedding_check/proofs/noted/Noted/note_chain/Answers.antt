@@ -1,5 +1,4 @@
-use Rattle.std.proofs.Common.{length, arith}
-use Rattle.embedding_check.specs.Noted.{IsChainJoin}
+use Rattle.embedding_check.proofs.Common.{length, arith, IsChainJoin}
 use Rattle.embedding_check.proofs.Noting.{least_of_notes}
 use Rattle.embedding_check.proofs.noted.Noted.note_chain.Goals as goal
 
@@ -9,4 +8,4 @@ returns-clause-noted g c = λ v low.
     let chain = c.args.chain.now in
     least_of_notes (IsChainJoin joined c.args.owners.now c.args.node chain (length chain))
     c.clear.new.self c.note_all.new.self c.note_all.ensures v
-    (omega (arith, low, c.clear.ensures.len)) (c.clear.ensures.none v low)
+    (omega (arith, low)) (c.clear.ensures.none v low)

@@ -1,7 +1,4 @@
-use Rattle.std.proofs.Common.{◌≡◌, ℕ, refl, subst, ◌∙◌, arith}
-use Rattle.std.specs.Prelude.{Option, IfSome}
-use Rattle.chimera_graph.specs.declared.span.Span.{Span}
-use Rattle.embedding_check.specs.Noted.{AreNotedFrom}
+use Rattle.embedding_check.proofs.Common.{◌≡◌, ℕ, refl, subst, ◌∙◌, arith, Option, IfSome, Span, AreNotedFrom}
 use Rattle.embedding_check.proofs.Runs.{span_done}
 use Rattle.embedding_check.proofs.noted.Noted.note_faced.Goals as goal
 
@@ -17,5 +14,5 @@ returns-then-is_same-clause-noted g c =
     subst (λ (x : Option (ℕ × Span)). IfSome x (λ p. AreNotedFrom now owners node p.0 p.1)) c.in-Some.is c.requires.done in
     let same : c.in-Some.faced ≡ g.H.Hardware.facing graph a = c.if-is_same.ensures refl ∙ c.facing-span.ensures in
     span_done joined owners node c.in-Some.least a (g.H.Hardware.facing graph a) now
-    (omega (arith, c.if-least-a.true))
+    (omega arith)
     (subst (AreNotedFrom now owners node c.in-Some.least) same done)

@@ -1,6 +1,4 @@
-use Rattle.std.proofs.Common.{◌≡◌, ◌∙◌, sym, subst}
-use Rattle.std.proofs.lemmas.Option.{same_Some}
-use Rattle.embedding_check.specs.Noted.{IsJoin, IsNumberJoin}
+use Rattle.embedding_check.proofs.Common.{◌≡◌, ◌∙◌, sym, subst, same_Some, IsJoin, IsNumberJoin}
 use Rattle.embedding_check.proofs.Noting.{notes_same}
 use Rattle.embedding_check.proofs.noted.Noted.note_number.Goals as goal
 

@@ -1,7 +1,4 @@
-use Rattle.std.proofs.Common.{◌≡◌, ℕ, ◌<◌, ◌⊎◌, inl, inr, true, sym, subst, arith}
-use Rattle.std.specs.Prelude.{Option}
-use Rattle.chimera_graph.specs.Spans.{CanBeJoined}
-use Rattle.embedding_check.specs.Noted.{IsSpanJoin, IsNumberJoin, IsQubitJoin}
+use Rattle.embedding_check.proofs.Common.{◌≡◌, ℕ, ◌<◌, ◌⊎◌, inl, inr, true, arith, CanBeJoined, IsSpanJoin, IsNumberJoin, IsQubitJoin}
 use Rattle.embedding_check.proofs.Noting.{notes_same, notes_both}
 use Rattle.embedding_check.proofs.Runs.{done_later}
 use Rattle.embedding_check.proofs.noted.Noted.note_qubit.Goals as goal
@@ -13,14 +10,11 @@ returns-clause-noted g c =
     let owners = c.args.owners.now in
     let node = c.args.node in
     let a = c.args.a in
-    let span = g.H.Hardware.facing graph a in
     let before = c.before-2.result in
     let after = c.after.result in
-    let findable : (b : ℕ) → b < g.H.Hardware.qubits graph → joined a b ≡ true → CanBeJoined span before after b = λ b below linked.
-    subst (λ (x : Option ℕ). CanBeJoined span x after b) (sym c.before-2.ensures)
-    (subst (λ (x : Option ℕ). CanBeJoined span (g.H.Hardware.before graph a) x b) (sym c.after.ensures)
-    (g.met.H.Hardware.findable graph a b c.requires.qubit below linked)) in
-    let S = IsSpanJoin joined owners node a span in
+    let findable : (b : ℕ) → b < g.H.Hardware.qubits graph → joined a b ≡ true → CanBeJoined (g.H.Hardware.facing graph a) before after b =
+    λ b below linked. rw (c.before-2.ensures, c.after.ensures) (g.met.H.Hardware.findable graph a b c.requires.qubit below linked) in
+    let S = IsSpanJoin joined owners node a (g.H.Hardware.facing graph a) in
     let B = IsNumberJoin joined owners node a before in
     let A = IsNumberJoin joined owners node a after in
     let now = c.args.self.now in
@@ -35,9 +29,7 @@ returns-clause-noted g c =
       ]
       | inr y ↦ (y.0, y.2)
     ])
-    (λ v p low x.
-    let below : x.0 < g.H.Hardware.qubits graph = omega (arith, x.1.below, c.requires.owners) in
-    elim (findable x.0 below x.1.linked) [
+    (λ v p low x. elim (findable x.0 (omega (arith, x.1.below)) x.1.linked) [
       | inl faced ↦ inl (inl (x.0, faced, x.1))
       | inr line ↦ elim line [
         | inl e ↦ inl (inr (x.0, e, x.1))

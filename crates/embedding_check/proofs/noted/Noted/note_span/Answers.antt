@@ -1,5 +1,4 @@
-use Rattle.std.proofs.Common.{arith}
-use Rattle.embedding_check.specs.Noted.{IsSpanJoin, IsRunJoin}
+use Rattle.embedding_check.proofs.Common.{arith, IsSpanJoin, IsRunJoin}
 use Rattle.embedding_check.proofs.Noting.{notes_same}
 use Rattle.embedding_check.proofs.Taking.{not_both}
 use Rattle.embedding_check.proofs.Runs.{IsJoinBelow, span_more, done_more, done_all}
@@ -14,10 +13,10 @@ runs-preserved-then-all g c =
     let span = c.args.span in
     let run = c.note_run-next in
     record {
-      from = omega (arith, c.runs.invariant.from, run.ensures.after);
+      from = omega (arith, run.ensures.after);
       noted = span_more joined owners node a span c.runs.b run.result.0 c.args.self.now c.runs.self
           run.new.self c.runs.invariant.from run.ensures.after
-          (omega (arith, run.ensures.within, c.lesser-end.ensures.first))
+          (omega (arith, run.ensures.within))
           c.runs.invariant.noted run.ensures.noted;
       done = λ yes. done_more (IsRunJoin joined owners node a c.runs.b run.result.0) owners node a span
           c.runs.b run.result.0 c.runs.self run.new.self run.ensures.noted
@@ -33,10 +32,10 @@ runs-preserved g c =
     let span = c.args.span in
     let run = c.note_run-next in
     record {
-      from = omega (arith, c.runs.invariant.from, run.ensures.after);
+      from = omega (arith, run.ensures.after);
       noted = span_more joined owners node a span c.runs.b run.result.0 c.args.self.now c.runs.self
           run.new.self c.runs.invariant.from run.ensures.after
-          (omega (arith, run.ensures.within, c.lesser-end.ensures.first))
+          (omega (arith, run.ensures.within))
           c.runs.invariant.noted run.ensures.noted;
       done = λ yes. absurd (not_both _ yes c.if-all.false);
     }
@@ -53,12 +52,7 @@ returns-clause-noted g c =
     (λ v p low x. (x.0, x.1, x.3)) (λ v p low x. (
       x.0,
       x.1,
-      omega (
-        arith,
-        c.lesser-end.ensures.between x.0 x.1.below
-            (omega (arith, x.2.below, c.requires.owners, c.qubits.ensures)),
-        c.runs-test.false,
-      ),
+      omega (arith, c.lesser-end.ensures.between x.0 x.1.below (omega (arith, x.2.below))),
       x.2,
     )) c.runs.invariant.noted
 
@@ -68,7 +62,6 @@ returns-clause-all g c = λ yes b after.
     (λ x faced below. omega (
       arith,
       c.lesser-end.ensures.between x faced.below
-          (omega (arith, below, c.requires.owners, c.qubits.ensures)),
-      c.runs-test.false,
+          (omega (arith, below)),
     ))
     (c.runs.invariant.done yes)

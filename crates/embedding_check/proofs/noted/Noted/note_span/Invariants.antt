@@ -1,6 +1,4 @@
-use Rattle.std.proofs.Common.{◌≡◌, ℕ, ◌-◌, ◌<◌, ◌≤◌, true}
-use Rattle.chimera_graph.specs.Spans.{IsFaced}
-use Rattle.embedding_check.specs.Noted.{Notes, IsJoin, AreNotedTo}
+use Rattle.embedding_check.proofs.Common.{◌≡◌, ℕ, ◌-◌, ◌<◌, ◌≤◌, true, IsFaced, Notes, IsJoin, AreNotedTo}
 use Rattle.embedding_check.proofs.noted.Noted.note_span.Given as goal
 
 -- the joins to the numbers so far are noted

@@ -1,9 +1,4 @@
-use Rattle.std.proofs.Common.{◌≡◌, ℕ, ◌<◌, List, length, map, get_or, set, sym, ap, subst, refl, ◌∙◌, arith}
-use Rattle.std.specs.Prelude.{Option, Some}
-use Rattle.std.proofs.lemmas.List.{length-map}
-use Rattle.embedding_check.specs.declared.noted.Mark.{Mark}
-use Rattle.embedding_check.specs.Checked.{IsBefore}
-use Rattle.embedding_check.specs.Noted.{Notes, marked_pair}
+use Rattle.embedding_check.proofs.Common.{◌≡◌, ℕ, ◌<◌, List, length, map, get_or, set, sym, ap, subst, refl, ◌∙◌, arith, Option, Some, length-map, Mark, IsBefore, Notes, marked_pair}
 use Rattle.embedding_check.proofs.Passing.{default_free}
 use Rattle.embedding_check.proofs.Noting.{no_mark, put_new, put_old}
 use Rattle.embedding_check.proofs.noted.Noted.put.Goals as goal
@@ -16,7 +11,7 @@ returns-then-is_lesser c =
     let pair : ℕ × ℕ = (c.args.from, c.args.to) in
     let len : length c.args.self.now ≡ length marks =
     sym (ap length c.self.view_is) ∙ length-map marks (marked_pair inside.turn) in
-    let below : node < length marks = omega (arith, c.requires, len) in
+    let below : node < length marks = omega (arith, len) in
     let found : c.index.result.now ≡ get_or marks node no_mark =
     c.index.ensures ∙ default_free marks node c.index.result.now no_mark below in
     let mark : Mark = record { turn = inside.turn; from = c.args.from; to = c.args.to } in
@@ -36,7 +31,7 @@ returns-else-is_lesser c =
     let pair : ℕ × ℕ = (c.args.from, c.args.to) in
     let len : length c.args.self.now ≡ length marks =
     sym (ap length c.self.view_is) ∙ length-map marks (marked_pair inside.turn) in
-    let below : node < length marks = omega (arith, c.requires, len) in
+    let below : node < length marks = omega (arith, len) in
     let found : mark ≡ get_or marks node no_mark =
     c.index.ensures ∙ default_free marks node mark no_mark below in
     let kept = c.if-is_lesser.ensures.kept refl in

@@ -1,14 +1,6 @@
-use Rattle.std.proofs.Common.{◌≡◌, ◌+ℤ◌, ℤ, List, to_z, of_z, ap, ◌∙◌, arith}
-use Rattle.std.specs.Int.{w128}
-use Rattle.std.proofs.lemmas.Int.{ints}
-use Rattle.base.specs.Sums.{total_by}
-use Rattle.base.proofs.Totals.{total_by-append}
+use Rattle.ising_form.proofs.Common.{◌≡◌, ◌+ℤ◌, ℤ, List, to_z, of_z, ap, ◌∙◌, arith, w128, ints, total_by, total_by-append, spins_energy, size-energy, weights-append, node_entries, IsingContent, ising_value}
 use Rattle.base.specs.declared.costs.Cost.TheVariants.{Whole}
 use Rattle.bits_model.specs.declared.output.Kind.TheVariants.{Ising}
-use Rattle.bits_model.specs.Output.{spins_energy}
-use Rattle.bits_model.proofs.Energies.{size-energy, weights-append}
-use Rattle.quad_form.specs.Quads.{node_entries}
-use Rattle.ising_form.specs.Isings.{IsingContent, ising_value}
 use Rattle.ising_form.proofs.energy.IsingCosted.cost.Goals as goal
 
 pub overflow_add-result : goal.overflow_add-result

@@ -1,18 +1,9 @@
-use Rattle.std.proofs.Common.{◌≡◌, ◌≤◌, ◌^◌, ◌++◌, length, subst, sym, ap, ◌∙◌, to_z, of_z, pos, neg_ℤ, ◌-ℤ◌, arith, rules}
-use Rattle.std.specs.Int.{w128}
-use Rattle.std.proofs.lemmas.Int.{ints, to_z-of_z}
-use Rattle.bits_model.specs.Output.{Written, IsWellFormed, weight_total}
-use Rattle.base.specs.Figures.{figures_moved}
-use Rattle.quad_form.proofs.NodeEntries.{all_upward}
-use Rattle.ising_form.specs.Isings.{IsingContent, IsIsing}
-use Rattle.ising_form.specs.Outputs.{AreNodes, written_entries, written_of}
+use Rattle.ising_form.proofs.Common.{nat_tests, ◌≡◌, ◌≤◌, ◌^◌, ◌++◌, length, subst, sym, ap, ◌∙◌, to_z, of_z, pos, neg_ℤ, ◌-ℤ◌, arith, rules, w128, ints, to_z-of_z, Written, IsWellFormed, weight_total, figures_moved, all_upward, IsingContent, IsIsing, written_entries, written_of}
 use Rattle.ising_form.proofs.WrittenModels.{written_is_well_formed, written_total, nodes_and_couplings, are_nodes}
 use Rattle.ising_form.proofs.ising.Ising.output.Goals as goal
 
 pub nodes_for-requires-clause-placed : goal.nodes_for-requires-clause-placed
-nodes_for-requires-clause-placed c =
-    let fits = are_nodes c.args.kind c.args.chains c.args.variables c.args.self c.requires.kind in
-    subst (λ (f : IsingContent). AreNodes c.args.kind c.args.chains (length f.fields)) (sym c.self.view_is) fits
+nodes_for-requires-clause-placed c = grind (arith, nat_tests, ints, are_nodes)
 
 -- what the code makes
 abbrev made : (c : goal.After-moved) → Written

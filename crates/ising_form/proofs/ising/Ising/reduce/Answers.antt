@@ -1,8 +1,4 @@
-use Rattle.std.proofs.Common.{◌≡◌, pos, neg_ℤ, ◌-ℤ◌, to_z, of_z, sym, ap, ◌∙◌, subst, arith, rules}
-use Rattle.std.specs.Int.{w128}
-use Rattle.std.proofs.lemmas.Int.{ints, to_z-of_z}
-use Rattle.ising_form.specs.Isings.{IsingContent, IsIsing}
-use Rattle.ising_form.specs.Reduction.{ising_unit, reduced}
+use Rattle.ising_form.proofs.Common.{nat_tests, ◌≡◌, pos, neg_ℤ, ◌-ℤ◌, to_z, of_z, sym, ap, ◌∙◌, subst, arith, w128, ints, to_z-of_z, IsingContent, IsIsing}
 use Rattle.ising_form.proofs.ReducedForms.{reduced_is_ising, made_of_weights, made_reduces, made_total}
 use Rattle.ising_form.proofs.WrittenModels.{made_is_reduced}
 use Rattle.ising_form.proofs.ising.Ising.reduce.Goals as goal
@@ -15,16 +11,10 @@ invariant_of-result c =
     (reduced_is_ising _ c.self.invariant)
 
 pub returns-clause-target : goal.returns-clause-target
-returns-clause-target c =
-    made_of_weights c.self.inside.constant _ _ _ _ c.counted_weights-counted.ensures.nodes
-    c.counted_weights-counted.ensures.couplers
-    ∙ ap reduced c.self.view_is
+returns-clause-target c = grind (arith, nat_tests, ints, made_of_weights)
 
 pub returns-clause-unit : goal.returns-clause-unit
-returns-clause-unit c =
-    to_z-of_z w128 _ (search rules)
-    ∙ c.counted_weights-counted.ensures.unit
-    ∙ ap ising_unit c.self.view_is
+returns-clause-unit c = grind (arith, nat_tests, ints, to_z-of_z)
 
 pub returns-clause-reduces : goal.returns-clause-reduces
 returns-clause-reduces c =

@@ -1,5 +1,4 @@
-use Rattle.std.proofs.Common.{◌≡◌, rules}
-use Rattle.ising_form.specs.laws.Spun.{spins_reaches}
+use Rattle.ising_form.proofs.Common.{◌≡◌, rules, spins_reaches}
 use Rattle.ising_form.proofs.to_spins.ToSpinsLayer.extend.Goals as goal
 
 pub returns-clause-reaches : goal.returns-clause-reaches

@@ -1,23 +1,9 @@
-use Rattle.std.proofs.Common.{◌≡◌, to_z, of_z, ap, sym, subst, ◌∙◌, arith, rules}
-use Rattle.std.specs.Int.{w128}
-use Rattle.std.proofs.lemmas.Int.{to_z-of_z}
-use Rattle.form_steps.specs.declared.layer.BitsLink.{BitsLink}
-use Rattle.quad_form.specs.Quads.{QuadContent}
-use Rattle.ising_form.specs.Isings.{IsIsing, ising_total, ising_size}
-use Rattle.ising_form.specs.Spins.{image, Fits}
+use Rattle.ising_form.proofs.Common.{nat_tests, ap, ◌∙◌, arith, rules, w128, to_z-of_z, BitsLink, QuadContent, ising_total, ising_size, Fits}
 use Rattle.ising_form.proofs.Images.{image_is_ising, total-image, size-image, made_keeps}
 use Rattle.ising_form.proofs.to_spins.ToSpinsLayer.lower.Goals as goal
 
 pub invariant_of-result : goal.invariant_of-result
-invariant_of-result c =
-    let q = c.args.source.now in
-    let back = to_z-of_z w128 c.in_ok-spins.spins.constant (search rules) in
-    let constant = back ∙ c.in_ok-spins.ensures.constant in
-    let fields = c.new.ensures ∙ c.in_ok-spins.ensures.fields in
-    let couplings = c.in_ok-couplings.ensures ∙ ap (λ (f : QuadContent). f.couplers) c.source.view_is in
-    let made : record { constant = to_z w128 (of_z w128 c.in_ok-spins.spins.constant); fields = c.new.result; couplings = c.in_ok-couplings.couplings } ≡ image q =
-    λ i. record { constant = constant i; fields = fields i; couplings = couplings i } in
-    subst IsIsing (sym made) (image_is_ising q c.in_ok-spins.ensures.kept c.requires.total)
+invariant_of-result c = grind (arith, nat_tests, to_z-of_z, image_is_ising)
 
 pub returns-clause-image : goal.returns-clause-image
 returns-clause-image c =

@@ -1,8 +1,4 @@
-use Rattle.std.proofs.Common.{◌≡◌, List, ℕ, ◌==◌, min, max, ap, ◌∙◌, arith, rules}
-use Rattle.std.specs.List.{list_any}
-use Rattle.working_graph.specs.Working.{WorkingGraph}
-use Rattle.working_graph.specs.Index.{pair_number}
-use Rattle.working_graph.specs.Places.{is_cut}
+use Rattle.working_graph.proofs.Common.{◌≡◌, List, ℕ, ◌==◌, min, max, ap, ◌∙◌, arith, rules, list_any, WorkingGraph, pair_number, is_cut}
 use Rattle.working_graph.proofs.working.Working.is_cut.Goals as goal
 
 pub has_number-requires : goal.has_number-requires

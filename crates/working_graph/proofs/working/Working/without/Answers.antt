@@ -1,8 +1,4 @@
-use Rattle.std.proofs.Common.{◌≡◌, List, ap, ◌∙◌, rules}
-use Rattle.std.specs.List.{list_any}
-use Rattle.working_graph.specs.declared.parts.DeadPart.{DeadPart}
-use Rattle.working_graph.specs.Working.{is_qubit}
-use Rattle.working_graph.specs.Index.{numbers_of}
+use Rattle.working_graph.proofs.Common.{◌≡◌, List, ap, ◌∙◌, rules, list_any, DeadPart, is_qubit, numbers_of}
 use Rattle.working_graph.proofs.IndexedParts.{any_moved}
 use Rattle.working_graph.proofs.working.Working.without.Goals as goal
 
