@@ -2,8 +2,8 @@
 use base::UnitChoice;
 use chimera_graph::Chimera;
 use command_words::{
-    Ask, Board, Chaining, Command, Format, NodeModel, Notice, Origin, Request, Slack, Target, Ties,
-    Which, WordAt, name_of, notice_text, request,
+    Ask, Board, ChainStrength, Chaining, Command, Format, NodeModel, Notice, Origin, Request,
+    Slack, Target, Which, WordAt, name_of, notice_text, request,
 };
 use problem_form::{Choices, High, Normal};
 use std::alloc::{AllocError, Global};
@@ -197,7 +197,14 @@ const FORMATS: &[(&[&str], Format, NodeModel, UnitChoice)] = &[
     ),
 ];
 
-const GRAPHS: &[(&[&str], Format, Option<WordAt>, Chaining, Ties, UnitChoice)] = &[
+const GRAPHS: &[(
+    &[&str],
+    Format,
+    Option<WordAt>,
+    Chaining,
+    ChainStrength,
+    UnitChoice,
+)] = &[
     (
         &[
             "compile", "poly", "chimera", "FILE", "rows=2", "map=a=b", "cols=3", "shore=4",
@@ -205,7 +212,7 @@ const GRAPHS: &[(&[&str], Format, Option<WordAt>, Chaining, Ties, UnitChoice)] =
         Format::Poly,
         None,
         Chaining::Map(WordAt::Value(5)),
-        Ties::Choi,
+        ChainStrength::Choi,
         UnitChoice::One,
     ),
     (
@@ -224,7 +231,7 @@ const GRAPHS: &[(&[&str], Format, Option<WordAt>, Chaining, Ties, UnitChoice)] =
         Format::Wbo,
         Some(WordAt::Value(4)),
         Chaining::Map(WordAt::Value(9)),
-        Ties::Cut,
+        ChainStrength::Cut,
         UnitChoice::One,
     ),
     (
@@ -243,7 +250,7 @@ const GRAPHS: &[(&[&str], Format, Option<WordAt>, Chaining, Ties, UnitChoice)] =
         Format::Opb,
         None,
         Chaining::Clique,
-        Ties::Choi,
+        ChainStrength::Choi,
         UnitChoice::Reduce,
     ),
 ];
@@ -255,7 +262,7 @@ fn are_compiled_on(
     format: Format,
     dead: Option<WordAt>,
     chains: Chaining,
-    ties: Ties,
+    ties: ChainStrength,
     unit: UnitChoice,
 ) -> Result<bool, AllocError> {
     let Some(graph) = Chimera::new(2, 3, 4) else {

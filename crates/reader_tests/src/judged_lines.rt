@@ -1,8 +1,8 @@
 //! What the states of a text are worth and which is the best, as the text that says so.
-ghost use Rattle.std.specs.Prelude.{◌≡◌, false};
+ghost use Rattle.std.specs.Prelude.{◌≡◌, ◌+◌, ◌<◌, ◌^◌, false, length, pos, if◌then◌else◌};
 ghost use Rattle.std.specs.List.{slice_index_or};
 
-use base::Cost;
+use base::{Cost, Lists};
 use edge_io::{CallList, LineBuffer, MemorySink};
 use state_file::StateAnswer;
 use state_scores::{Evaluation, EvaluationText, Judge, evaluate};
@@ -23,6 +23,20 @@ fn bit(state: &[bool], index: usize) -> bool
     index < state.len() && state[index]
 }
 
+/// What the first two bits cost.
+fn cost_by(state: &[bool]) -> Cost
+    ensures { result ≡ (if slice_index_or state.now 0 false then Cost.Infinite else
+        Cost.Whole (if slice_index_or state.now 1 false then pos 1 else pos 0)) }
+{
+    if bit(state, 0) {
+        Cost::Infinite
+    } else if bit(state, 1) {
+        Cost::Whole(1)
+    } else {
+        Cost::Whole(0)
+    }
+}
+
 impl Judge for ThreeBits {
     ghost use Rattle.std.specs.Prelude.{pos, negsuc, if◌then◌else◌, false};
     ghost use Rattle.std.specs.List.{slice_index_or};
@@ -35,13 +49,9 @@ impl Judge for ThreeBits {
       energy = λ bits. (if slice_index_or bits 2 false then negsuc 0 else pos 0);
     } };
 
-    fn cost(&mut self, state: &[bool]) -> Cost {
-        if bit(state, 0) {
-            Cost::Infinite
-        } else if bit(state, 1) {
-            Cost::Whole(1)
-        } else {
-            Cost::Whole(0)
+    fn costs(&mut self, states: &Lists<bool>, costs: &mut [Cost]) {
+        for place in 0..states.len() {
+            costs[place] = cost_by(states.list(place));
         }
     }
 
@@ -137,6 +147,40 @@ const TEXTS: &[(&[u8], usize, Option<&[u8]>)] = &[
 fn scores_and_the_best_of_them(rt: HostRuntime) -> Result<(), Fail> {
     for (text, width, wanted) in TEXTS {
         assert!(rt; is_judged(rt.alloc(), text, *width, *wanted)?, "{text:?}");
+    }
+    Ok(())
+}
+
+/// Some states that cost 1, and then one that costs nothing.
+fn rising(alloc: Global, states: u32) -> Result<Vec<u8>, Fail> {
+    let mut text = Vec::new(alloc);
+    for _ in 0..states {
+        text.extend_from_slice(b"010\n")?;
+    }
+    text.extend_from_slice(b"001\n")?;
+    Ok(text)
+}
+
+/// Whether all of them are judged, and the last is the best.
+fn is_last_best(alloc: Global, text: &[u8], states: u32) -> Result<bool, Fail> {
+    if text.len() > 1000 {
+        return Ok(false);
+    }
+    match evaluate(alloc, text, 3, &mut ThreeBits { width: 3 }) {
+        Ok(evaluation) => Ok(
+            evaluation.best.line == u64::from(states).saturating_add(1)
+                && evaluation.best.cost == Cost::Whole(0)
+                && evaluation.scores.len() == (states as usize).saturating_add(1),
+        ),
+        Err(_) => Ok(false),
+    }
+}
+
+#[test]
+fn batches_end_where_the_states_do(rt: HostRuntime) -> Result<(), Fail> {
+    for states in [0, 1, 62, 63, 64, 65, 127, 128] {
+        let text = rising(rt.alloc(), states)?;
+        assert!(rt; is_last_best(rt.alloc(), &text, states)?, "{states}");
     }
     Ok(())
 }

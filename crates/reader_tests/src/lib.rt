@@ -5,6 +5,8 @@
 #![tactic(auto)]
 
 #[cfg(test)]
+mod added_costs;
+#[cfg(test)]
 mod command_rows;
 #[cfg(test)]
 mod conflicts;

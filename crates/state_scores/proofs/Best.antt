@@ -1,13 +1,5 @@
 -- The best of the states so far: each state before it is worse, and none after it is better.
-use Rattle.std.proofs.Common.{◌≡◌, Bool, true, false, List, [], ◌∷◌, ◌++◌, not, cond, refl, sym, ap, ◌∙◌, subst, append_assoc, arith}
-use Rattle.std.proofs.lemmas.List.{map-append}
-use Rattle.std.proofs.lemmas.List.Elements.{All-tail}
-use Rattle.std.proofs.Math.Bool.{or-true}
-use Rattle.std.specs.Prelude.{find, Some, map, if◌then◌else◌, ◌<◌, ◌^◌}
-use Rattle.std.specs.List.{All, AllByRecursion, list_any}
-use Rattle.state_file.specs.States.{StateLine}
-use Rattle.state_scores.specs.declared.worth.Score.{Score}
-use Rattle.state_scores.specs.Scores.{IsEvaluation, Judgement, best_of, has_better, is_better, score_of}
+use Rattle.state_scores.proofs.Common.{◌||◌, length, append-nil, ◌≡◌, Bool, true, false, List, [], ◌∷◌, ◌++◌, not, cond, refl, sym, ap, ◌∙◌, subst, append_assoc, arith, map-append, or-true, find, Some, map, if◌then◌else◌, AllByRecursion, list_any, StateLine, Score, IsEvaluation, Judgement, best_of, has_better, is_better, score_of, ◌==◌, nat_tests, IsEvaluationOf, Standing, after_score, after_states, leads}
 use Rattle.state_scores.proofs.Orders.{better_asym, better_over, better_self}
 
 -- whether a state is better than another
@@ -120,7 +112,7 @@ pub record IsJudged (j : Judgement) (states : List StateLine) (scores : List Sco
   pub worth : best ≡ score_of j (best.line, bits)
 
 -- one state
-pub judged_first : (j : Judgement) (scores : List Score) (best : Score) (bits : List Bool)
+judged_first : (j : Judgement) (scores : List Score) (best : Score) (bits : List Bool)
     → scores ≡ best ∷ [] → best ≡ score_of j (best.line, bits)
     → IsJudged j ((best.line, bits) ∷ []) scores best bits
 judged_first j scores best bits one worth = record {
@@ -148,28 +140,64 @@ better_one j states best new bits others state false lost so_far worth taken kep
     let stayed = best_stays j states was state loses so_far in
     (subst (IsBest j (states ++ state ∷ [])) same stayed, taken ∙ worth ∙ ap (score_of j) same)
 
+-- the same under equal names
+judged_as : (j : Judgement) (states : List StateLine) (scores : List Score) (best new : Score)
+    (bits others : List Bool) → new ≡ best → others ≡ bits → IsJudged j states scores best bits
+    → IsJudged j states scores new others
+judged_as j states scores best new bits others taken kept judged =
+    subst (λ (b : Score). IsJudged j states scores b others) (sym taken)
+    (subst (λ (l : List Bool). IsJudged j states scores best l) (sym kept) judged)
+
 -- one state more
-pub judged_more : (j now : Judgement) (states : List StateLine) (scores more : List Score)
-    (best new : Score) (bits others : List Bool) (state : StateLine) → now ≡ j
-    → IsJudged j states scores best bits → more ≡ scores ++ score_of now state ∷ []
-    → new ≡ (if is_better (score_of now state) best then score_of now state else best)
-    → others ≡ (if is_better (score_of now state) best then state.1 else bits)
-    → IsJudged j (states ++ state ∷ []) more new others
-judged_more j now states scores more best new bits others state same so_far listed taken kept =
-    let score = λ (k : Judgement). score_of k state in
-    let row = subst (λ (k : Judgement). more ≡ scores ++ score k ∷ []) same listed in
-    let one = better_one j states best new bits others state (is_better (score j) best) refl so_far.first so_far.worth
-    (subst (λ (k : Judgement). new ≡ (if is_better (score k) best then score k else best)) same taken)
-    (subst (λ (k : Judgement). others ≡ (if is_better (score k) best then state.1 else bits)) same kept) in
+judged_more : (j : Judgement) (states : List StateLine) (scores : List Score) (best new : Score)
+    (bits others : List Bool) (state : StateLine) → IsJudged j states scores best bits
+    → new ≡ (if is_better (score_of j state) best then score_of j state else best)
+    → others ≡ (if is_better (score_of j state) best then state.1 else bits)
+    → IsJudged j (states ++ state ∷ []) (scores ++ score_of j state ∷ []) new others
+judged_more j states scores best new bits others state so_far taken kept =
+    let one = better_one j states best new bits others state (is_better (score_of j state) best) refl
+    so_far.first so_far.worth taken kept in
     record {
-      listed = row ∙ ap (λ (l : List Score). l ++ score j ∷ []) so_far.listed
+      listed = ap (λ (l : List Score). l ++ score_of j state ∷ []) so_far.listed
           ∙ sym (map-append (score_of j) states (state ∷ []));
       first = one.0;
       worth = one.1;
     }
 
+-- what is known after these states: nothing after none
+abbrev pub IsStanding : Judgement → List StateLine → Standing → Type 0
+IsStanding j [] s = s.scores ≡ []
+IsStanding j (state ∷ states) s = IsJudged j (state ∷ states) s.scores s.best s.bits
+
+standing_more : (j : Judgement) (done : List StateLine) (s : Standing) (state : StateLine)
+    → IsStanding j done s → IsStanding j (done ++ state ∷ []) (after_score s (score_of j state) state.1)
+standing_more j [] s state none =
+    let score = score_of j state in
+    let first : leads s score ≡ true = ap (λ (l : List Score). (length l == 0) || is_better score s.best) none in
+    judged_as j (state ∷ []) (s.scores ++ score ∷ []) score _ state.1 _
+    (ap (λ (b : Bool). if b then score else s.best) first)
+    (ap (λ (b : Bool). if b then state.1 else s.bits) first)
+    (judged_first j (s.scores ++ score ∷ []) score state.1 (ap (λ (l : List Score). l ++ score ∷ []) none) refl)
+standing_more j (d ∷ done) s state judged =
+    let score = score_of j state in
+    let count = ap length judged.listed in
+    let some : (length s.scores == 0) ≡ false = grind (arith, nat_tests, count) in
+    let later = ap (λ (b : Bool). b || is_better score s.best) some in
+    judged_more j (d ∷ done) s.scores s.best _ s.bits _ state judged
+    (ap (λ (b : Bool). if b then score else s.best) later)
+    (ap (λ (b : Bool). if b then state.1 else s.bits) later)
+
+-- what is known after more states
+pub standing_after : (j : Judgement) (done states : List StateLine) (s : Standing)
+    → IsStanding j done s → IsStanding j (done ++ states) (after_states j s states)
+standing_after j done [] s so_far = subst (λ (l : List StateLine). IsStanding j l s) (sym (append-nil done)) so_far
+standing_after j done (state ∷ states) s so_far =
+    let next = after_score s (score_of j state) state.1 in
+    subst (λ (l : List StateLine). IsStanding j l (after_states j next states)) (append_assoc done (state ∷ []) states)
+    (standing_after j (done ++ state ∷ []) states next (standing_more j done s state so_far))
+
 -- all states
-pub judged_all : (j : Judgement) (states : List StateLine) (scores : List Score) (best : Score)
+judged_all : (j : Judgement) (states : List StateLine) (scores : List Score) (best : Score)
     (bits : List Bool) → IsJudged j states scores best bits → IsEvaluation j states scores best bits
 judged_all j states scores best bits judged = record {
   listed = judged.listed;
@@ -177,15 +205,18 @@ judged_all j states scores best bits judged = record {
   worth = judged.worth;
 }
 
--- ---- the numbers of the states that are left
+pub standing_of_all : (j : Judgement) (states : List StateLine) (s : Standing)
+    → IsStanding j states s → IsEvaluationOf j states s
+standing_of_all j [] s none = none
+standing_of_all j (state ∷ states) s judged = judged_all j (state ∷ states) s.scores s.best s.bits judged
 
-pub first_number : (states rest : List StateLine) (state : StateLine) → states ≡ state ∷ rest
-    → All (λ s. s.0 < 2 ^ 32) states → state.0 < 2 ^ 32
-first_number states rest state cut low =
-    subst (λ (l : List StateLine). All (λ s. s.0 < 2 ^ 32) l) cut low 0 state (omega arith)
+-- where states were judged there are scores
+pub judged_some : (j : Judgement) (states : List StateLine) (s : Standing) → IsEvaluationOf j states s
+    → (s.scores ≡ [] → ⊥) → IsEvaluation j states s.scores s.best s.bits
+judged_some j [] s none some = absurd (some none)
+judged_some j (state ∷ states) s judged some = judged
 
-pub later_numbers : (states rest : List StateLine) (state : StateLine) → states ≡ state ∷ rest
-    → All (λ s. s.0 < 2 ^ 32) states → All (λ s. s.0 < 2 ^ 32) rest
-later_numbers states rest state cut low =
-    All-tail (λ (s : StateLine). s.0 < 2 ^ 32) state rest
-    (subst (λ (l : List StateLine). All (λ s. s.0 < 2 ^ 32) l) cut low)
+pub judged_none : (j : Judgement) (states : List StateLine) (s : Standing) → IsEvaluationOf j states s
+    → s.scores ≡ [] → states ≡ []
+judged_none j [] s none empty = refl
+judged_none j (state ∷ states) s judged empty = absurd cc

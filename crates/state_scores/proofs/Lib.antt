@@ -1,3 +1,5 @@
+mod Common
 mod Orders
 mod Best
 mod ScoreRows
+mod TakenStates

@@ -1,11 +1,6 @@
 -- Better is an order of scores: by cost, and at equal costs by energy.
-use Rattle.std.proofs.Common.{◌≡◌, Bool, true, false, ◌||◌, ◌&&◌, not, ℤ, arith, refl}
-use Rattle.std.specs.Prelude.{int_lt}
-use Rattle.std.proofs.lemmas.Int.{ints}
-use Rattle.base.specs.declared.costs.Cost.{Cost}
+use Rattle.state_scores.proofs.Common.{◌≡◌, Bool, true, false, ◌||◌, ◌&&◌, not, ℤ, arith, refl, int_lt, ints, Cost, Score, is_below, is_better}
 use Rattle.base.specs.declared.costs.Cost.TheVariants.{Whole, Infinite}
-use Rattle.state_scores.specs.declared.worth.Score.{Score}
-use Rattle.state_scores.specs.Scores.{is_below, is_better}
 
 -- a cost and an energy before another cost and energy
 abbrev beats : Cost → ℤ → Cost → ℤ → Bool

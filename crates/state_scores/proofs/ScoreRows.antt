@@ -1,15 +1,6 @@
 -- The pieces of each row are its text.
-use Rattle.std.proofs.Common.{◌≡◌, ℕ, ◌+◌, ◌<◌, List, [], ◌∷◌, ◌++◌, length, map, drop, get_or, refl, sym, ap, ◌∙◌, append-nil, append_assoc}
-use Rattle.std.specs.Prelude.{codes}
-use Rattle.std.specs.Fmt.{decimal, signed_decimal}
-use Rattle.std.proofs.lemmas.List.{drop_more}
-use Rattle.std.proofs.lemmas.List.Concat.{flat_map-append}
-use Rattle.base.specs.declared.costs.Cost.{Cost}
+use Rattle.state_scores.proofs.Common.{◌≡◌, ℕ, ◌+◌, ◌<◌, List, [], ◌∷◌, ◌++◌, length, map, drop, get_or, refl, sym, ap, ◌∙◌, append-nil, append_assoc, codes, decimal, signed_decimal, drop_more, flat_map-append, Cost, Row, row_text, rows_text, cost_row, energy_row, Score, best_row, cost_word, score_row, scores_text}
 use Rattle.base.specs.declared.costs.Cost.TheVariants.{Whole, Infinite}
-use Rattle.model_text.specs.Rows.{Row, row_text, rows_text}
-use Rattle.answer_text.specs.Answers.{cost_row, energy_row}
-use Rattle.state_scores.specs.declared.worth.Score.{Score}
-use Rattle.state_scores.specs.Texts.{best_row, cost_word, score_row, scores_text}
 
 -- ---- a score
 

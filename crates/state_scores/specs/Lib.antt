@@ -1,3 +1,4 @@
 pub mod Scores
+pub mod Batches
 pub mod Packing
 pub mod Texts

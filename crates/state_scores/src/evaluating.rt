@@ -1,8 +1,11 @@
 //! The scores of all states of a text, and the best of them.
-ghost use Rattle.std.specs.Prelude.{◌≡◌, ◌+◌, ◌^◌, ◌<◌, ◌++◌, ◌∷◌, [], All, length, if◌then◌else◌, IfOk, OnOk, IsErrOf};
-ghost use Rattle.state_file.specs.States.{StateLine, states_of};
-ghost use Rattle.state_scores.specs.Scores.{IsEvaluation, IsSmall, is_better, score_of};
+ghost use Rattle.std.specs.Prelude.{◌≡◌, ◌+◌, ◌^◌, ◌<◌, [], All, length, if◌then◌else◌, IfOk, OnOk, IsErrOf};
+ghost use Rattle.std.specs.List.{zip};
+ghost use Rattle.state_file.specs.States.{states_of};
+ghost use Rattle.state_scores.specs.Scores.{IsEvaluation, IsSmall};
+ghost use Rattle.state_scores.specs.Batches.{AreCosts, IsEvaluationOf, after_score, after_states, leads, standing};
 
+use crate::batch::Batch;
 use crate::judging::Judge;
 use crate::score_list::ScoreList;
 use crate::worth::{Score, is_better};
@@ -19,18 +22,6 @@ pub struct Evaluation {
     pub best: Score,
     /// The bits of the best state.
     pub state: Vec<bool>,
-}
-
-/// What a state is worth.
-fn judged<J: Judge>(judge: &mut J, line: u64, state: &[bool]) -> Score
-    requires { length state.now ≡ (J.judgement judge.old).width }
-    ensures score { result ≡ score_of (J.judgement judge.old) (line, state.now) }
-    ensures small { IsSmall result.cost }
-    ensures same { J.judgement judge.new ≡ J.judgement judge.old }
-{
-    let cost = judge.cost(state);
-    let energy = judge.energy(state);
-    Score { line, cost, energy }
 }
 
 /// Bits that mean nothing.
@@ -60,80 +51,83 @@ impl Evaluation {
         })
     }
 
-    /// Takes a state for the best where it is better.
+    /// Takes a state for the best where it is the first, or better.
     fn compare(&mut self, score: &Score, state: &[bool])
         requires { length self.old.state.items ≡ length state.now }
-        ensures best { self.new.best
-            ≡ (if is_better score.now self.old.best then score.now else self.old.best) }
-        ensures state { self.new.state.items
-            ≡ (if is_better score.now self.old.best then state.now else self.old.state.items) }
+        ensures best { let won = leads (standing self.old) score.now in
+            self.new.best ≡ (if won then score.now else self.old.best) }
+        ensures state { let won = leads (standing self.old) score.now in
+            self.new.state.items ≡ (if won then state.now else self.old.state.items) }
         ensures scores { self.new.scores ≡ self.old.scores }
     {
-        if is_better(score, &self.best) {
+        if self.scores.len() == 0 || is_better(score, &self.best) {
             self.best = *score;
             self.state.copy_from_slice(state);
         }
     }
 
-    /// Judges one state more.
-    fn take<J: Judge>(&mut self, judge: &mut J, line: u64, state: &[bool]) -> Result<(), NoMemory>
-        requires width { length state.now ≡ (J.judgement judge.old).width }
-        requires same_width { length self.old.state.items ≡ length state.now }
-        requires line { line < 2 ^ 32 }
-        ensures scores { let score = score_of (J.judgement judge.old) (line, state.now) in
-            OnOk result (self.new.scores ≡ self.old.scores ++ score ∷ []) }
-        ensures best { let score = score_of (J.judgement judge.old) (line, state.now) in
-            self.new.best ≡ (if is_better score self.old.best then score else self.old.best) }
-        ensures state { let score = score_of (J.judgement judge.old) (line, state.now) in
-            self.new.state.items
-            ≡ (if is_better score self.old.best then state.now else self.old.state.items) }
-        ensures same { J.judgement judge.new ≡ J.judgement judge.old }
+    /// Takes one state more.
+    fn take(&mut self, score: &Score, state: &[bool]) -> Result<(), NoMemory>
+        requires width { length self.old.state.items ≡ length state.now }
+        requires small { IsSmall score.now.cost }
+        requires line { score.now.line < 2 ^ 32 }
+        ensures taken { OnOk result
+            (standing self.new ≡ after_score (standing self.old) score.now state.now) }
+        ensures kept { length self.new.state.items ≡ length self.old.state.items }
     {
-        let score = judged(judge, line, state);
-        self.compare(&score, state);
-        self.scores.push(&score)
+        self.compare(score, state);
+        self.scores.push(score)
     }
 
-    /// Judges the first state.
-    fn begin<J: Judge>(&mut self, judge: &mut J, line: u64, state: &[bool]) -> Result<(), NoMemory>
-        requires width { length state.now ≡ (J.judgement judge.old).width }
-        requires same_width { length self.old.state.items ≡ length state.now }
-        requires line { line < 2 ^ 32 }
-        requires empty { self.old.scores ≡ [] }
-        ensures scores { OnOk result (self.new.scores ≡ self.new.best ∷ []) }
-        ensures best { self.new.best ≡ score_of (J.judgement judge.old) (line, state.now) }
-        ensures state { self.new.state.items ≡ state.now }
-        ensures same { J.judgement judge.new ≡ J.judgement judge.old }
+    /// Takes the states of a batch whose costs are known.
+    fn take_all<J: Judge>(&mut self, judge: &J, batch: &Batch) -> Result<(), NoMemory>
+        requires room { length self.old.state.items ≡ (J.judgement judge.now).width }
+        requires numbered { length batch.now.lines.items ≡ length batch.now.states }
+        requires count { length batch.now.costs.items ≡ length batch.now.states }
+        requires width { All (λ state. length state ≡ (J.judgement judge.now).width)
+            batch.now.states }
+        requires costs { AreCosts (J.judgement judge.now) batch.now.states batch.now.costs.items }
+        requires small { All IsSmall batch.now.costs.items }
+        requires lines { All (λ state. state.0 < 2 ^ 32)
+            (zip batch.now.lines.items batch.now.states) }
+        ensures taken { OnOk result (standing self.new
+            ≡ after_states (J.judgement judge.now) (standing self.old)
+            (zip batch.now.lines.items batch.now.states)) }
+        ensures kept { length self.new.state.items ≡ length self.old.state.items }
     {
-        self.best = judged(judge, line, state);
-        self.state.copy_from_slice(state);
-        self.scores.push(&self.best)
+        for place in 0..batch.lines.len() {
+            let score = batch.score(judge, place);
+            self.take(&score, batch.states.list(place))?;
+        }
+        Ok(())
     }
 
-    /// Judges each state that is left after the first one.
+    /// Judges each state that is left, a batch at a time.
     fn go_on<J: Judge>(
         &mut self,
         states: &mut States<'_>,
         judge: &mut J,
         bits: &mut [bool],
+        batch: &mut Batch,
     ) -> Result<(), NoMemory>
-        requires scores { self.old.scores ≡ self.old.best ∷ [] }
-        requires best { self.old.best
-            ≡ score_of (J.judgement judge.old) (self.old.best.line, self.old.state.items) }
+        requires empty { self.old.scores ≡ [] }
         requires width { states.old.width ≡ (J.judgement judge.old).width }
         requires room { length self.old.state.items ≡ states.old.width }
         requires space { length bits.old ≡ states.old.width }
         requires lines { All (λ state. state.0 < 2 ^ 32) states.old.states }
-        ensures filled { let first : StateLine = (self.old.best.line, self.old.state.items) in
-            OnOk result (IsEvaluation (J.judgement judge.old) (first ∷ states.old.states)
-            self.new.scores self.new.best self.new.state.items) }
+        ensures filled { OnOk result
+            (IsEvaluationOf (J.judgement judge.old) states.old.states (standing self.new)) }
         ensures kept { length self.new.state.items ≡ length self.old.state.items }
         ensures same { J.judgement judge.new ≡ J.judgement judge.old }
     {
-        while let Some(line) = states.next_into(bits) {
-            self.take(judge, line, bits)?;
+        loop {
+            batch.read(states, bits)?;
+            if batch.lines.len() == 0 {
+                return Ok(());
+            }
+            batch.judge(judge);
+            self.take_all(judge, batch)?;
         }
-        Ok(())
     }
 
     /// Judges each state that is left.
@@ -142,6 +136,7 @@ impl Evaluation {
         states: &mut States<'_>,
         judge: &mut J,
         bits: &mut [bool],
+        batch: &mut Batch,
     ) -> Result<(), StateAnswer>
         requires empty { self.old.scores ≡ [] }
         requires width { states.old.width ≡ (J.judgement judge.old).width }
@@ -154,21 +149,21 @@ impl Evaluation {
         ensures no_state { IsErrOf result StateAnswer.NoState → states.old.states ≡ [] }
         ensures same { J.judgement judge.new ≡ J.judgement judge.old }
     {
-        let Some(line) = states.next_into(bits) else {
+        self.go_on(states, judge, bits, batch)?;
+        if self.scores.len() == 0 {
             return Err(StateAnswer::NoState);
-        };
-        self.begin(judge, line, bits)?;
-        self.go_on(states, judge, bits)?;
+        }
         Ok(())
     }
 }
 
-/// The evaluation of a text, with a buffer for the bits of a state.
+/// The evaluation of a text, with buffers for the bits of a state and for a batch of states.
 fn evaluated<J: Judge>(
     alloc: Global,
     text: &[u8],
     judge: &mut J,
     bits: &mut [bool],
+    batch: &mut Batch,
 ) -> Result<Evaluation, StateAnswer>
     requires width { length bits.old ≡ (J.judgement judge.old).width }
     requires short { length text.now + 1 < 2 ^ 32 }
@@ -182,14 +177,15 @@ fn evaluated<J: Judge>(
     let width = bits.len();
     let mut states = States::new(text, width);
     let mut evaluation = Evaluation::blank(alloc, count_states(text, width), width)?;
-    match evaluation.fill(&mut states, judge, bits) {
+    match evaluation.fill(&mut states, judge, bits, batch) {
         Ok(()) => Ok(evaluation),
         Err(answer) => Err(answer),
     }
 }
 
 /// The score of each line that is a state of `width` bits, and the best state, or `NoState` where no
-/// line is one. It takes 32 bytes for each state, and two bytes for each bit of one.
+/// line is one. It takes 32 bytes for each state, two for each bit of one, and one for each bit of the
+/// states that are judged together.
 pub fn evaluate<J: Judge>(
     alloc: Global,
     text: &[u8],
@@ -205,5 +201,6 @@ pub fn evaluate<J: Judge>(
     ensures same { J.judgement judge.new ≡ J.judgement judge.old }
 {
     let mut bits = blank_bits(alloc, width)?;
-    evaluated(alloc, text, judge, &mut bits)
+    let mut batch = Batch::empty(alloc);
+    evaluated(alloc, text, judge, &mut bits, &mut batch)
 }

@@ -1,19 +1,22 @@
 //! Who says what a state is worth.
-ghost use Rattle.std.specs.Prelude.{◌≡◌, length};
+ghost use Rattle.std.specs.Prelude.{◌≡◌, ◌≤◌, All, length};
 ghost use Rattle.state_scores.specs.Scores.{Judgement, IsSmall};
+ghost use Rattle.state_scores.specs.Batches.{AreCosts};
 
-use base::Cost;
+use base::{Cost, Lists};
 
 /// Who says what a state is worth. It has what it needs for that, so no call takes memory.
 pub trait Judge {
     /// How many bits a state has, the cost of what each state decodes to, and its energy.
     ghost judgement: { Self → Judgement };
 
-    /// The cost of what a state decodes to. Its size is below 2^64.
-    fn cost(&mut self, state: &[bool]) -> Cost
-        requires { length state.now ≡ (judgement self.old).width }
-        ensures cost { result ≡ (judgement self.old).cost state.now }
-        ensures small { IsSmall result }
+    /// The costs of what states decode to, which are at most 64. The size of each is below 2^64.
+    fn costs(&mut self, states: &Lists<bool>, costs: &mut [Cost])
+        requires few { length states.now ≤ 64 }
+        requires room { length costs.old ≡ length states.now }
+        requires width { All (λ state. length state ≡ (judgement self.old).width) states.now }
+        ensures costs { AreCosts (judgement self.old) states.now costs.new }
+        ensures small { All IsSmall costs.new }
         ensures same { judgement self.new ≡ judgement self.old };
 
     /// The energy of a state.

@@ -5,6 +5,8 @@
 //! an infinite one being above every whole one, or where its cost is the same and its energy lower. Of
 //! equal ones the first is the best.
 //!
+//! States are judged up to 64 at a time, so that their costs can be worked out together.
+//!
 //! The text of an evaluation has, in this order,
 //!
 //! - for each state a row of `sample`, the number of its line, `cost` and the cost, or the word
@@ -16,6 +18,7 @@
 //! It is never held: its rows are put to a sink one by one.
 #![tactic(auto)]
 
+mod batch;
 mod evaluating;
 mod judging;
 mod rows;

@@ -1,6 +1,4 @@
-use Rattle.std.proofs.Common.{◌≡◌, rules}
-use Rattle.std.specs.Fmt.{decimal}
-use Rattle.model_text.proofs.Puts.{same_front, same_passed}
+use Rattle.state_scores.proofs.Common.{◌≡◌, rules, decimal, same_front, same_passed}
 use Rattle.state_scores.proofs.ScoreRows.{best_text}
 use Rattle.state_scores.proofs.rows.put_best.Goals as goal
 

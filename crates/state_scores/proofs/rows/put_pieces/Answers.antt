@@ -1,7 +1,4 @@
-use Rattle.std.proofs.Common.{◌+◌, rules, arith, [], Bor, List, ℕ, ap, drop, get_or}
-use Rattle.std.proofs.lemmas.List.{drop_more}
-use Rattle.edge_io.specs.Sinks.{joined_bytes}
-use Rattle.model_text.proofs.Puts.{put_more, put_fault, at_error}
+use Rattle.state_scores.proofs.Common.{◌+◌, rules, arith, [], Bor, List, ℕ, ap, drop, get_or, drop_more, joined_bytes, put_more, put_fault, at_error}
 use Rattle.state_scores.proofs.rows.put_pieces.Goals as goal
 
 -- an empty piece, for an index that is out of range; none is

@@ -1,6 +1,4 @@
-use Rattle.std.proofs.Common.{◌≤◌, drop}
-use Rattle.edge_io.specs.Sinks.{joined_bytes}
-use Rattle.model_text.proofs.Puts.{IsPut}
+use Rattle.state_scores.proofs.Common.{◌≤◌, drop, joined_bytes, IsPut}
 use Rattle.state_scores.proofs.rows.put_pieces.Given as goal
 
 -- the pieces before this one were put

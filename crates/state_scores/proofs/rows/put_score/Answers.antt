@@ -1,6 +1,4 @@
-use Rattle.std.proofs.Common.{◌≡◌, rules}
-use Rattle.std.specs.Fmt.{decimal, signed_decimal}
-use Rattle.model_text.proofs.Puts.{same_front, same_passed}
+use Rattle.state_scores.proofs.Common.{◌≡◌, rules, decimal, signed_decimal, same_front, same_passed}
 use Rattle.state_scores.proofs.ScoreRows.{score_text}
 use Rattle.state_scores.proofs.rows.put_score.Goals as goal
 

@@ -1,5 +1,4 @@
-use Rattle.std.proofs.Common.{rules, arith}
-use Rattle.model_text.proofs.Puts.{put_more, put_fault, at_error}
+use Rattle.state_scores.proofs.Common.{rules, arith, put_more, put_fault, at_error}
 use Rattle.state_scores.proofs.ScoreRows.{scores_left}
 use Rattle.state_scores.proofs.rows.put_scores.Goals as goal
 

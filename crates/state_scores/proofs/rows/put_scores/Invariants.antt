@@ -1,7 +1,4 @@
-use Rattle.std.proofs.Common.{◌≤◌, drop, map}
-use Rattle.model_text.specs.Rows.{rows_text}
-use Rattle.model_text.proofs.Puts.{IsPut}
-use Rattle.state_scores.specs.Texts.{score_row}
+use Rattle.state_scores.proofs.Common.{◌≤◌, drop, map, rows_text, IsPut, score_row}
 use Rattle.state_scores.proofs.rows.put_scores.Given as goal
 
 -- the rows of the scores before this one were put

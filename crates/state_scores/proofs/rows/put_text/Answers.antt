@@ -1,5 +1,4 @@
-use Rattle.std.proofs.Common.{[], refl, sym, append-nil}
-use Rattle.model_text.proofs.Puts.{put_none, put_more, put_fault, put_all, at_error, then_ok, then_error}
+use Rattle.state_scores.proofs.Common.{[], refl, sym, append-nil, put_none, put_more, put_fault, put_all, at_error, then_ok, then_error}
 use Rattle.state_scores.proofs.ScoreRows.{text_parts}
 use Rattle.state_scores.proofs.rows.put_text.Goals as goal
 

@@ -1,57 +1,72 @@
-use Rattle.std.proofs.Common.{◌≡◌, [], ◌∷◌, ◌++◌, List, refl, sym, ap, ◌∙◌, subst, append_assoc, append-nil, rules}
-use Rattle.state_file.specs.States.{StateLine}
-use Rattle.state_scores.specs.Scores.{IsEvaluation}
-use Rattle.state_scores.proofs.Best.{first_number, judged_all, judged_first, judged_more, later_numbers}
+use Rattle.state_scores.proofs.Common.{◌≡◌, ◌^◌, ◌<◌, [], ◌++◌, List, All, refl, sym, ap, ◌∙◌, subst, append_assoc, append-nil, rules, StateLine, Judgement, zip, IsEvaluationOf, Standing, after_states, standing}
+use Rattle.state_scores.proofs.Best.{IsStanding, standing_after, standing_of_all}
+use Rattle.state_scores.proofs.TakenStates.{fewer_left, low_left, low_taken, none_left}
 use Rattle.state_scores.proofs.evaluating.Evaluation.go_on.Goals as goal
 
-pub loop-line-init : goal.loop-line-init
-loop-line-init g c =
-    let first : StateLine = (c.args.self.now.best.line, c.args.self.now.state.items) in (
-      first ∷ [],
-      record {
-        split = refl;
-        judged = judged_first (g.J.Judge.judgement c.args.judge.now) c.args.self.now.scores c.args.self.now.best
-            c.args.self.now.state.items c.requires.scores c.requires.best;
-        same = refl;
-        width = c.requires.width;
-        room = c.requires.room;
-        space = c.requires.space;
-        lines = c.requires.lines;
-      },
-    )
+pub loop-batch-init : goal.loop-batch-init
+loop-batch-init g c = (
+  [],
+  record {
+    split = refl;
+    judged = c.requires.empty;
+    same = refl;
+    width = c.requires.width;
+    room = c.requires.room;
+    kept = refl;
+    space = c.requires.space;
+    lines = c.requires.lines;
+  },
+)
 
-pub take-requires-clause-line : goal.take-requires-clause-line
-take-requires-clause-line g c =
-    first_number c.loop-line.states.states c.next_into.new.self.states (c.in-Some.line, c.next_into.new.bits)
-    c.in-Some.ensures.next c.loop-line.invariant.1.lines
+pub returns-then-len-eq0-clause-filled : goal.returns-then-len-eq0-clause-filled
+returns-then-len-eq0-clause-filled g c =
+    let done = c.loop-batch.invariant.0 in
+    let so_far = c.loop-batch.invariant.1 in
+    let taken = c.in_ok-read.ensures.taken in
+    let j = g.J.Judge.judgement c.args.judge.now in
+    let ended = none_left c.loop-batch.states.states c.read.new.states.states c.read.new.self.lines.items
+    c.read.new.self.states taken.front taken.numbered (search rules) taken.all in
+    let all = sym (so_far.split ∙ ap (λ (l : List StateLine). done ++ l) ended ∙ append-nil done) in
+    subst (λ (states : List StateLine). IsEvaluationOf j states (standing c.loop-batch.self)) all
+    (standing_of_all j done (standing c.loop-batch.self) so_far.judged)
 
-pub loop-line-preserved : goal.loop-line-preserved
-loop-line-preserved g c =
-    let done = c.loop-line.invariant.0 in
-    let so_far = c.loop-line.invariant.1 in
-    let state : StateLine = (c.in-Some.line, c.next_into.new.bits) in
-    let rest = c.next_into.new.self.states in
-    let next : c.loop-line.states.states ≡ state ∷ rest = c.in-Some.ensures.next in (
-      done ++ state ∷ [],
+pub take_all-requires-clause-lines : goal.take_all-requires-clause-lines
+take_all-requires-clause-lines g c =
+    let taken = c.in_ok-read.ensures.taken in
+    subst (λ (l : List StateLine). All (λ s. s.0 < 2 ^ 32) l)
+    (λ k. zip (sym c.judge.ensures.lines k) (sym c.judge.ensures.states k))
+    (low_taken c.loop-batch.states.states (zip c.read.new.self.lines.items c.read.new.self.states)
+    c.read.new.states.states taken.front c.loop-batch.invariant.1.lines)
+
+pub loop-batch-smaller : goal.loop-batch-smaller
+loop-batch-smaller g c =
+    let taken = c.in_ok-read.ensures.taken in
+    fewer_left c.loop-batch.states.states c.read.new.states.states c.read.new.self.lines.items
+    c.read.new.self.states taken.front taken.numbered (search rules)
+
+pub loop-batch-preserved : goal.loop-batch-preserved
+loop-batch-preserved g c =
+    let done = c.loop-batch.invariant.0 in
+    let so_far = c.loop-batch.invariant.1 in
+    let taken = c.in_ok-read.ensures.taken in
+    let states = zip c.read.new.self.lines.items c.read.new.self.states in
+    let rest = c.read.new.states.states in
+    let j = g.J.Judge.judgement c.args.judge.now in
+    let known : standing c.take_all.new.self ≡ after_states j (standing c.loop-batch.self) states =
+    c.in_ok-take_all.ensures.taken
+    ∙ ap (λ (now : Judgement). after_states now (standing c.loop-batch.self)
+    (zip c.judge.new.self.lines.items c.judge.new.self.states)) (c.judge.ensures.same ∙ so_far.same)
+    ∙ (λ k. after_states j (standing c.loop-batch.self) (zip (c.judge.ensures.lines k) (c.judge.ensures.states k))) in (
+      done ++ states,
       record {
-        split = so_far.split ∙ ap (λ (l : List StateLine). done ++ l) next ∙ sym (append_assoc done (state ∷ []) rest);
-        judged = judged_more (g.J.Judge.judgement c.args.judge.now) (g.J.Judge.judgement c.loop-line.judge) done
-            c.loop-line.self.scores c.take.new.self.scores c.loop-line.self.best c.take.new.self.best
-            c.loop-line.self.state.items c.take.new.self.state.items state so_far.same so_far.judged
-            c.in_ok-take.ensures.scores c.take.ensures.best c.take.ensures.state;
-        same = c.take.ensures.same ∙ so_far.same;
+        split = so_far.split ∙ ap (λ (l : List StateLine). done ++ l) taken.front ∙ sym (append_assoc done states rest);
+        judged = subst (λ (s : Standing). IsStanding j (done ++ states) s) (sym known)
+            (standing_after j done states (standing c.loop-batch.self) so_far.judged);
+        same = c.judge.ensures.same ∙ so_far.same;
         width = search rules;
         room = search rules;
+        kept = c.take_all.ensures.kept ∙ so_far.kept;
         space = search rules;
-        lines = later_numbers c.loop-line.states.states rest state next so_far.lines;
+        lines = low_left c.loop-batch.states.states states rest taken.front so_far.lines;
       },
     )
-
-pub returns-clause-filled : goal.returns-clause-filled
-returns-clause-filled g c =
-    let done = c.loop-line.invariant.0 in
-    let so_far = c.loop-line.invariant.1 in
-    let j = g.J.Judge.judgement c.args.judge.now in
-    let all = sym (so_far.split ∙ ap (λ (l : List StateLine). done ++ l) c.in_default.ensures.next.0 ∙ append-nil done) in
-    subst (λ (states : List StateLine). IsEvaluation j states c.loop-line.self.scores c.loop-line.self.best c.loop-line.self.state.items)
-    all (judged_all j done c.loop-line.self.scores c.loop-line.self.best c.loop-line.self.state.items so_far.judged)

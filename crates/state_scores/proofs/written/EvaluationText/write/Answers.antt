@@ -1,7 +1,4 @@
-use Rattle.std.proofs.Common.{List, ℕ, ap, ◌∙◌, subst}
-use Rattle.edge_io.specs.Sinks.{TakesFront}
-use Rattle.model_text.proofs.Puts.{then_error, flushed_front}
-use Rattle.state_scores.specs.Texts.{scores_text}
+use Rattle.state_scores.proofs.Common.{List, ℕ, ap, ◌∙◌, subst, TakesFront, then_error, flushed_front, scores_text}
 use Rattle.state_scores.proofs.written.EvaluationText.write.Goals as goal
 
 pub returns-clause-front : goal.returns-clause-front

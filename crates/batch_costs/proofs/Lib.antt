@@ -1,0 +1,3 @@
+mod Common
+mod MarkedWords
+mod PlainCosts

@@ -1,0 +1,13 @@
+//! What some assignments of one problem cost, worked out together.
+//!
+//! Assignments go in one by one, and all their costs come out at once. A variable has a word of 64
+//! bits, one for each assignment, so that a product is taken apart once for all of them: the words of
+//! its literals, joined by `&`, mark the assignments that it is true under, and its coefficient is
+//! added for these alone. Only a problem without clauses and constraints is added up so.
+#![tactic(auto)]
+
+mod assignments;
+mod marks;
+mod sums;
+
+pub use assignments::{Assignments, is_plain};

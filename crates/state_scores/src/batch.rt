@@ -1,0 +1,113 @@
+//! States that are judged together.
+ghost use Rattle.std.specs.Prelude.{◌≡◌, ◌≤◌, ◌<◌, ◌+◌, ◌++◌, ◌∷◌, [], All, OnOk, length};
+ghost use Rattle.std.specs.List.{slice_index_or};
+ghost use Rattle.state_scores.specs.Scores.{IsSmall, score_of};
+ghost use Rattle.state_scores.specs.Batches.{AreCosts, AreTaken};
+
+use crate::judging::Judge;
+use crate::worth::Score;
+use base::{Cost, Lists, NoMemory};
+use state_file::States;
+use std::alloc::Global;
+
+/// How many states are judged together at most.
+const TOGETHER: usize = 64;
+
+/// States that are judged together: the number of the line and the bits of each, and its cost.
+#[derive(Drop)]
+pub(crate) struct Batch {
+    pub(crate) lines: Vec<u64>,
+    pub(crate) states: Lists<bool>,
+    pub(crate) costs: Vec<Cost>,
+}
+
+impl Batch {
+    /// No states. It takes memory as they come, and keeps it for others.
+    pub(crate) fn empty(alloc: Global) -> Batch {
+        Batch {
+            lines: Vec::new(alloc),
+            states: Lists::empty(alloc),
+            costs: Vec::new(alloc),
+        }
+    }
+
+    /// Takes all states out.
+    fn clear(&mut self)
+        ensures lines { self.new.lines.items ≡ [] }
+        ensures states { self.new.states ≡ [] }
+        ensures costs { self.new.costs.items ≡ [] }
+    {
+        self.lines.clear();
+        self.states.clear();
+        self.costs.clear();
+    }
+
+    /// Takes a state in.
+    fn push(&mut self, line: u64, bits: &[bool]) -> Result<(), NoMemory>
+        ensures lines { OnOk result (self.new.lines.items ≡ self.old.lines.items ++ line ∷ []) }
+        ensures states { OnOk result (self.new.states ≡ self.old.states ++ bits.now ∷ []) }
+        ensures costs { OnOk result
+            (length self.new.costs.items ≡ length self.old.costs.items + 1) }
+    {
+        self.lines.push(line)?;
+        self.costs.push(Cost::Infinite)?;
+        self.states.push(bits)
+    }
+
+    /// Takes the next states in, in place of those before.
+    pub(crate) fn read(
+        &mut self,
+        states: &mut States<'_>,
+        bits: &mut [bool],
+    ) -> Result<(), NoMemory>
+        requires { length bits.old ≡ states.old.width }
+        ensures taken { OnOk result (AreTaken states.old.width states.old.states states.new.states
+            self.new.lines.items self.new.states self.new.costs.items) }
+        ensures width { states.new.width ≡ states.old.width }
+    {
+        self.clear();
+        while self.lines.len() < TOGETHER {
+            let Some(line) = states.next_into(bits) else {
+                return Ok(());
+            };
+            self.push(line, bits)?;
+        }
+        Ok(())
+    }
+
+    /// Says what each state costs.
+    pub(crate) fn judge<J: Judge>(&mut self, judge: &mut J)
+        requires few { length self.old.states ≤ 64 }
+        requires room { length self.old.costs.items ≡ length self.old.states }
+        requires width { All (λ state. length state ≡ (J.judgement judge.old).width)
+            self.old.states }
+        ensures costs { AreCosts (J.judgement judge.old) self.old.states self.new.costs.items }
+        ensures small { All IsSmall self.new.costs.items }
+        ensures room { length self.new.costs.items ≡ length self.old.costs.items }
+        ensures lines { self.new.lines.items ≡ self.old.lines.items }
+        ensures states { self.new.states ≡ self.old.states }
+        ensures same { J.judgement judge.new ≡ J.judgement judge.old }
+    {
+        judge.costs(&self.states, &mut self.costs);
+    }
+
+    /// The score of the state at a place.
+    pub(crate) fn score<J: Judge>(&self, judge: &J, place: usize) -> Score
+        requires within { place < length self.now.states }
+        requires numbered { length self.now.lines.items ≡ length self.now.states }
+        requires room { length self.now.costs.items ≡ length self.now.states }
+        requires width { All (λ state. length state ≡ (J.judgement judge.now).width)
+            self.now.states }
+        requires costs { AreCosts (J.judgement judge.now) self.now.states self.now.costs.items }
+        requires small { All IsSmall self.now.costs.items }
+        ensures score { result ≡ score_of (J.judgement judge.now)
+            (slice_index_or self.now.lines.items place 0, slice_index_or self.now.states place []) }
+        ensures small { IsSmall result.cost }
+    {
+        Score {
+            line: self.lines[place],
+            cost: self.costs[place],
+            energy: judge.energy(self.states.list(place)),
+        }
+    }
+}
