@@ -1,20 +1,8 @@
 -- The nodes of a quadratic form are at most the variables and the auxiliary bits: a new node for
 -- terms of degree 3 or more takes the place of a literal past the second of a term.
-use Rattle.std.proofs.Common.{◌≡◌, ℕ, zero, suc, ◌+◌, ◌-◌, ◌≤◌, Bool, true, false, cond, leb, List, [], ◌∷◌, length, Option, Some, None, pos, int_lt, refl, arith}
-use Rattle.std.specs.List.{sum_by}
-use Rattle.std.proofs.lemmas.Bool.Decides.{nat_tests}
-use Rattle.std.proofs.lemmas.List.Sums.{sum_by-cons}
-use Rattle.problem_form.specs.declared.limits.High.{High}
+use Rattle.model_pipeline.proofs.Common.{◌≡◌, ℕ, zero, suc, ◌+◌, ◌-◌, ◌≤◌, Bool, true, false, cond, leb, List, [], ◌∷◌, length, Option, Some, None, pos, int_lt, refl, arith, sum_by, nat_tests, sum_by-cons, High, Term, TableContent, sets_sum-cons, nodes_for, new_nodes, Pair, next_pair, with_next, substituted, run, excess, length-image, low_terms_of, NodesAreFew}
 use Rattle.problem_form.specs.declared.limits.High.TheVariants.{Monomial, Rosenberg}
-use Rattle.term_table.specs.Terms.{Term}
-use Rattle.term_table.specs.Tables.{TableContent}
-use Rattle.term_table.proofs.Additions.{sets_sum-cons}
-use Rattle.monomial_layer.specs.Monomials.{nodes_for, new_nodes}
-use Rattle.rosenberg_layer.specs.Rosenberg.{Pair, next_pair, with_next, substituted, run, excess}
-use Rattle.quad_form.specs.laws.Flattened.{length-image}
-use Rattle.model_pipeline.specs.Models.{low_terms_of, terms_of}
-use Rattle.model_pipeline.specs.Sizes.{NodesAreFew}
-use Rattle.model_pipeline.proofs.LongSets.{past, excess_within}
+use Rattle.model_pipeline.proofs.LongSets.{excess_within}
 use Rattle.model_pipeline.proofs.Standing.{terms_width}
 
 -- ---- each term replaced by itself
@@ -32,13 +20,7 @@ new_nodes-past t =
 new_nodes-excess : (ts : List Term) → sum_by new_nodes ts ≤ excess ts
 new_nodes-excess [] = omega arith
 new_nodes-excess (t ∷ ts) =
-    omega (
-      arith,
-      new_nodes-past t,
-      new_nodes-excess ts,
-      sum_by-cons new_nodes t ts,
-      sets_sum-cons past t ts,
-    )
+    omega (arith, new_nodes-past, new_nodes-excess ts, sum_by-cons, sets_sum-cons)
 
 -- ---- pairs replaced one after another
 
@@ -61,11 +43,4 @@ low-width Rosenberg t = run-width (excess t.terms) t
 
 pub nodes_are_few : NodesAreFew
 nodes_are_few choices p =
-    let terms = terms_of choices.normal p in
-    omega (
-      arith,
-      length-image (low_terms_of choices.high terms),
-      low-width choices.high terms,
-      terms_width choices.normal p,
-      excess_within choices.normal p,
-    )
+    grind (arith, nat_tests, length-image, low-width, terms_width, excess_within)

@@ -1,45 +1,18 @@
 -- The models of a form that stands for a problem, as it is and in its greatest unit.
-use Rattle.std.proofs.Common.{◌≡◌, ◌≤◌, ◌<◌, ◌⊎◌, inl, inr, ℕ, zero, suc, ◌+◌, ◌*◌, ◌^◌, ℤ, pos, ◌+ℤ◌, ◌*ℤ◌, ◌≤ℤ◌, Bool, true, false, List, [], ◌++◌, length, if◌then◌else◌, refl, ap, arith}
-use Rattle.std.specs.Prelude.{unsigned_abs, neg_ℤ}
-use Rattle.std.specs.List.{list_all, sum_by}
-use Rattle.std.proofs.Math.Nat.{mul-le-mul_right}
-use Rattle.std.proofs.lemmas.Int.{ints}
-use Rattle.std.proofs.lemmas.List.{length-map}
-use Rattle.std.proofs.lemmas.List.Elements.{All-nil}
-use Rattle.std.proofs.lemmas.List.Sums.{sum_by-append}
-use Rattle.base.specs.declared.costs.Figures.{Figures}
-use Rattle.bits_model.specs.declared.output.Entry.{Entry}
+use Rattle.model_pipeline.proofs.Common.{◌≡◌, ◌≤◌, ◌<◌, ◌⊎◌, inl, inr, ℕ, ◌+◌, ◌^◌, ℤ, pos, ◌+ℤ◌, ◌*ℤ◌, [], length, refl, ap, arith, unsigned_abs, neg_ℤ, ints, length-map, All-nil, Figures, UnitChoice, Form, Decoding, Reduces, figures_moved, AreBounded, HasUnit, reduces_after_relaxes, FitsFigures, ProblemContent, form_of, upper, QuadContent, IsQuad, quad_total, counted_in, quad_unit, IsingContent, IsIsing, ising_total, ising_unit, IsModelOf, qubo_model, chained_model, Stands}
 use Rattle.bits_model.specs.declared.output.Kind.TheVariants as kinds
-use Rattle.base.specs.declared.unit.UnitChoice.{UnitChoice}
 use Rattle.base.specs.declared.unit.UnitChoice.TheVariants.{One, Reduce}
-use Rattle.base.specs.Costs.{Form}
-use Rattle.form_steps.specs.Relations.{Decoding, Reduces}
-use Rattle.base.specs.Figures.{figures_moved}
-use Rattle.faithful.specs.Bounds.{AreBounded}
-use Rattle.faithful.specs.Faithful.{HasUnit}
-use Rattle.bits_model.specs.Output.{weight_total}
-use Rattle.form_steps.specs.laws.Composed.{reduces_after_relaxes}
-use Rattle.model_text.specs.Rows.{FitsFigures}
-use Rattle.problem_form.specs.Problems.{ProblemContent, form_of}
-use Rattle.problem_form.specs.Limits.{upper}
 use Rattle.command_words.specs.declared.commands.NodeModel.TheVariants.{Qubo, Ising}
-use Rattle.quad_form.specs.Quads.{QuadContent, IsQuad, node_entries, quad_total}
 use Rattle.quad_form.specs.Quads as quads
-use Rattle.quad_form.specs.Units.{is_multiple, greatest_within, weights_of, counted_in, quad_unit}
 use Rattle.quad_form.specs.Units as units
-use Rattle.quad_form.proofs.UnitEntries.{sizes_of_weights}
 use Rattle.quad_form.proofs.ReducedForms as reduced_quads
 use Rattle.quad_form.proofs.WrittenModels as written_quads
-use Rattle.ising_form.specs.Isings.{IsingContent, IsIsing, ising_total}
 use Rattle.ising_form.specs.Isings as isings
 use Rattle.ising_form.specs.Outputs as outputs
-use Rattle.ising_form.specs.Reduction.{ising_unit}
 use Rattle.ising_form.specs.Reduction as reduction
 use Rattle.ising_form.proofs.ReducedForms as reduced_isings
 use Rattle.ising_form.proofs.WrittenModels as written_isings
-use Rattle.model_pipeline.specs.Models.{IsModelOf, qubo_model}
-use Rattle.model_pipeline.specs.QubitModels.{chained_model}
-use Rattle.model_pipeline.specs.Formed.{Stands}
+use Rattle.model_pipeline.proofs.SmallNumbers.{minus_low, once_low, sum_low, unit_low}
 
 -- ---- what stands for a problem
 
@@ -50,13 +23,6 @@ pub record HasFigures (a : ℤ) (p : ProblemContent) (n : Figures) (most : ℕ) 
   pub offset_low : unsigned_abs n.offset ≤ most
   pub threshold_low : unsigned_abs n.threshold ≤ most
 
-moved_low : (a b : ℤ) (most more : ℕ) → unsigned_abs a ≤ most → unsigned_abs b ≤ more
-    → unsigned_abs (a +ℤ b) ≤ most + more
-moved_low a b most more h k = omega (arith, ints)
-
-minus_low : (c : ℤ) (most : ℕ) → unsigned_abs c ≤ most → unsigned_abs (neg_ℤ c) ≤ most
-minus_low c most h = omega (arith, ints)
-
 -- the figures where every energy is moved
 figures_are_moved : (scale : ℤ) (p : ProblemContent) (n : Figures) (most more : ℕ) (b : ℤ)
     → HasFigures scale p n most → unsigned_abs b ≤ more
@@ -64,8 +30,8 @@ figures_are_moved : (scale : ℤ) (p : ProblemContent) (n : Figures) (most more 
 figures_are_moved scale p n most more b has small = record {
   scale = has.scale;
   threshold = omega (arith, ints, has.threshold);
-  offset_low = moved_low n.offset b most more has.offset_low small;
-  threshold_low = moved_low n.threshold b most more has.threshold_low small;
+  offset_low = sum_low n.offset b most more has.offset_low small;
+  threshold_low = sum_low n.threshold b most more has.threshold_low small;
 }
 
 -- no figure is greater than a greater number
@@ -103,30 +69,6 @@ figures_bounded scale p n most low has small = record {
   offset = omega (arith, has.offset_low);
   threshold = omega (arith, has.threshold_low);
 }
-
--- a number is no greater than some times itself
-once_low : (u : ℤ) (a b : ℕ) → pos 1 ≤ℤ u → unsigned_abs u * a ≤ b → a ≤ b
-once_low u a b one h =
-    let low : 1 ≤ unsigned_abs u = omega (arith, ints, one) in
-    omega (arith, mul-le-mul_right a low, h)
-
--- ---- the greatest unit is no greater than the weights
-
-greatest_low : (n : ℕ) (ws : List ℤ) → greatest_within n ws ≤ n + 1
-greatest_low zero ws = omega arith
-greatest_low (suc n) ws = go (list_all (is_multiple (suc n)) ws) (greatest_low n ws)
-  where
-    go : (b : Bool) → greatest_within n ws ≤ n + 1
-        → (if b then suc n else greatest_within n ws) ≤ suc n + 1
-    go true h = omega arith
-    go false h = omega (arith, h)
-
-unit_low : (ws : List ℤ) (cs : List Entry) (most : ℕ) → weight_total (node_entries 0 ws ++ cs) ≤ most
-    → unsigned_abs (units.unit_of (weights_of ws cs)) ≤ most + 1
-unit_low ws cs most h =
-    let sizes = sizes_of_weights ws cs in
-    let whole = sum_by-append (λ (e : Entry). unsigned_abs e.weight) (node_entries 0 ws) cs in
-    omega (arith, greatest_low (sum_by unsigned_abs (weights_of ws cs)) (weights_of ws cs), sizes, whole)
 
 module _ (p : ProblemContent) (own : ℕ) (d : Decoding) where
   -- ---- the model of a quadratic form

@@ -1,39 +1,15 @@
 -- The model of a problem on the qubits of a graph: what it promises of the problem.
-use Rattle.std.proofs.Common.{◌≡◌, ◌≤◌, inr, ℕ, ℤ, ◌*ℤ◌, List, length, refl, ap, sym, subst, ◌∙◌, arith}
-use Rattle.std.specs.Prelude.{IfOk, Result, Ok, Err}
-use Rattle.std.proofs.lemmas.Int.{ints}
-use Rattle.base.specs.declared.costs.Figures.{Figures}
-use Rattle.base.specs.declared.unit.UnitChoice.{UnitChoice}
-use Rattle.bits_model.specs.Output.{Written}
-use Rattle.faithful.specs.Faithful.{scale_of}
-use Rattle.problem_form.specs.declared.limits.Choices.{Choices}
-use Rattle.problem_form.specs.Problems.{ProblemContent, form_of}
-use Rattle.problem_form.specs.Limits.{upper}
-use Rattle.penalty_layer.specs.Penalty.{figures}
-use Rattle.quad_form.specs.Quads.{QuadContent, IsQuad}
-use Rattle.ising_form.specs.Isings.{IsingContent, IsIsing}
-use Rattle.ising_form.specs.Spins.{coupled}
+use Rattle.model_pipeline.proofs.Common.{nat_tests, ◌≡◌, ◌≤◌, inr, ℕ, ℤ, ◌*ℤ◌, List, length, refl, ap, sym, subst, ◌∙◌, arith, IfOk, Result, Ok, Err, ints, Figures, UnitChoice, Written, scale_of, Choices, ProblemContent, form_of, upper, figures, QuadContent, IsQuad, IsingContent, IsIsing, coupled, length-fields, image_is_ising, total-image, Chimera, ChainStrength, Fabric, Site, chains_of, fabric_in, graph_in, CanStandBy, AreSmall, IsQubitModelOf, ising_figures, IsQuadratized, IsIsingOf, ising_of, site_chains, IsGraphModelOf, IsFormAt, IsOnQubits, IsMadeOf}
 use Rattle.ising_form.specs.Spins as spins
-use Rattle.ising_form.specs.laws.Spun.{length-fields}
-use Rattle.ising_form.proofs.Images.{image_is_ising, total-image, size-image}
-use Rattle.chimera_graph.specs.declared.chimera.Chimera.{Chimera}
-use Rattle.command_words.specs.declared.commands.Ties.{Ties}
-use Rattle.working_graph.specs.Fabrics.{Fabric}
-use Rattle.model_pipeline.specs.declared.site.Site.{Site}
-use Rattle.model_pipeline.specs.Sites.{chains_of, fabric_in, graph_in, CanStandBy}
-use Rattle.model_pipeline.specs.QubitStanding.{AreSmall, IsQubitModelOf}
-use Rattle.model_pipeline.specs.Models.{ising_figures}
-use Rattle.model_pipeline.specs.Formed.{IsFormed, IsSpun}
-use Rattle.model_pipeline.specs.GraphModels.{ising_of, site_chains, IsGraphModelOf, IsFormAt, IsOnQubits}
-use Rattle.model_pipeline.specs.Extensions.{IsMadeOf}
+use Rattle.ising_form.proofs.Images.{size-image}
 use Rattle.model_pipeline.proofs.Sites.{site_valid}
 use Rattle.model_pipeline.proofs.Standing.{ising_figures_are_stated, spins_stand}
 
 -- ---- the Ising form
 
 -- of a form that stands for a problem, with the problem's figures
-spun_stands : (p : ProblemContent) (q : QuadContent) → IsQuad q → IsFormed p q (figures p)
-    → IsSpun p (spins.image q) (ising_figures (figures p))
+spun_stands : (p : ProblemContent) (q : QuadContent) → IsQuad q → IsQuadratized p q (figures p)
+    → IsIsingOf p (spins.image q) (ising_figures (figures p))
 spun_stands p q kept made =
     let stated = ising_figures_are_stated p made.threshold in
     let width = length-fields (coupled q.couplers) 0 q.diagonal in record {
@@ -50,26 +26,22 @@ spun_stands p q kept made =
 
 -- the same where the form and the figures are equal to these
 pub spun_as : (p : ProblemContent) (q : QuadContent) (n : Figures) (f : IsingContent) (m : Figures)
-    → IsQuad q → IsFormed p q n → f ≡ spins.image q → m ≡ ising_figures n → IsSpun p f m
-spun_as p q n f m kept made form figured =
-    let still = made.figures in
-    let whole = spun_stands p q kept (subst (λ r. IsFormed p q r) still made) in
-    subst (λ g. IsSpun p g m) (sym form)
-    (subst (λ r. IsSpun p (spins.image q) r) (sym (figured ∙ ap ising_figures still)) whole)
+    → IsQuad q → IsQuadratized p q n → f ≡ spins.image q → m ≡ ising_figures n → IsIsingOf p f m
+spun_as p q n f m kept made form figured = grind (arith, nat_tests, spun_stands)
 
 -- ---- its model on the qubits of a graph
 
-module _ (p : ProblemContent) (own : ℕ) (choice : UnitChoice) (ties : Ties) (graph : Chimera)
+module _ (p : ProblemContent) (own : ℕ) (choice : UnitChoice) (ties : ChainStrength) (graph : Chimera)
     (fabric : Fabric) (map : List (List ℕ)) (m : Written) (f : IsingContent) where
   -- the figures are small
-  small : IsSpun p f (ising_figures (figures p)) → AreSmall (ising_figures (figures p))
+  small : IsIsingOf p f (ising_figures (figures p)) → AreSmall (ising_figures (figures p))
   small spun = record {
     scale = omega (arith, ints);
     offset = spun.offset_low;
     threshold = spun.threshold_low;
   }
 
-  graph_stands : IsSpun p f (ising_figures (figures p))
+  graph_stands : IsIsingOf p f (ising_figures (figures p))
       → IsQubitModelOf f (ising_figures (figures p)) own choice ties graph fabric map m
       → IsGraphModelOf p own choice ties graph fabric map m
   graph_stands spun of =
@@ -89,10 +61,10 @@ module _ (p : ProblemContent) (own : ℕ) (choice : UnitChoice) (ties : Ties) (g
       }
 
   -- with the figures of the Ising form
-  pub graph_model : (n : Figures) → IsSpun p f n → IsQubitModelOf f n own choice ties graph fabric map m
+  pub graph_model : (n : Figures) → IsIsingOf p f n → IsQubitModelOf f n own choice ties graph fabric map m
       → IsGraphModelOf p own choice ties graph fabric map m
   graph_model n spun of =
-      graph_stands (subst (λ r. IsSpun p f r) spun.figures spun)
+      graph_stands (subst (λ r. IsIsingOf p f r) spun.figures spun)
       (subst (λ r. IsQubitModelOf f r own choice ties graph fabric map m) spun.figures of)
 
 -- ---- a model at a site
@@ -107,17 +79,17 @@ if_ok-by_two (Err e) p q f = tt
 abbrev FormStandsAt : Site → UnitChoice → ℕ → Written → IsingContent → Figures → Type 0
 FormStandsAt site unit own m f n =
     IsQubitModelOf f n own unit site.ties (graph_in site.qubits) (fabric_in site.qubits)
-    (chains_of site.qubits site.perch (length f.fields)) m
+    (chains_of site.qubits site.chain_source (length f.fields)) m
 
 module _ (site : Site) (choices : Choices) (unit : UnitChoice) (own : ℕ) (p : ProblemContent) where
   -- of the problem's form it is the problem's
   pub form_at_site : (m : Written) (f : IsingContent) (n : Figures) → f ≡ ising_of choices p
-      → IsSpun p f n → IsFormAt site unit f own n m → FormStandsAt site unit own m f n
+      → IsIsingOf p f n → IsFormAt site unit f own n m → FormStandsAt site unit own m f n
       → IsOnQubits site choices unit own p m
   form_at_site m f n form spun by stands =
       let graph = graph_in site.qubits in
       let fabric = fabric_in site.qubits in
-      let chains = λ (g : IsingContent). chains_of site.qubits site.perch (length g.fields) in
+      let chains = λ (g : IsingContent). chains_of site.qubits site.chain_source (length g.fields) in
       record {
         by = subst (λ g. IsFormAt site unit g own (ising_figures (figures p)) m) form
             (subst (λ r. IsFormAt site unit f own r m) spun.figures by);
@@ -136,7 +108,7 @@ module _ (site : Site) (choices : Choices) (unit : UnitChoice) (own : ℕ) (p : 
       unit,
       site.qubits,
       site_chains site choices p,
-      site_valid site.qubits site.perch (ising_of choices p) ising can,
+      site_valid site.qubits site.chain_source (ising_of choices p) ising can,
       by,
     ),
   )

@@ -1,11 +1,12 @@
+pub mod Common
 pub mod FormModels
 pub mod GraphModels
 pub mod Standing
 pub mod LeastStates
-pub mod PairForms
+pub mod QuadForms
+pub mod SmallNumbers
 pub mod LongSets
 pub mod FewNodes
-pub mod Rooms
 pub mod WrittenStates
 pub mod WrittenExtensions
 pub mod Decoders

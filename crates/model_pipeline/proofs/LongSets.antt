@@ -5,39 +5,10 @@
 -- m² sets. A set with k complements is multiplied out to 2^k sets of no more literals; the counted
 -- bits have the same factor, and for a constraint, whose products of two have twice the
 -- complements, its square.
-use Rattle.std.proofs.Common.{◌≡◌, ℕ, suc, ◌+◌, ◌-◌, ◌*◌, ◌^◌, ◌≤◌, Bool, true, false, leb, List, [], ◌∷◌, ◌++◌, length, map, pos, ◌*ℤ◌, refl, sym, ap, ◌∙◌, arith}
-use Rattle.std.specs.Prelude.{if◌then◌else◌, nat_le}
-use Rattle.std.specs.List.{sum_by}
-use Rattle.std.proofs.Math.Nat.{mul-le-mul_left, mul-le-mul_right}
-use Rattle.std.proofs.Math.Pow.{pow_mono}
-use Rattle.std.proofs.lemmas.Bool.Decides.{nat_tests}
-use Rattle.std.proofs.lemmas.List.Sums.{sum_by-cons, sum_by-append}
-use Rattle.std.proofs.lemmas.Nat.{pow-add}
-use Rattle.literal_lists.specs.declared.literal.Literal.{Literal}
-use Rattle.problem_form.specs.declared.terms.Product.{Product}
-use Rattle.problem_form.specs.declared.terms.Clause.{Clause}
-use Rattle.problem_form.specs.declared.terms.Constraint.{Constraint}
-use Rattle.problem_form.specs.declared.limits.Normal.{Normal}
+use Rattle.model_pipeline.proofs.Common.{◌≡◌, ℕ, suc, ◌+◌, ◌-◌, ◌*◌, ◌^◌, ◌≤◌, Bool, true, false, leb, List, [], ◌∷◌, ◌++◌, length, map, pos, ◌*ℤ◌, refl, sym, ap, ◌∙◌, arith, if◌then◌else◌, nat_le, sum_by, mul-le-mul_left, mul-le-mul_right, pow_mono, nat_tests, sum_by-cons, sum_by-append, pow-add, Literal, Product, Clause, Constraint, Normal, ProblemContent, penalty, factor, product_bits, clause_bits, constraint_bits, constraint_degree, most_complements, summands, slack_bits, auxiliary_bits, Term, scaled, product_terms, products_with, complements, sets_sum, sets_sum-cons, sets_sum-with_additions, AreFew, sets_sum-contributions, length-union, clause_term, plain_terms, contributions, product_term, square_terms, slack_form, constraint_terms, opposites_length, AreShort, length-slack_form, slack_form-short, square_is, complements-opposites, few-square, few-slack_form, excess, terms_of}
 use Rattle.problem_form.specs.declared.limits.Normal.TheVariants as normals
-use Rattle.literal_lists.specs.Literals.{has_clash}
-use Rattle.problem_form.specs.Problems.{ProblemContent}
-use Rattle.problem_form.specs.Limits.{penalty, factor, product_bits, clause_bits, constraint_bits, constraint_degree, most_complements, summands, slack_bits, auxiliary_bits}
-use Rattle.term_table.specs.Terms.{Term}
-use Rattle.term_table.specs.Products.{union, scaled, product_terms, products_with}
-use Rattle.term_table.specs.MultipliedOut.{complements}
 use Rattle.term_table.specs.MultipliedOut as multiplied
-use Rattle.term_table.proofs.Additions.{sets_sum, sets_sum-cons, sets_sum-with_additions}
-use Rattle.term_table.proofs.PlainSums.{AreFew, sets_sum-contributions}
-use Rattle.term_table.proofs.TermProducts.{length-union}
-use Rattle.penalty_layer.specs.Penalty.{clause_term, plain_terms, contributions}
 use Rattle.penalty_layer.specs.Penalty as penalty_method
-use Rattle.penalty_layer.specs.Squares.{product_term, square_terms, slack_form, constraint_terms}
-use Rattle.penalty_layer.proofs.OppositeSets.{opposites_length}
-use Rattle.penalty_layer.proofs.Sizes.{AreShort, length-slack_form, slack_form-short}
-use Rattle.penalty_layer.proofs.Sums.{square_is}
-use Rattle.normal_form.proofs.Complements.{complements-opposites, few-square, few-slack_form}
-use Rattle.rosenberg_layer.specs.Rosenberg.{excess}
-use Rattle.model_pipeline.specs.Models.{terms_of}
 
 -- how many literals a set has past its second
 abbrev pub past : List Literal → ℕ
@@ -50,17 +21,8 @@ past-append ts us = sum_by-append (λ (t : Term). past t.0) ts us
 
 product_terms-past : (d q : ℕ) (t u : Term) → length t.0 ≤ d → length u.0 ≤ d → 2 * d ≤ q + 2
     → sets_sum past (product_terms t u) ≤ q
-product_terms-past d q t u h k room = go (has_clash (union t.0 u.0))
-  where
-    go : (clash : Bool)
-        → sets_sum past (if clash then [] else (union t.0 u.0, t.1 *ℤ u.1) ∷ []) ≤ q
-    go true = omega arith
-    go false =
-        omega (
-          arith,
-          length-union t.0 u.0,
-          sets_sum-cons past (union t.0 u.0, t.1 *ℤ u.1) [],
-        )
+product_terms-past d q t u h k room =
+    grind (arith, nat_tests, sets_sum, length-union, sets_sum-cons)
 
 products_with-past : (d q : ℕ) (t : Term) (us : List Term) → length t.0 ≤ d → AreShort d us
     → 2 * d ≤ q + 2 → sets_sum past (products_with t us) ≤ q * length us
@@ -149,13 +111,7 @@ counted-append normal ts us = sum_by-append (λ (t : Term). counted normal t.0) 
 
 literal-counted : (ts : List Term) → sets_sum (counted normals.Literal) ts ≡ sets_sum past ts
 literal-counted [] = refl
-literal-counted (t ∷ ts) =
-    omega (
-      arith,
-      literal-counted ts,
-      sets_sum-cons (counted normals.Literal) t ts,
-      sets_sum-cons past t ts,
-    )
+literal-counted (t ∷ ts) = grind (arith, nat_tests, literal-counted ts)
 
 multilinear-few : (most : ℕ) (ts : List Term) → AreFew most ts
     → sets_sum (counted normals.Multilinear) ts ≤ 2 ^ most * sets_sum past ts
@@ -175,9 +131,7 @@ products-counted : (normal : Normal) (ts : List Product)
     → sets_sum (counted normal) (map product_term ts) ≡ sum_by (product_bits normal) ts
 products-counted normal [] = refl
 products-counted normal (t ∷ ts) =
-    sets_sum-cons (counted normal) (product_term t) (map product_term ts)
-    ∙ ap (λ n. product_bits normal t + n) (products-counted normal ts)
-    ∙ sym (sum_by-cons (product_bits normal) t ts)
+    let rest0 = products-counted normal ts in simp sum_by-cons (grind (arith, nat_tests, sets_sum-cons))
 
 clauses-counted : (normal : Normal) (n : ℕ) (cs : List Clause)
     → sets_sum (counted normal) (map (clause_term n) cs) ≡ sum_by (clause_bits normal) cs
@@ -208,12 +162,7 @@ summands-scaled k q =
 constraint-counted : (normal : Normal) (n first : ℕ) (k : Constraint)
     → sets_sum (counted normal) (square_terms n (slack_form first k))
     ≤ summands normal k ^ 2 * each_past k
-constraint-counted normals.Literal n first k =
-    omega (
-      arith,
-      literal-counted (square_terms n (slack_form first k)),
-      constraint-past n first k,
-    )
+constraint-counted normals.Literal n first k = omega (arith, literal-counted, constraint-past)
 constraint-counted normals.Multilinear n first k =
     let m = most_complements k in
     let ts = square_terms n (slack_form first k) in
@@ -265,12 +214,7 @@ past-rises a b h = omega arith
 -- terms of one set are summed, so no set counts more than once for each that contributes it
 terms-counted : (normal : Normal) (p : ProblemContent)
     → excess (terms_of normal p).terms ≤ sets_sum (counted normal) (contributions p)
-terms-counted normals.Literal p =
-    omega (
-      arith,
-      sets_sum-with_additions past (contributions p),
-      literal-counted (contributions p),
-    )
+terms-counted normals.Literal p = omega (arith, sets_sum-with_additions, literal-counted)
 terms-counted normals.Multilinear p =
     let first = (penalty_method.image p).terms in
     omega (

@@ -1,23 +1,7 @@
 -- Forms on chains, counted in their greatest unit: they are on the same chains and the same joined
 -- qubits.
-use Rattle.std.proofs.Common.{◌≡◌, ◌≤◌, inl, inr, ℕ, zero, suc, ◌+◌, true, false, ℤ, pos, List, [], ◌∷◌, ◌++◌, All, map, ap, ◌∙◌, arith}
-use Rattle.std.specs.Prelude.{unsigned_abs, nat_lt}
-use Rattle.std.specs.List.{AllByRecursion, slice_index_or, sum_by}
-use Rattle.std.proofs.Math.Nat.{zero-div}
-use Rattle.std.proofs.lemmas.Bool.{le-ltb}
-use Rattle.std.proofs.lemmas.List.{length-map}
-use Rattle.std.proofs.lemmas.List.Elements.{All-map, All-from_recursion, recursion_from_All}
-use Rattle.bits_model.specs.declared.output.Entry.{Entry}
+use Rattle.model_pipeline.proofs.Common.{nat_tests, ◌≡◌, ℕ, zero, suc, true, false, ℤ, pos, List, [], ◌∷◌, ◌++◌, All, Kind, map, ap, ◌∙◌, arith, nat_lt, AllByRecursion, slice_index_or, zero-div, le-ltb, length-map, All-map, All-from_recursion, recursion_from_All, Entry, is_coupler, node_entries, counted_in, entry_in, IsingContent, FitsOutput, is_on_chain, written_entries, ising_unit, reduced, AllRec-filter, Joins}
 use Rattle.bits_model.specs.declared.output.Kind.TheVariants.{Chimera}
-use Rattle.bits_model.specs.Output.{is_coupler}
-use Rattle.quad_form.specs.Quads.{node_entries}
-use Rattle.quad_form.specs.Units.{counted_in, entry_in, greatest_within, unit_of}
-use Rattle.quad_form.proofs.Divisors.{greatest_divides, none_or_within, unit_of_nothing}
-use Rattle.ising_form.specs.Isings.{IsingContent}
-use Rattle.ising_form.specs.Outputs.{FitsOutput, is_on_chain, written_entries}
-use Rattle.ising_form.specs.Reduction.{ising_unit, reduced}
-use Rattle.ising_form.proofs.ChainedNodes.{AllRec-filter}
-use Rattle.chain_map.specs.Chains.{Joins}
 
 -- ---- the same chains
 
@@ -29,18 +13,11 @@ field_stays_zero u [] q nothing none = none
 field_stays_zero u (h ∷ hs) zero nothing none = ap (counted_in u) none ∙ nothing
 field_stays_zero u (h ∷ hs) (suc q) nothing none = field_stays_zero u hs q nothing none
 
--- what a form on chains is counted in is on them too
-pub reduced_fits : (rows cols shore variables : ℕ) (chains : List (List ℕ)) (f : IsingContent)
-    → FitsOutput (Chimera rows cols shore) chains variables f
-    → FitsOutput (Chimera rows cols shore) chains variables (reduced f)
-reduced_fits rows cols shore variables chains f fits = record {
-  sized = length-map f.fields (counted_in (ising_unit f)) ∙ fits.sized;
-  placed = fits.placed;
-  filled = fits.filled;
-  enough = fits.enough;
-  unchained = λ q none.
-      field_stays_zero (ising_unit f) f.fields q (ap pos (zero-div _)) (fits.unchained q none);
-}
+-- what a form is counted in can be written where the form can
+pub reduced_fits : (kind : Kind) (variables : ℕ) (chains : List (List ℕ)) (f : IsingContent)
+    → FitsOutput kind chains variables f → FitsOutput kind chains variables (reduced f)
+reduced_fits kind variables chains f fits =
+    grind (arith, nat_tests, length-map, field_stays_zero, zero-div)
 
 -- ---- joined qubits
 
@@ -79,14 +56,3 @@ written_joined joined rows cols shore chains f all =
     (AllRec-filter (IsCouplerJoined joined) (is_on_chain chains) (node_entries 0 f.fields) f.couplings
     (nodes_joined joined 0 f.fields f.couplings
     (couplers_joined joined f.couplings (recursion_from_All _ f.couplings all))))
-
--- ---- the unit
-
--- it is no greater than the weights, or 1
-pub unit_low : (ws : List ℤ) → unsigned_abs (unit_of ws) ≤ sum_by unsigned_abs ws + 1
-unit_low ws =
-    let sum = sum_by unsigned_abs ws in
-    elim (none_or_within (greatest_within sum ws) ws (greatest_divides sum ws)) [
-      | inl none ↦ omega (arith, ap unsigned_abs (unit_of_nothing ws none))
-      | inr low ↦ omega (arith, low)
-    ]

@@ -1,43 +1,12 @@
 -- The model of an embedded Ising form on the qubits of a graph: what it promises of the form.
-use Rattle.std.proofs.Common.{◌≡◌, ◌≤◌, ◌<◌, ℕ, ◌+◌, ◌*◌, ◌^◌, ℤ, pos, ◌+ℤ◌, ◌*ℤ◌, ◌≤ℤ◌, Bool, List, length, All, refl, sym, ap, ◌∙◌, subst, arith}
-use Rattle.std.specs.Prelude.{FitsSigned, unsigned_abs, neg_ℤ, ◌-ℤ◌}
-use Rattle.std.specs.Int.{w128}
-use Rattle.std.proofs.Math.Nat.{mul-le-mul_left, mul-le-mul_right}
-use Rattle.std.proofs.lemmas.Int.{ints, fits_signed_from_abs}
-use Rattle.std.proofs.lemmas.List.Sums.{sum_by-append}
-use Rattle.base.specs.declared.costs.Figures.{Figures}
-use Rattle.bits_model.specs.declared.output.Entry.{Entry}
-use Rattle.base.specs.declared.unit.UnitChoice.{UnitChoice}
+use Rattle.model_pipeline.proofs.Common.{nat_tests, ◌≡◌, ◌≤◌, ◌<◌, ℕ, ◌+◌, ◌*◌, ◌^◌, ℤ, pos, ◌+ℤ◌, ◌*ℤ◌, ◌≤ℤ◌, List, length, All, refl, sym, ap, ◌∙◌, subst, arith, FitsSigned, unsigned_abs, neg_ℤ, ◌-ℤ◌, w128, ints, fits_signed_from_abs, Figures, UnitChoice, Relaxes, decoding_after, figures_moved, IsConnected, AreBounded, HasUnit, FitsFigures, FitsGraph, IsingContent, IsIsing, ising_total, FitsOutput, written_of, ising_unit, reduced, reduced_is_ising, made_total, one_le_ising_unit, written_is_well_formed, written_total, made_is_reduced, Chimera, qubits_of, ChainStrength, Embedding, IsEmbedding, IsChecked, read_off_the_chains, Fabric, AllExist, IsValidOn, kind_of, chained_figures, image_tied, offset_tied, qubit_model, HasChainRoom, IsQubitModelOf, StandsForWhat}
 use Rattle.base.specs.declared.unit.UnitChoice.TheVariants.{One, Reduce}
-use Rattle.form_steps.specs.Relations.{Decoding, Relaxes, decoding_after}
-use Rattle.base.specs.Figures.{figures_moved}
-use Rattle.bits_model.specs.Output.{read_off}
-use Rattle.bits_model.specs.Walks.{IsConnected}
-use Rattle.faithful.specs.Bounds.{AreBounded}
-use Rattle.faithful.specs.Faithful.{HasUnit}
-use Rattle.model_text.specs.Rows.{FitsFigures, FitsGraph}
-use Rattle.quad_form.specs.Quads.{node_entries}
-use Rattle.quad_form.specs.Units.{weights_of}
-use Rattle.quad_form.proofs.UnitEntries.{sizes_of_weights}
-use Rattle.ising_form.specs.Isings.{IsingContent, IsIsing, ising_total}
 use Rattle.ising_form.specs.Isings as isings
-use Rattle.ising_form.specs.Outputs.{FitsOutput, written_of}
-use Rattle.ising_form.specs.Reduction.{ising_unit, reduced}
-use Rattle.ising_form.proofs.ReducedForms.{reduced_is_ising, made_total, one_le_ising_unit}
-use Rattle.ising_form.proofs.WrittenModels.{written_is_well_formed, written_total, made_is_reduced}
-use Rattle.chimera_graph.specs.declared.chimera.Chimera.{Chimera}
-use Rattle.chimera_graph.specs.Graph.{qubits_of}
-use Rattle.command_words.specs.declared.commands.Ties.{Ties}
-use Rattle.embedding_check.specs.Embeddings.{Embedding, IsEmbedding}
-use Rattle.embedding_check.specs.Checked.{IsChecked}
 use Rattle.chain_layer.specs.Image as chains
-use Rattle.chain_layer.proofs.Written.{read_off_the_chains}
-use Rattle.working_graph.specs.Fabrics.{Fabric, AllExist, IsValidOn}
-use Rattle.model_pipeline.specs.QubitModels.{kind_of, chained_figures, image_tied, offset_tied, qubit_model}
-use Rattle.model_pipeline.specs.QubitStanding.{HasChainRoom, IsQubitModelOf, StandsForWhat}
-use Rattle.model_pipeline.proofs.OnChains.{AreEndsJoined, reduced_fits, reduced_joined, written_joined, unit_low}
+use Rattle.model_pipeline.proofs.OnChains.{AreEndsJoined, reduced_fits, reduced_joined, written_joined}
+use Rattle.model_pipeline.proofs.SmallNumbers.{minus_low, once_low, sum_low, unit_low}
 use Rattle.model_pipeline.proofs.Tied.{link_of, tied_fits_output, tied_is_ising, tied_is_joined, tied_offset, tied_stands, tied_total}
-use Rattle.model_pipeline.proofs.WrittenStates.{Counts, ising_counts, reduced_counts, stands_written}
+use Rattle.model_pipeline.proofs.WrittenStates.{chained_counts, stands_written}
 
 -- ---- figures
 
@@ -48,13 +17,6 @@ pub record AreMoved (n r : Figures) (most : ℕ) : Type 0 where
   pub threshold : r.threshold -ℤ r.offset ≡ n.threshold -ℤ n.offset
   pub offset_low : unsigned_abs r.offset ≤ most
   pub threshold_low : unsigned_abs r.threshold ≤ most
-
-sum_low : (a b : ℤ) (most more : ℕ) → unsigned_abs a ≤ most → unsigned_abs b ≤ more
-    → unsigned_abs (a +ℤ b) ≤ most + more
-sum_low a b most more h k = omega (arith, ints)
-
-minus_low : (c : ℤ) (most : ℕ) → unsigned_abs c ≤ most → unsigned_abs (neg_ℤ c) ≤ most
-minus_low c most h = omega (arith, ints)
 
 -- the figures where every energy is moved
 moved_once : (n r : Figures) (most more : ℕ) (b : ℤ) → AreMoved n r most → unsigned_abs b ≤ more
@@ -76,7 +38,7 @@ moved_within n r most more h are = record {
 }
 
 -- what the ties of a form with room for the layer cost
-offset_within : (ties : Ties) (e : Embedding) → IsEmbedding e
+offset_within : (ties : ChainStrength) (e : Embedding) → IsEmbedding e
     → (ising_total e.ising + 1) * 2 ^ 21 ≤ 2 ^ 124
     → unsigned_abs (offset_tied ties e) ≤ 2 ^ 123
 offset_within ties e kept small = omega (arith, tied_offset e kept ties, small)
@@ -89,13 +51,13 @@ tied_low z b h k =
     omega (arith, ap unsigned_abs once, sum_low z b (2 ^ 122) (2 ^ 123) (omega (arith, h)) k)
 
 -- the same with what the ties of an embedded form give
-pub tied_figure : (ties : Ties) (e : Embedding) (z b : ℤ) → IsEmbedding e
+pub tied_figure : (ties : ChainStrength) (e : Embedding) (z b : ℤ) → IsEmbedding e
     → (ising_total e.ising + 1) * 2 ^ 21 ≤ 2 ^ 124 → unsigned_abs z < 2 ^ 122
     → b ≡ offset_tied ties e → unsigned_abs (pos 1 *ℤ z +ℤ b) < 2 ^ 124
 tied_figure ties e z b kept small low tied =
     rw tied (tied_low z (offset_tied ties e) low (offset_within ties e kept small))
 
-pub tied_fits : (ties : Ties) (e : Embedding) (z b : ℤ) → IsEmbedding e
+pub tied_fits : (ties : ChainStrength) (e : Embedding) (z b : ℤ) → IsEmbedding e
     → (ising_total e.ising + 1) * 2 ^ 21 ≤ 2 ^ 124 → unsigned_abs z < 2 ^ 122
     → b ≡ offset_tied ties e → FitsSigned w128 (pos 1 *ℤ z +ℤ b)
 tied_fits ties e z b kept small low tied =
@@ -103,7 +65,7 @@ tied_fits ties e z b kept small low tied =
     (omega (arith, tied_figure ties e z b kept small low tied))
 
 -- the figures on chains
-pub moved_by_ties : (ties : Ties) (n : Figures) (e : Embedding) → IsEmbedding e
+pub moved_by_ties : (ties : ChainStrength) (n : Figures) (e : Embedding) → IsEmbedding e
     → (ising_total e.ising + 1) * 2 ^ 21 ≤ 2 ^ 124
     → unsigned_abs n.offset < 2 ^ 122 → unsigned_abs n.threshold < 2 ^ 122
     → AreMoved n (chained_figures ties e n) (2 ^ 124)
@@ -116,16 +78,6 @@ moved_by_ties ties n e kept small offset_low threshold_low =
       offset_low = omega (arith, tied_low n.offset b offset_low tied);
       threshold_low = omega (arith, tied_low n.threshold b threshold_low tied);
     }
-
--- a number that is moved by nothing
-unmoved_low : (z : ℤ) → unsigned_abs z < 2 ^ 124 → unsigned_abs (z +ℤ neg_ℤ (pos 0)) < 2 ^ 124
-unmoved_low z h = omega (arith, ints)
-
--- a number is no greater than some times itself
-once_low : (u : ℤ) (a b : ℕ) → pos 1 ≤ℤ u → unsigned_abs u * a ≤ b → a ≤ b
-once_low u a b one h =
-    let low : 1 ≤ unsigned_abs u = omega (arith, ints, one) in
-    omega (arith, mul-le-mul_right a low, h)
 
 -- figures fit their fields
 figures_fit : (n r : Figures) (most : ℕ) → unsigned_abs n.scale ≤ 2 ^ 127 → AreMoved n r most
@@ -140,26 +92,11 @@ figures_fit n r most low are fits = record {
 
 -- its numbers fit their fields: none of them is greater than the number of qubits
 graph_fits : (graph : Chimera) → FitsGraph (kind_of graph)
-graph_fits graph =
-    let shape = graph.shape in
-    let twice = 2 * graph.rows in
-    let cells = twice * graph.cols in
-    let some_rows : 1 ≤ twice = omega (arith, shape.some_rows) in
-    let rows : twice ≤ cells = omega (arith, mul-le-mul_left twice shape.some_cols) in
-    let cols : graph.cols ≤ cells = omega (arith, mul-le-mul_right graph.cols some_rows) in
-    let some_cells : 1 ≤ cells = omega (arith, some_rows, rows) in
-    let both : cells ≤ cells * graph.shore =
-    omega (arith, mul-le-mul_left cells shape.some_shore) in
-    let shore : graph.shore ≤ cells * graph.shore =
-    omega (arith, mul-le-mul_right graph.shore some_cells) in (
-      omega (arith, rows, both, shape.few),
-      omega (arith, cols, both, shape.few),
-      omega (arith, shore, shape.few),
-    )
+graph_fits graph = grind (arith, nat_tests)
 
 -- ---- the model
 
-module _ (f : IsingContent) (n : Figures) (own : ℕ) (ties : Ties) (graph : Chimera)
+module _ (f : IsingContent) (n : Figures) (own : ℕ) (ties : ChainStrength) (graph : Chimera)
     (fabric : Fabric) (map : List (List ℕ)) (e : Embedding) (kept : IsEmbedding e)
     (sized : fabric.qubits ≡ qubits_of graph)
     (both_ways : (a b : ℕ) → fabric.joined a b ≡ fabric.joined b a)
@@ -251,18 +188,7 @@ module _ (f : IsingContent) (n : Figures) (own : ℕ) (ties : Ties) (graph : Chi
   -- a figure on chains, without the constant
   figure_low : HasChainRoom f n → (z : ℤ) → unsigned_abs z < 2 ^ 122
       → unsigned_abs (pos 1 *ℤ z +ℤ offset_tied ties e +ℤ neg_ℤ tied.constant) < 2 ^ 124
-  figure_low room z low =
-      let light = image_low room in
-      let b = offset_tied ties e in
-      let once : pos 1 *ℤ z +ℤ b ≡ z +ℤ b = omega (arith, ints) in
-      let small : unsigned_abs b ≤ 2 ^ 120 =
-      omega (arith, tied_offset e kept ties, ap ising_total checked.ising, room.total) in
-      let moved = sum_low z b (2 ^ 122) (2 ^ 120) (omega (arith, low)) small in
-      let constant = minus_low tied.constant (2 ^ 121) (omega (arith, light)) in
-      let both = sum_low (pos 1 *ℤ z +ℤ b) (neg_ℤ tied.constant) (2 ^ 122 + 2 ^ 120) (2 ^ 121)
-      (omega (arith, ap unsigned_abs once, moved))
-      constant in
-      omega (arith, both)
+  figure_low room z low = grind (arith, nat_tests, ints, image_low room, tied_offset e kept ties)
 
   image_bounds : HasChainRoom f n → HasBounds tied (pos 1) (chained_figures ties e n)
   image_bounds room =
@@ -283,36 +209,21 @@ module _ (f : IsingContent) (n : Figures) (own : ℕ) (ties : Ties) (graph : Chi
       let u = ising_unit tied in
       let whole = image_bounds room in
       let light = image_low room in
-      let sizes = sizes_of_weights tied.fields tied.couplings in
-      let size = λ (e : Entry). unsigned_abs e.weight in
-      let all = sum_by-append size (node_entries 0 tied.fields) tied.couplings in
-      let unit = unit_low (weights_of tied.fields tied.couplings) in
+      let unit = unit_low tied.fields tied.couplings (2 ^ 121) (omega (arith, light)) in
       let moved = figures_moved (chained_figures ties e n) (neg_ℤ tied.constant) in
       let less = once_low u (ising_total (reduced tied)) (ising_total tied) (one_le_ising_unit tied)
       (made_total tied (reduced tied) u refl refl) in
       record {
         total = omega (arith, less, light);
-        unit = omega (arith, unit, sizes, all, light);
+        unit = omega (arith, unit, light);
         figures = record {
           scale = whole.figures.scale;
-          offset = unmoved_low moved.offset whole.figures.offset;
-          threshold = unmoved_low moved.threshold whole.figures.threshold;
+          offset = omega (arith, ints, whole.figures.offset);
+          threshold = omega (arith, ints, whole.figures.threshold);
         };
       }
 
   -- ---- what it stands for
-
-  -- the model counts what the tied form does
-  counts : (choice : UnitChoice) (variables : ℕ) (d : Decoding)
-      → ((y : List Bool) → d.decoded y ≡ read_off (kind_of graph) variables e.chains y)
-      → Counts variables (isings.form_of tied) (chained_figures ties e n) d
-      (qubit_model choice ties e own n (kind_of graph))
-  counts One variables d reads =
-      ising_counts tied own variables (chained_figures ties e n) (kind_of graph) e.chains d reads
-      tied_on_chains
-  counts Reduce variables d reads =
-      reduced_counts tied own variables (chained_figures ties e n) (kind_of graph) e.chains d reads
-      (reduced_fits graph.rows graph.cols graph.shore own e.chains tied tied_on_chains)
 
   stands_for : (choice : UnitChoice)
       → StandsForWhat ties f n (qubit_model choice ties e own n (kind_of graph))
@@ -323,9 +234,9 @@ module _ (f : IsingContent) (n : Figures) (own : ℕ) (ties : Ties) (graph : Chi
       relaxed in
       stands_written ties variables source (isings.form_of tied) to (chained_figures ties e n)
       (qubit_model choice ties e own n (kind_of graph))
-      (counts choice variables to
+      (chained_counts choice tied own variables (chained_figures ties e n) (kind_of graph) e.chains to
       (λ y. reads (decoding.decoded y)
-      ∙ sym (read_off_the_chains (link_of e) graph.rows graph.cols graph.shore variables y)))
+      ∙ sym (read_off_the_chains (link_of e) graph.rows graph.cols graph.shore variables y)) tied_on_chains)
       (tied_stands ties e kept source d n of)
 
   -- ---- in the unit that is chosen
@@ -350,16 +261,13 @@ module _ (f : IsingContent) (n : Figures) (own : ℕ) (ties : Ties) (graph : Chi
       let r = figures_moved (chained_figures ties e n) c in
       let ising = tied_is_ising e kept ties small in
       let light = ising.small in
-      let sizes = sizes_of_weights tied.fields tied.couplings in
-      let size = λ (e : Entry). unsigned_abs e.weight in
-      let whole = sum_by-append size (node_entries 0 tied.fields) tied.couplings in
-      let unit = unit_low (weights_of tied.fields tied.couplings) in
-      let fits = reduced_fits graph.rows graph.cols graph.shore own e.chains tied tied_on_chains in
+      let unit = unit_low tied.fields tied.couplings (2 ^ 124) (omega (arith, light)) in
+      let fits = reduced_fits (kind_of graph) own e.chains tied tied_on_chains in
       stands_in Reduce (reduced tied) u r (reduced_is_ising tied ising)
       fits
       (reduced_joined fabric.joined tied tied_joined)
       (one_le_ising_unit tied)
-      (omega (arith, unit, sizes, whole, light))
+      (omega (arith, unit, light))
       (moved_once n _ _ _ c are (minus_low tied.constant (2 ^ 124) (omega (arith, light))))
       (stands_for Reduce)
       reduced_bounds

@@ -1,61 +1,19 @@
 -- The model of a problem: what it promises of the problem.
-use Rattle.std.proofs.Common.{◌≡◌, ◌≤◌, ◌<◌, ◌^◌, ◌*◌, ℕ, ◌+◌, ℤ, pos, ◌+ℤ◌, ◌*ℤ◌, length, take, refl, sym, ap, ◌∙◌, subst, arith}
-use Rattle.std.specs.Prelude.{FitsSigned, unsigned_abs}
-use Rattle.std.specs.Int.{w128}
-use Rattle.std.proofs.lemmas.Int.{ints}
-use Rattle.std.proofs.lemmas.List.{take-take}
-use Rattle.base.specs.declared.costs.Figures.{Figures}
-use Rattle.form_steps.specs.declared.layer.BitsLink.{BitsLink}
-use Rattle.base.specs.declared.unit.UnitChoice.{UnitChoice}
-use Rattle.form_steps.specs.Relations.{Decoding, Keeps, Relaxes, decoding_after}
-use Rattle.base.specs.Figures.{figures_after}
-use Rattle.form_steps.specs.laws.Composed.{keeps_after_relaxes}
-use Rattle.form_steps.specs.Links.{first_bits}
-use Rattle.form_steps.proofs.Growth.{fits_below}
-use Rattle.problem_form.specs.declared.limits.Normal.{Normal}
+use Rattle.model_pipeline.proofs.Common.{nat_tests, ◌≡◌, ◌≤◌, ◌<◌, ◌^◌, ◌*◌, ℕ, ℤ, pos, ◌+ℤ◌, ◌*ℤ◌, None, length, take, refl, sym, ap, ◌∙◌, subst, arith, FitsSigned, unsigned_abs, w128, ints, take-take, Figures, BitsLink, UnitChoice, Decoding, Keeps, Relaxes, decoding_after, figures_after, keeps_after_relaxes, first_bits, fits_below, Normal, High, Choices, ProblemContent, IsNormal, form_of, upper, limit_fault, NodeModel, figures, node_count, penalty_relaxes, threshold_within, TableContent, multilinear_relaxes, mono_keeps, excess, rosen_keeps, width-run-le, QuadContent, IsQuad, same_bits, length-image, flat_keeps, coupled, length-fields, spins_keeps, image_is_ising, total-image, IsModelOf, form_model, ising_figures, low_terms_of, quad_by, quad_of, terms_of, HaveRoom, HasRoom, IsQuadratized, Stands, LowFits}
 use Rattle.problem_form.specs.declared.limits.Normal.TheVariants.{Literal, Multilinear}
-use Rattle.problem_form.specs.declared.limits.High.{High}
 use Rattle.problem_form.specs.declared.limits.High.TheVariants.{Monomial, Rosenberg}
-use Rattle.problem_form.specs.Problems.{ProblemContent, form_of}
-use Rattle.problem_form.specs.Limits.{upper}
-use Rattle.command_words.specs.declared.commands.NodeModel.{NodeModel}
 use Rattle.command_words.specs.declared.commands.NodeModel.TheVariants.{Qubo, Ising}
-use Rattle.penalty_layer.specs.Penalty.{figures, node_count, Admits}
-use Rattle.penalty_layer.specs.laws.Relaxing.{penalty_relaxes}
-use Rattle.penalty_layer.proofs.Admitted.{image_size, threshold_within}
-use Rattle.penalty_layer.proofs.Sums.{image-total}
-use Rattle.term_table.specs.Tables.{TableContent, IsTable}
-use Rattle.normal_form.specs.laws.Relaxing.{multilinear_relaxes}
-use Rattle.monomial_layer.specs.laws.Kept.{mono_keeps}
-use Rattle.rosenberg_layer.specs.Rosenberg.{excess}
-use Rattle.rosenberg_layer.specs.laws.Kept.{rosen_keeps, width-run-le}
-use Rattle.quad_form.specs.Quads.{QuadContent, IsQuad, quad_size, quad_total}
-use Rattle.quad_form.specs.Flat.{same_bits}
-use Rattle.quad_form.specs.laws.Flattened.{length-image, flat_keeps}
-use Rattle.direct_quad.specs.Direct.{additions_of}
-use Rattle.long_terms.proofs.Apart.{IsTable-table_of}
-use Rattle.long_terms.proofs.KeptTerms.{AreAdditions-of, total-additions}
-use Rattle.direct_quad.proofs.Guarded.{direct_total, direct_size}
-use Rattle.direct_quad.specs.laws.Between.{IsTable-low_of}
-use Rattle.ising_form.specs.Spins.{coupled}
-use Rattle.ising_form.specs.laws.Spun.{length-fields, spins_keeps}
-use Rattle.ising_form.proofs.Images.{image_is_ising, total-image}
-use Rattle.model_pipeline.specs.Models.{IsModelOf, form_model, ising_figures, low_terms_of, quad_by, terms_of}
-use Rattle.model_pipeline.specs.Formed.{HaveRoom, IsFormed, Stands}
-use Rattle.model_pipeline.specs.Decoders.{LowFits}
-use Rattle.model_pipeline.proofs.PairForms.{flat_link, monomial_flat, monomial_link, pair_link, pair_size, pair_total}
+use Rattle.model_pipeline.proofs.PlainForms.{admits_of, problem_has_quad}
+use Rattle.model_pipeline.proofs.QuadForms.{HasQuad, flat_link, low_link}
 use Rattle.model_pipeline.proofs.FormModels.{HasFigures, figures_within, qubo_stands, ising_stands}
 use Rattle.penalty_layer.specs.Penalty as penalty
 use Rattle.term_table.specs.Tables as tables
-use Rattle.monomial_layer.specs.Monomials as monomials
-use Rattle.rosenberg_layer.specs.Rosenberg as rosenberg
 use Rattle.quad_form.specs.Quads as quads
-use Rattle.quad_form.specs.Flat as flat
 use Rattle.ising_form.specs.Isings as isings
 use Rattle.ising_form.specs.Spins as spins
 
 -- the figures of a problem's form have room for those of an Ising form
-pub formed_have_room : (p : ProblemContent) (q : QuadContent) (n : Figures) → IsFormed p q n
+pub formed_have_room : (p : ProblemContent) (q : QuadContent) (n : Figures) → IsQuadratized p q n
     → HaveRoom n
 formed_have_room p q n formed = record {
   scale_low = omega (arith, ints, ap (λ (m : Figures). m.scale) formed.figures);
@@ -73,10 +31,10 @@ formed_have_room p q n formed = record {
 
 -- the same form, with the same figures
 pub formed_as : (p : ProblemContent) (q r : QuadContent) (n : Figures) → q ≡ r → n ≡ figures p
-    → IsFormed p r (figures p) → IsFormed p q n
+    → IsQuadratized p r (figures p) → IsQuadratized p q n
 formed_as p q r n form figured made =
-    subst (λ m. IsFormed p q m) (sym figured)
-    (subst (λ f. IsFormed p f (figures p)) (sym form) made)
+    subst (λ m. IsQuadratized p q m) (sym figured)
+    (subst (λ f. IsQuadratized p f (figures p)) (sym form) made)
 
 -- a step that neither scales nor moves keeps the figures
 pub figures-still : (n : Figures) → figures_after n (pos 1) (pos 0) ≡ n
@@ -121,84 +79,61 @@ module _ (normal : Normal) (high : High) (p : ProblemContent) where
   steps_enough =
       omega (arith, length-image (low_terms_of high (terms_of normal p)), low_wider high (terms_of normal p), terms_width normal p)
 
-  pub formed_by_steps : (a b c : BitsLink) → unsigned_abs (upper p) ≤ 2 ^ 64 → penalty.Fits a p
-      → LowFits high b (terms_of normal p) → flat.Fits c (low_terms_of high (terms_of normal p))
-      → quad_total (quad_by normal high p) + 1 ≤ 2 ^ 98
-      → quad_size (quad_by normal high p) ≤ 2 ^ 29
-      → IsFormed p (quad_by normal high p) (figures p)
-  formed_by_steps a b c threshold fits_a fits_b fits_c total size =
-      let t = terms_of normal p in
-      let f = form_of p in
-      let g = quads.form_of (quad_by normal high p) in
-      let low = keeps_after_relaxes (terms_relax normal a p fits_a) (low_keeps high b t fits_b) in
-      let whole = keeps_after_relaxes low (flat_keeps c (low_terms_of high t) fits_c) in
-      let still : figures_after (figures_after (figures p) (pos 1) (pos 0)) (pos 1) (pos 0) ≡ figures p =
-      ap (λ n. figures_after n (pos 1) (pos 0)) (figures-still (figures p)) ∙ figures-still (figures p) in
-      let source = low_source high b t fits_b ∙ terms_width normal p in
-      record {
-        figures = refl;
-        threshold = threshold;
-        enough = steps_enough;
-        total = omega (arith, total);
-        size = omega (arith, size);
-        total_low = total;
-        size_low = size;
-        stands = (
-          steps a b c,
-          record {
-            relaxes = subst (λ n. Relaxes f g (steps a b c) (pos 1) n) still whole;
-            decodes = λ y.
-                (λ i. take (fits_a.source i) (take (source i) y))
-                ∙ take-take p.variables (node_count p) y (omega arith);
-          },
-        );
-      }
+  -- with the links of the steps
+  module _ (normal_is : IsNormal p) (on : HasQuad high (terms_of normal p)) where
+    abbrev pub term_link : (link : BitsLink) × penalty.Fits link p
+    term_link = (
+      record { source_width = p.variables; target_width = node_count p },
+      record { source = refl; target = refl; normal = normal_is },
+    )
 
--- ---- over literals
+    pub formed_by_steps : unsigned_abs (upper p) ≤ 2 ^ 64
+        → IsQuadratized p (quad_by normal high p) (figures p)
+    formed_by_steps threshold =
+        let t = terms_of normal p in
+        let f = form_of p in
+        let g = quads.form_of (quad_by normal high p) in
+        let a = term_link in
+        let b = low_link high t on in
+        let c = flat_link high t on in
+        let low = keeps_after_relaxes (terms_relax normal a.0 p a.1) (low_keeps high b.0 t b.1) in
+        let whole = keeps_after_relaxes low (flat_keeps c.0 (low_terms_of high t) c.1) in
+        let still : figures_after (figures_after (figures p) (pos 1) (pos 0)) (pos 1) (pos 0) ≡ figures p =
+        ap (λ n. figures_after n (pos 1) (pos 0)) (figures-still (figures p)) ∙ figures-still (figures p) in
+        let source = low_source high b.0 t b.1 ∙ terms_width normal p in
+        record {
+          figures = refl;
+          threshold = threshold;
+          enough = steps_enough;
+          total = omega (arith, on.total);
+          size = omega (arith, on.size);
+          total_low = on.total;
+          size_low = on.size;
+          stands = (
+            steps a.0 b.0 c.0,
+            record {
+              relaxes = subst (λ n. Relaxes f g (steps a.0 b.0 c.0) (pos 1) n) still whole;
+              decodes = λ y.
+                  (λ i. take p.variables (take (source i) y))
+                  ∙ take-take p.variables (node_count p) y (omega arith);
+            },
+          );
+        }
 
-module _ (p : ProblemContent) (admitted : Admits p) where
-  abbrev table : TableContent
-  table = penalty.image p
+-- the form of a problem within the limits stands for it
+pub problem_formed : (choices : Choices) (p : ProblemContent) → IsNormal p
+    → limit_fault choices.normal p ≡ None → IsQuadratized p (quad_of choices p) (figures p)
+problem_formed choices p normal within =
+    formed_by_steps choices.normal choices.high p normal
+    (problem_has_quad choices.normal choices.high p normal within)
+    (threshold_within p (upper p) (admits_of choices.normal p normal within) refl)
 
-  -- the links of the steps
-  pub literal_nodes : (link : BitsLink) × penalty.Fits link p
-  literal_nodes = (
-    record { source_width = p.variables; target_width = node_count p },
-    record { source = refl; target = refl; normal = admitted.normal },
-  )
-
-  pub literal_table : IsTable table
-  literal_table = IsTable-table_of (additions_of p) (AreAdditions-of p admitted)
-
-  pub literal_monomial : (link : BitsLink) × monomials.Fits link table
-  literal_monomial = monomial_link table literal_table
-
-  pub literal_monomial_flat : (link : BitsLink) × flat.Fits link (monomials.image table)
-  literal_monomial_flat =
-      monomial_flat table
-      (IsTable-low_of (additions_of p) (AreAdditions-of p admitted) (omega (arith, total-additions p admitted.within)))
-
-  pub literal_pair : (link : BitsLink) × rosenberg.Fits link table
-  literal_pair = pair_link table literal_table
-
-  pub literal_flat : (link : BitsLink) × flat.Fits link (rosenberg.image table)
-  literal_flat = flat_link table literal_table (omega (arith, image-total p admitted.within))
-
-  -- each term replaced by itself
-  pub formed_at_once : IsFormed p (quad_by Literal Monomial p) (figures p)
-  formed_at_once =
-      formed_by_steps Literal Monomial p literal_nodes.0 literal_monomial.0 literal_monomial_flat.0
-      (threshold_within p (upper p) admitted refl) literal_nodes.1 literal_monomial.1
-      literal_monomial_flat.1
-      (omega (arith, direct_total p admitted)) (direct_size p admitted)
-
-  -- pairs replaced one after another
-  pub formed_by_pairs : IsFormed p (quad_by Literal Rosenberg p) (figures p)
-  formed_by_pairs =
-      formed_by_steps Literal Rosenberg p literal_nodes.0 literal_pair.0 literal_flat.0
-      (threshold_within p (upper p) admitted refl) literal_nodes.1 literal_pair.1 literal_flat.1
-      (omega (arith, pair_total table literal_table, image-total p admitted.within))
-      (omega (arith, pair_size table literal_table, image_size p admitted))
+-- and has room for the Ising form
+pub room_of : (choices : Choices) (p : ProblemContent) → IsNormal p
+    → limit_fault choices.normal p ≡ None → HasRoom (quad_of choices p)
+room_of choices p normal within =
+    let on = problem_has_quad choices.normal choices.high p normal within in
+    record { quad = on.quad; total = omega (arith, on.total) }
 
 -- ---- its model
 
@@ -229,10 +164,7 @@ module _ (z s : ℤ) (four : s ≡ pos 4) (small : unsigned_abs z < 2 ^ 122) whe
       (fits_below (pos 4 *ℤ z) (2 ^ 124) (omega (arith, ints, small)) (omega arith))
 
   pub fits-sum : (b : ℤ) → b ≡ pos 0 → FitsSigned w128 (s *ℤ z +ℤ b)
-  fits-sum b none =
-      subst (λ k. FitsSigned w128 (s *ℤ z +ℤ k)) (sym none)
-      (subst (λ k. FitsSigned w128 (k *ℤ z +ℤ pos 0)) (sym four)
-      (fits_below (pos 4 *ℤ z +ℤ pos 0) (2 ^ 124) (omega (arith, ints, small)) (omega arith)))
+  fits-sum b none = grind (arith, nat_tests, ints)
 
 -- the figures of its Ising form
 pub ising_figures_are_stated : (p : ProblemContent) → unsigned_abs (upper p) ≤ 2 ^ 64
@@ -265,7 +197,7 @@ spins_stand p q kept (d, stands) = (
 
 -- the model of a form that stands for a problem, for each target and in each unit
 made_model : (target : NodeModel) (choice : UnitChoice) (p : ProblemContent) (own : ℕ)
-    (q : QuadContent) → IsQuad q → IsFormed p q (figures p) → own ≤ p.variables
+    (q : QuadContent) → IsQuad q → IsQuadratized p q (figures p) → own ≤ p.variables
     → IsModelOf p own target choice (form_model target choice q own (figures p))
 made_model Qubo choice p own q kept made few =
     let least : own ≤ length q.diagonal = omega (arith, made.enough, few) in
@@ -286,8 +218,8 @@ made_model Ising choice p own q kept made few =
 
 -- the same with figures that are the problem's
 pub formed_model : (target : NodeModel) (choice : UnitChoice) (p : ProblemContent) (own : ℕ)
-    (q : QuadContent) (n : Figures) → IsQuad q → IsFormed p q n → own ≤ p.variables
+    (q : QuadContent) (n : Figures) → IsQuad q → IsQuadratized p q n → own ≤ p.variables
     → IsModelOf p own target choice (form_model target choice q own n)
 formed_model target choice p own q n kept made few =
     subst (λ m. IsModelOf p own target choice (form_model target choice q own m)) (sym made.figures)
-    (made_model target choice p own q kept (subst (λ m. IsFormed p q m) made.figures made) few)
+    (made_model target choice p own q kept (subst (λ m. IsQuadratized p q m) made.figures made) few)

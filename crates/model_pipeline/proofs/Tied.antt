@@ -1,67 +1,40 @@
 -- What is known of an embedded form on its qubits, however its chains are tied.
-use Rattle.std.proofs.Common.{◌≡◌, ◌≤◌, ℕ, ◌+◌, ◌*◌, ◌^◌, true, ℤ, pos, Bool, List, length, All, refl, sym, ap, ◌∙◌, subst}
-use Rattle.std.specs.Prelude.{unsigned_abs}
-use Rattle.std.proofs.lemmas.List.FromFn.{length-map-range_with_len}
-use Rattle.base.specs.declared.costs.Figures.{Figures}
-use Rattle.base.specs.Costs.{Form, IsOf}
-use Rattle.base.specs.Figures.{figures_moved}
+use Rattle.model_pipeline.proofs.Common.{nat_tests, arith, ◌≡◌, ◌≤◌, ℕ, ◌+◌, ◌*◌, ◌^◌, true, ℤ, pos, Bool, List, length, All, refl, sym, ap, ◌∙◌, subst, unsigned_abs, length-map-range_with_len, Figures, Form, IsOf, figures_moved, Decoding, Extends, Reduces, Relaxes, decoding_after, keeps_after_relaxes, reduces_after_relaxes, StandsAtLeast, IsLeast, relaxed_stands, kept_stands, reduced_stands, ChainStrength, IsingContent, IsIsing, ising_total, FitsOutput, Joins, Embedding, IsEmbedding, IsChecked, ChainLink, chains_keep, chains_reach, CutLink, cut_keeps, cut_reaches, cut_is_ising, cut_offset_small, cut_total_grows, cut_fits_output, cut_is_joined, chained_figures, image_tied, offset_tied, LeastStandBy, StandsBy}
 use Rattle.bits_model.specs.declared.output.Kind.TheVariants.{Chimera}
-use Rattle.form_steps.specs.Relations.{Decoding, Extends, Reduces, Relaxes, decoding_after}
-use Rattle.form_steps.specs.laws.Composed.{keeps_after_relaxes, reduces_after_relaxes}
-use Rattle.faithful.specs.AtLeast.{StandsAtLeast}
-use Rattle.form_steps.specs.Least.{IsLeast}
-use Rattle.faithful.proofs.LeastStates.{relaxed_stands}
-use Rattle.faithful.proofs.LeastSteps.{kept_stands, reduced_stands}
-use Rattle.command_words.specs.declared.commands.Ties.{Ties}
-use Rattle.command_words.specs.declared.commands.Ties.TheVariants.{Choi, Cut}
-use Rattle.ising_form.specs.Isings.{IsingContent, IsIsing, ising_total}
+use Rattle.command_words.specs.declared.commands.ChainStrength.TheVariants.{Choi, Cut}
 use Rattle.ising_form.specs.Isings as isings
-use Rattle.ising_form.specs.Outputs.{FitsOutput}
-use Rattle.chain_map.specs.Chains.{Joins}
-use Rattle.embedding_check.specs.Embeddings.{Embedding, IsEmbedding}
-use Rattle.embedding_check.specs.Checked.{IsChecked}
-use Rattle.chain_layer.specs.declared.link.ChainLink.{ChainLink}
 use Rattle.chain_layer.specs.Image as chains
-use Rattle.chain_layer.specs.laws.Kept.{chains_keep, chains_reach}
 use Rattle.chain_layer.proofs.Ordered as choi
 use Rattle.chain_layer.proofs.Sizes as choi_sizes
 use Rattle.chain_layer.proofs.Written as choi_written
-use Rattle.cut_chains.specs.declared.link.CutLink.{CutLink}
-use Rattle.cut_chains.specs.laws.LeastStates.{cut_keeps, cut_reaches}
-use Rattle.cut_chains.proofs.CutSizes.{cut_is_ising, cut_offset_small, cut_total_grows}
-use Rattle.cut_chains.proofs.Joined.{cut_fits_output, cut_is_joined}
-use Rattle.model_pipeline.specs.QubitModels.{chained_figures, image_tied, offset_tied}
-use Rattle.model_pipeline.specs.QubitStanding.{LeastStandBy, StandsBy}
 
 -- ---- the form on the qubits
 
 module _ (e : Embedding) (kept : IsEmbedding e) where
-  pub tied_is_ising : (ties : Ties) → (ising_total e.ising + 1) * 2 ^ 21 ≤ 2 ^ 124
+  pub tied_is_ising : (ties : ChainStrength) → (ising_total e.ising + 1) * 2 ^ 21 ≤ 2 ^ 124
       → IsIsing (image_tied ties e)
   tied_is_ising Choi small = choi.image_is_ising e kept small
   tied_is_ising Cut small = cut_is_ising e kept small
 
-  pub tied_total : (ties : Ties)
+  pub tied_total : (ties : ChainStrength)
       → ising_total (image_tied ties e) + 1 ≤ (ising_total e.ising + 1) * 2 ^ 21
   tied_total Choi = choi_sizes.total_grows e kept
   tied_total Cut = cut_total_grows e kept
 
-  pub tied_offset : (ties : Ties)
+  pub tied_offset : (ties : ChainStrength)
       → unsigned_abs (offset_tied ties e) ≤ (ising_total e.ising + 1) * 2 ^ 20
   tied_offset Choi = choi_sizes.offset_small e kept
   tied_offset Cut = cut_offset_small e kept
 
   -- a model of it can be written on its chains
-  pub tied_fits_output : (ties : Ties) (rows cols shore variables : ℕ)
+  pub tied_fits_output : (ties : ChainStrength) (rows cols shore variables : ℕ)
       → e.qubits ≡ 2 * rows * cols * shore → variables ≤ length e.chains
       → FitsOutput (Chimera rows cols shore) e.chains variables (image_tied ties e)
-  tied_fits_output Choi rows cols shore variables same enough =
-      choi_written.image_fits_output e rows cols shore variables kept same enough
-  tied_fits_output Cut rows cols shore variables same enough =
-      cut_fits_output e rows cols shore variables kept same enough
+  tied_fits_output ties rows cols shore variables same enough =
+      grind (arith, nat_tests, cut_fits_output)
 
 -- its couplings are on joined qubits
-pub tied_is_joined : (ties : Ties) (joined : Joins) (n : ℕ) (f : IsingContent)
+pub tied_is_joined : (ties : ChainStrength) (joined : Joins) (n : ℕ) (f : IsingContent)
     (map : List (List ℕ)) (e : Embedding) → ((a b : ℕ) → joined a b ≡ joined b a)
     → IsChecked joined n f map e
     → All (λ c. joined c.first c.second ≡ true) (image_tied ties e).couplings
@@ -71,7 +44,7 @@ tied_is_joined Cut joined n f map e both_ways checked =
     cut_is_joined joined n f map e both_ways checked
 
 -- it has a field for each qubit
-pub tied_width : (ties : Ties) (e : Embedding) → length (image_tied ties e).fields ≡ e.qubits
+pub tied_width : (ties : ChainStrength) (e : Embedding) → length (image_tied ties e).fields ≡ e.qubits
 tied_width Choi e = length-map-range_with_len (chains.field_at (chains.all_shares e)) 0 e.qubits
 tied_width Cut e = length-map-range_with_len (chains.field_at (chains.all_shares e)) 0 e.qubits
 
@@ -88,7 +61,7 @@ pub link_fits : (e : Embedding) → IsEmbedding e → chains.Fits (link_of e) e
 link_fits e kept = record { chains = refl; qubits = refl; kept = kept }
 
 -- whatever the embedded form relaxes, it stands for
-pub tied_stands : (ties : Ties) (e : Embedding) → IsEmbedding e → (source : Form) (d : Decoding)
+pub tied_stands : (ties : ChainStrength) (e : Embedding) → IsEmbedding e → (source : Form) (d : Decoding)
     (n : Figures) → Relaxes source (isings.form_of e.ising) d (pos 1) n
     → StandsBy ties source (isings.form_of (image_tied ties e))
     (decoding_after d (chains.decoding (link_of e))) (pos 1) (chained_figures ties e n)
@@ -99,7 +72,7 @@ tied_stands Cut e kept source d n relaxed =
     (cut_keeps (cut_link_of e) e (link_fits e kept))
 
 -- the state on all qubits reaches an assignment of the nodes
-pub tied_reach : (ties : Ties) (e : Embedding) (x : List Bool) → IsEmbedding e
+pub tied_reach : (ties : ChainStrength) (e : Embedding) (x : List Bool) → IsEmbedding e
     → length x ≡ length e.ising.fields
     → Extends (isings.form_of e.ising) (isings.form_of (image_tied ties e))
     (chains.decoding (link_of e)) (pos 1) (offset_tied ties e) x (chains.extension e x)
@@ -114,7 +87,7 @@ least_stand_by Cut f g d u n stands = stands
 -- ---- other steps
 
 -- counted in a unit it stands for the same
-pub stands_reduced : (ties : Ties) (f g h : Form) (d : Decoding) (n : Figures) (u b : ℤ)
+pub stands_reduced : (ties : ChainStrength) (f g h : Form) (d : Decoding) (n : Figures) (u b : ℤ)
     → StandsBy ties f g d (pos 1) n → Reduces g h u b
     → StandsBy ties f h d u (figures_moved n b)
 stands_reduced Choi f g h d n u b stands reduces = reduces_after_relaxes stands reduces
@@ -155,7 +128,7 @@ least_alike f g d d' u n same p = record {
 }
 
 -- only what states decode to matters
-pub stands_alike : (ties : Ties) (f g : Form) (d d' : Decoding) (u : ℤ) (n : Figures)
+pub stands_alike : (ties : ChainStrength) (f g : Form) (d d' : Decoding) (u : ℤ) (n : Figures)
     → ((y : List Bool) → d.decoded y ≡ d'.decoded y) → StandsBy ties f g d u n
     → StandsBy ties f g d' u n
 stands_alike Choi f g d d' u n same stands = relaxes_alike f g d d' u n same stands

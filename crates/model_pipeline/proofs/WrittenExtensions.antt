@@ -1,54 +1,17 @@
 -- The state of a written model that an assignment extends to: it decodes to the assignment, and is
 -- least among those that do.
-use Rattle.std.proofs.Common.{◌≡◌, ◌≤◌, ◌<◌, inl, inr, ℕ, Bool, List, [], length, map, All, refl, sym, ap, subst, ◌∙◌, arith}
-use Rattle.std.proofs.lemmas.List.{length-map}
-use Rattle.base.specs.declared.costs.Figures.{Figures}
+use Rattle.model_pipeline.proofs.Common.{nat_tests, ◌≡◌, ◌≤◌, ◌<◌, inl, inr, ℕ, Bool, List, [], length, map, All, refl, sym, ap, subst, ◌∙◌, arith, length-map, Figures, UnitChoice, Form, first_bits, Written, read_off, Decoding, ExtendsLeast, decoding_after, least-trans, Choices, ProblemContent, NodeModel, ChainStrength, figures, same_bits, counted_in, IsingContent, coupled, FitsOutput, ising_unit, length-fields, spins_keeps, spins_reaches, image_is_ising, Chimera, qubits_of, Embedding, IsEmbedding, IsChecked, checked_embeds, chains_keep, chains_reach, read_off_the_chains, IsValidOn, Qubits, fabric_in, graph_in, chained_figures, image_tied, kind_of, offset_tied, qubit_model, ising_figures, model, quad_of, HasRoom, ising_of, ExtendsTo, FitsState, IsLeastExtension, IsLeastTo, IsMade, IsMadeOf, link_by, state_on}
 use Rattle.bits_model.specs.declared.output.Kind.TheVariants as kinds
-use Rattle.base.specs.declared.unit.UnitChoice.{UnitChoice}
 use Rattle.base.specs.declared.unit.UnitChoice.TheVariants.{One, Reduce}
-use Rattle.base.specs.Costs.{Form}
-use Rattle.form_steps.specs.Links.{first_bits}
-use Rattle.bits_model.specs.Output.{Written, read_off}
-use Rattle.form_steps.specs.Relations.{Decoding, ExtendsLeast, decoding_after}
-use Rattle.form_steps.specs.laws.Composed.{least-trans}
-use Rattle.problem_form.specs.declared.limits.Choices.{Choices}
-use Rattle.problem_form.specs.Problems.{ProblemContent}
 use Rattle.problem_form.specs.Problems as problems
-use Rattle.command_words.specs.declared.commands.NodeModel.{NodeModel}
 use Rattle.command_words.specs.declared.commands.NodeModel.TheVariants.{Qubo, Ising}
-use Rattle.command_words.specs.declared.commands.Ties.{Ties}
-use Rattle.command_words.specs.declared.commands.Ties.TheVariants.{Choi}
-use Rattle.penalty_layer.specs.Penalty.{figures}
-use Rattle.quad_form.specs.Flat.{same_bits}
-use Rattle.quad_form.specs.Units.{counted_in}
-use Rattle.ising_form.specs.Isings.{IsingContent}
+use Rattle.command_words.specs.declared.commands.ChainStrength.TheVariants.{Choi}
 use Rattle.ising_form.specs.Isings as isings
-use Rattle.ising_form.specs.Spins.{coupled}
-use Rattle.ising_form.specs.Outputs.{FitsOutput}
-use Rattle.ising_form.specs.Reduction.{ising_unit}
-use Rattle.ising_form.specs.laws.Spun.{length-fields, spins_keeps, spins_reaches}
-use Rattle.ising_form.proofs.Images.{image_is_ising}
-use Rattle.chimera_graph.specs.declared.chimera.Chimera.{Chimera}
-use Rattle.chimera_graph.specs.Graph.{qubits_of}
-use Rattle.embedding_check.specs.Embeddings.{Embedding, IsEmbedding}
-use Rattle.embedding_check.specs.Checked.{IsChecked}
-use Rattle.embedding_check.proofs.Checked.{checked_embeds}
 use Rattle.chain_layer.specs.Image as chains
-use Rattle.chain_layer.specs.laws.Kept.{chains_keep, chains_reach}
-use Rattle.chain_layer.proofs.Written.{read_off_the_chains}
-use Rattle.working_graph.specs.Fabrics.{IsValidOn}
-use Rattle.model_pipeline.specs.declared.site.Qubits.{Qubits}
-use Rattle.model_pipeline.specs.Sites.{fabric_in, graph_in}
-use Rattle.model_pipeline.specs.QubitModels.{chained_figures, image_tied, kind_of, offset_tied, qubit_model}
-use Rattle.model_pipeline.specs.Models.{ising_figures, model, quad_of}
-use Rattle.model_pipeline.specs.Formed.{HasRoom}
-use Rattle.model_pipeline.specs.GraphModels.{ising_of}
-use Rattle.model_pipeline.specs.Extensions.{ExtendsTo, FitsState, IsLeastExtension, IsLeastTo, IsMade, IsMadeOf, link_by, state_on}
-use Rattle.model_pipeline.proofs.OnChains.{reduced_fits}
 use Rattle.model_pipeline.proofs.Sites.{few_in, sized_in}
 use Rattle.model_pipeline.proofs.Standing.{spins_fit, spins_link, steps_enough}
 use Rattle.model_pipeline.proofs.Tied.{link_fits, link_of, tied_fits_output, tied_reach, tied_width}
-use Rattle.model_pipeline.proofs.WrittenStates.{Counts, Follows, extends_written, follows_on, ising_counts, least_follows, least_written, qubo_counts, reduced_counts}
+use Rattle.model_pipeline.proofs.WrittenStates.{Counts, Follows, chained_counts, extends_written, follows_on, least_follows, least_written, qubo_counts}
 
 module _ (choices : Choices) (p : ProblemContent) (room : HasRoom (quad_of choices p)) where
   -- ---- the forms
@@ -98,39 +61,30 @@ module _ (choices : Choices) (p : ProblemContent) (room : HasRoom (quad_of choic
     least_written p.variables source g d n m counts x y least,
   )
 
+  -- on the nodes of a form the state is as it is
+  kept_on : (target : NodeModel) (unit : UnitChoice) (own : ℕ) (y : List Bool)
+      → state_on (model choices target unit own p) y ≡ y
+  kept_on target unit own y = grind (arith, nat_tests)
+
   module _ (own : ℕ) (few : own ≤ p.variables) where
     on_nodes : (target : NodeModel) (unit : UnitChoice) (x y : List Bool)
         → IsLeastExtension choices p x y
         → ExtendsBest (model choices target unit own p) x
         (state_on (model choices target unit own p) y)
-    on_nodes Qubo One x y least =
-        best _ first (figures p) _ x y
-        (qubo_counts One (quad_of choices p) own p.variables (figures p) first (λ z. refl)) least
-    on_nodes Qubo Reduce x y least =
-        best _ first (figures p) _ x y
-        (qubo_counts Reduce (quad_of choices p) own p.variables (figures p) first (λ z. refl)) least
-    on_nodes Ising One x y least =
-        best _ after_spins spun_figures _ x y
-        (ising_counts ising own p.variables spun_figures kinds.Ising [] after_spins (λ z. refl)
+    on_nodes Qubo unit x y least =
+        subst (ExtendsBest (model choices Qubo unit own p) x) (sym (kept_on Qubo unit own y))
+        (best _ first (figures p) _ x y
+        (qubo_counts unit (quad_of choices p) own p.variables (figures p) first (λ z. refl)) least)
+    on_nodes Ising unit x y least =
+        subst (ExtendsBest (model choices Ising unit own p) x) (sym (kept_on Ising unit own y))
+        (best _ after_spins spun_figures _ x y
+        (chained_counts unit ising own p.variables spun_figures kinds.Ising [] after_spins (λ z. refl)
         (refl, omega (arith, same_width, enough, few)))
-        (spun_least x y least)
-    on_nodes Ising Reduce x y least =
-        best _ after_spins spun_figures _ x y
-        (reduced_counts ising own p.variables spun_figures kinds.Ising [] after_spins (λ z. refl) (
-          refl,
-          omega (
-            arith,
-            length-map ising.fields (counted_in (ising_unit ising)),
-            same_width,
-            enough,
-            few,
-          ),
-        ))
-        (spun_least x y least)
+        (spun_least x y least))
 
     -- ---- on chains
 
-    module _ (ties : Ties) (graph : Chimera) (e : Embedding) (kept : IsEmbedding e)
+    module _ (ties : ChainStrength) (graph : Chimera) (e : Embedding) (kept : IsEmbedding e)
         (same : e.ising ≡ ising) (sized : e.qubits ≡ qubits_of graph) (x y : List Bool)
         (least : IsLeastExtension choices p x y) where
       abbrev after_chains : Decoding
@@ -172,13 +126,9 @@ module _ (choices : Choices) (p : ProblemContent) (room : HasRoom (quad_of choic
       counts : (unit : UnitChoice)
           → Counts p.variables (isings.form_of (image_tied ties e)) tied_figures after_chains
           (qubit_model unit ties e own spun_figures (kind_of graph))
-      counts One =
-          ising_counts (image_tied ties e) own p.variables tied_figures (kind_of graph) e.chains
+      counts unit =
+          chained_counts unit (image_tied ties e) own p.variables tied_figures (kind_of graph) e.chains
           after_chains reads on_graph
-      counts Reduce =
-          reduced_counts (image_tied ties e) own p.variables tied_figures (kind_of graph) e.chains
-          after_chains reads
-          (reduced_fits graph.rows graph.cols graph.shore own e.chains (image_tied ties e) on_graph)
 
       model_width : (unit : UnitChoice)
           → (qubit_model unit ties e own spun_figures (kind_of graph)).nodes ≡ e.qubits
@@ -202,18 +152,14 @@ module _ (choices : Choices) (p : ProblemContent) (room : HasRoom (quad_of choic
           (extends_written p.variables source (isings.form_of (image_tied ties e)) after_chains
           tied_figures m (counts unit) x z chained_follows)
 
+      fits_qubits : (nodes : ℕ) → nodes ≡ e.qubits
+          → (length y ≡ length e.chains) × All (λ chain. All (λ q. q < nodes) chain) e.chains
+      fits_qubits nodes all = grind (arith, nat_tests, wide)
+
       fits_chains : (unit : UnitChoice)
           → FitsState (qubit_model unit ties e own spun_figures (kind_of graph)) y
-      fits_chains One = (
-        wide ∙ sym kept.counted,
-        subst (λ n. All (λ chain. All (λ q. q < n) chain) e.chains) (sym (model_width One))
-            kept.within,
-      )
-      fits_chains Reduce = (
-        wide ∙ sym kept.counted,
-        subst (λ n. All (λ chain. All (λ q. q < n) chain) e.chains) (sym (model_width Reduce))
-            kept.within,
-      )
+      fits_chains One = fits_qubits _ (tied_width ties e)
+      fits_chains Reduce = fits_qubits _ (model_width Reduce)
 
     -- chains that no state should break keep every state
     module _ (graph : Chimera) (e : Embedding) (kept : IsEmbedding e) (same : e.ising ≡ ising)
@@ -240,10 +186,7 @@ module _ (choices : Choices) (p : ProblemContent) (room : HasRoom (quad_of choic
 
   fits_nodes : (target : NodeModel) (unit : UnitChoice) (own : ℕ) (y : List Bool)
       → FitsState (model choices target unit own p) y
-  fits_nodes Qubo One own y = tt
-  fits_nodes Qubo Reduce own y = tt
-  fits_nodes Ising One own y = tt
-  fits_nodes Ising Reduce own y = tt
+  fits_nodes target unit own y = grind (arith, nat_tests)
 
   -- what a check gives of a valid map is an embedding
   embeds : (qubits : Qubits) (map : List (List ℕ)) (e : Embedding)

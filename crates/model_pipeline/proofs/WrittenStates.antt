@@ -1,35 +1,15 @@
 -- A written model has the energies of its form, counted in its unit and moved: so a state that is
 -- least for the form is least for the model, and what the form stands for the model does.
-use Rattle.std.proofs.Common.{◌≡◌, ◌⊎◌, inl, inr, ℕ, ℤ, pos, negsuc, ◌+ℤ◌, ◌*ℤ◌, ◌≤ℤ◌, ◌<ℤ◌, Bool, List, take, refl, sym, ap, ◌∙◌, subst, arith}
-use Rattle.std.specs.Prelude.{neg_ℤ}
-use Rattle.std.proofs.lemmas.Int.{ints}
-use Rattle.base.specs.Sums.{total_by}
-use Rattle.base.proofs.Products.{times-lt}
+use Rattle.model_pipeline.proofs.Common.{◌≡◌, ◌⊎◌, inl, inr, ℕ, ℤ, pos, negsuc, ◌+ℤ◌, ◌*ℤ◌, ◌≤ℤ◌, ◌<ℤ◌, Bool, List, take, refl, sym, ap, ◌∙◌, subst, arith, neg_ℤ, ints, total_by, times-lt, Figures, Kind, UnitChoice, Form, IsOf, energy, Written, bits_energy, read_off, spins_energy, Decoding, ExtendsLeast, Reaches, Reduces, decoding_after, figures_after, figures_moved, QuadContent, one_le_quad_unit, IsingContent, FitsOutput, ising_unit, reduced, one_le_ising_unit, made_reduces, written_energy, ChainStrength, decoding_to, chained_model, qubo_model, StandsBy, ExtendsTo, IsLeastTo}
 use Rattle.base.specs.declared.costs.Cost.TheVariants.{Whole}
-use Rattle.base.specs.declared.costs.Figures.{Figures}
-use Rattle.bits_model.specs.declared.output.Kind.{Kind}
-use Rattle.base.specs.declared.unit.UnitChoice.{UnitChoice}
 use Rattle.base.specs.declared.unit.UnitChoice.TheVariants.{One, Reduce}
-use Rattle.base.specs.Costs.{Form, IsOf, energy}
-use Rattle.bits_model.specs.Output.{Written, bits_energy, form_of, read_off, spins_energy}
-use Rattle.form_steps.specs.Relations.{Decoding, ExtendsLeast, Reaches, Reduces, decoding_after}
-use Rattle.base.specs.Figures.{figures_after, figures_moved}
-use Rattle.quad_form.specs.Quads.{QuadContent}
+use Rattle.bits_model.specs.Output.{form_of}
 use Rattle.quad_form.specs.Quads as quads
 use Rattle.quad_form.specs.Units as units
-use Rattle.quad_form.proofs.ReducedForms.{one_le_quad_unit}
 use Rattle.quad_form.proofs.ReducedForms as reduced_quads
-use Rattle.ising_form.specs.Isings.{IsingContent}
 use Rattle.ising_form.specs.Isings as isings
-use Rattle.ising_form.specs.Outputs.{FitsOutput}
 use Rattle.ising_form.specs.Outputs as outputs
-use Rattle.ising_form.specs.Reduction.{ising_unit, reduced}
-use Rattle.ising_form.proofs.ReducedForms.{one_le_ising_unit, made_reduces}
-use Rattle.ising_form.proofs.WrittenModels.{written_energy}
-use Rattle.command_words.specs.declared.commands.Ties.{Ties}
-use Rattle.model_pipeline.specs.Models.{decoding_to, qubo_model}
-use Rattle.model_pipeline.specs.QubitStanding.{StandsBy}
-use Rattle.model_pipeline.specs.Extensions.{ExtendsTo, IsLeastTo}
+use Rattle.model_pipeline.proofs.OnChains.{reduced_fits}
 use Rattle.model_pipeline.proofs.Tied.{stands_alike, stands_reduced}
 
 -- ---- least states
@@ -120,7 +100,7 @@ module _ (variables : ℕ) (f g : Form) (d : Decoding) (n : Figures) (m : Writte
       (least.least z wide (counts.reads z ∙ same))
 
 -- what the form stands for, the model does
-pub stands_written : (ties : Ties) (variables : ℕ) (f g : Form) (d : Decoding) (n : Figures)
+pub stands_written : (ties : ChainStrength) (variables : ℕ) (f g : Form) (d : Decoding) (n : Figures)
     (m : Written) → Counts variables g n d m → StandsBy ties f g d (pos 1) n
     → StandsBy ties f (form_of m) (decoding_to variables m) m.unit m.figures
 stands_written ties variables f g d n m counts stands =
@@ -184,7 +164,7 @@ module _ (f : IsingContent) (own variables : ℕ) (n : Figures) (kind : Kind)
     (chains : List (List ℕ)) (d : Decoding)
     (reads : (y : List Bool) → d.decoded y ≡ read_off kind variables chains y) where
   -- of an Ising form, as it is
-  pub ising_counts : FitsOutput kind chains own f
+  ising_counts : FitsOutput kind chains own f
       → Counts variables (isings.form_of f) n d (outputs.written_of f own n (pos 1) kind chains)
   ising_counts fits = record {
     moved = neg_ℤ f.constant;
@@ -200,7 +180,7 @@ module _ (f : IsingContent) (own variables : ℕ) (n : Figures) (kind : Kind)
   }
 
   -- .. and counted in its unit
-  pub reduced_counts : FitsOutput kind chains own (reduced f)
+  reduced_counts : FitsOutput kind chains own (reduced f)
       → Counts variables (isings.form_of f) n d
       (outputs.written_of (reduced f) own (figures_moved n (neg_ℤ f.constant)) (ising_unit f) kind
       chains)
@@ -221,3 +201,14 @@ module _ (f : IsingContent) (own variables : ℕ) (n : Figures) (kind : Kind)
         figures = still_figures (figures_moved n (neg_ℤ f.constant));
         reads = reads;
       }
+
+-- .. in the unit that is chosen
+pub chained_counts : (choice : UnitChoice) (f : IsingContent) (own variables : ℕ) (n : Figures)
+    (kind : Kind) (chains : List (List ℕ)) (d : Decoding)
+    → ((y : List Bool) → d.decoded y ≡ read_off kind variables chains y)
+    → FitsOutput kind chains own f
+    → Counts variables (isings.form_of f) n d (chained_model choice f own n kind chains)
+chained_counts One f own variables n kind chains d reads fits =
+    ising_counts f own variables n kind chains d reads fits
+chained_counts Reduce f own variables n kind chains d reads fits =
+    reduced_counts f own variables n kind chains d reads (reduced_fits kind own chains f fits)

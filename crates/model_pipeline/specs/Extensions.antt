@@ -17,7 +17,7 @@ use Rattle.problem_form.specs.declared.limits.High.TheVariants.{Monomial, Rosenb
 use Rattle.problem_form.specs.Problems.{ProblemContent}
 use Rattle.problem_form.specs.Problems as problems
 use Rattle.command_words.specs.declared.commands.NodeModel.{NodeModel}
-use Rattle.command_words.specs.declared.commands.Ties.{Ties}
+use Rattle.command_words.specs.declared.commands.ChainStrength.{ChainStrength}
 use Rattle.term_table.specs.Tables.{TableContent}
 use Rattle.penalty_layer.specs.Penalty as penalty
 use Rattle.monomial_layer.specs.Monomials as monomials
@@ -26,7 +26,7 @@ use Rattle.quad_form.specs.Quads as quads
 use Rattle.chain_layer.specs.Image.{on_chains}
 use Rattle.working_graph.specs.Fabrics.{IsValidOn}
 use Rattle.model_pipeline.specs.declared.site.Qubits.{Qubits}
-use Rattle.model_pipeline.specs.declared.site.Perch.TheVariants.{Map}
+use Rattle.model_pipeline.specs.declared.site.ChainSource.TheVariants.{Map}
 use Rattle.model_pipeline.specs.Models.{terms_of, quad_by, ising_figures, model, decoding_to}
 use Rattle.model_pipeline.specs.Sites.{fabric_in}
 use Rattle.model_pipeline.specs.GraphModels.{ising_of, IsFormAt}
@@ -110,22 +110,22 @@ IsMadeOnNodes own choices p m =
 
 -- the model of a problem, with so many variables, on the chains of a valid map that are tied so, on
 -- some qubits and in some unit
-abbrev pub IsMadeOnChains : Ties → ℕ → Choices → ProblemContent → Written → Type 0
+abbrev pub IsMadeOnChains : ChainStrength → ℕ → Choices → ProblemContent → Written → Type 0
 IsMadeOnChains ties own choices p m =
     (unit : UnitChoice) × (qubits : Qubits) × (map : List (List ℕ))
     × IsValidOn (fabric_in qubits) (ising_of choices p) map
-    × IsFormAt (record { qubits = qubits; perch = Map map; ties = ties }) unit (ising_of choices p)
+    × IsFormAt (record { qubits = qubits; chain_source = Map map; ties = ties }) unit (ising_of choices p)
     own (ising_figures (penalty.figures p)) m
 
 -- the model of a problem, with so many of the problem's variables; where it stands on chains, they
 -- are tied so
-abbrev pub IsMadeOf : Ties → ℕ → Choices → ProblemContent → Written → Type 0
+abbrev pub IsMadeOf : ChainStrength → ℕ → Choices → ProblemContent → Written → Type 0
 IsMadeOf ties own choices p m =
     (own ≤ p.variables) × (IsMadeOnNodes own choices p m ⊎ IsMadeOnChains ties own choices p m)
 
 -- the model of a problem, with some of its variables, tied in some way
 abbrev pub IsMade : Choices → ProblemContent → Written → Type 0
-IsMade choices p m = (ties : Ties) × (own : ℕ) × IsMadeOf ties own choices p m
+IsMade choices p m = (ties : ChainStrength) × (own : ℕ) × IsMadeOf ties own choices p m
 
 -- ---- what is promised of it
 

@@ -5,13 +5,28 @@ use Rattle.base.specs.Costs.{Form}
 use Rattle.form_steps.specs.Relations.{Decoding, Relaxes}
 use Rattle.problem_form.specs.Problems.{ProblemContent, form_of}
 use Rattle.problem_form.specs.Limits.{upper}
+use Rattle.term_table.specs.Terms.{terms_total}
+use Rattle.term_table.specs.Tables.{TableContent, AreAdditions, table_size}
 use Rattle.penalty_layer.specs.Penalty as penalty
 use Rattle.quad_form.specs.Quads.{QuadContent, IsQuad, quad_size, quad_total}
 use Rattle.quad_form.specs.Quads as quads
 use Rattle.ising_form.specs.Isings.{IsingContent, IsIsing, ising_size, ising_total}
 use Rattle.ising_form.specs.Isings as isings
+use Rattle.quadratization.specs.Apart.{table_of}
+use Rattle.quadratization.specs.Held.{HeldContent, AreHeld}
 use Rattle.model_pipeline.specs.Models.{ising_figures}
 use Rattle.model_pipeline.specs.QubitStanding.{AreSmall}
+
+-- additions whose sums are a table, so small that each way on to a quadratic form has room for them
+pub record AddTo (t u : TableContent) : Type 0 where
+  pub additions : AreAdditions u
+  pub table : table_of u ≡ t
+  pub total : terms_total u.terms + 1 ≤ 2 ^ 72
+  pub size : table_size t ≤ 2 ^ 26
+
+-- terms that are held in place of a table
+abbrev pub AreHeldFor : TableContent → HeldContent → Type 0
+AreHeldFor t h = (u : TableContent) × AddTo t u × AreHeld u h
 
 -- a form that relaxes a problem in this unit, and whose states decode to their first bits
 pub record Stands (p : ProblemContent) (f : Form) (d : Decoding) (u : ℤ) (n : Figures) : Type 0 where
@@ -31,7 +46,7 @@ pub record HaveRoom (n : Figures) : Type 0 where
 
 -- a quadratic form that relaxes a problem with the problem's figures, and has room for the steps to
 -- a model: four times its total, and on chains 2 ^ 21 times that, stay below 2 ^ 121
-pub record IsFormed (p : ProblemContent) (q : QuadContent) (n : Figures) : Type 0 where
+pub record IsQuadratized (p : ProblemContent) (q : QuadContent) (n : Figures) : Type 0 where
   pub figures : n ≡ penalty.figures p
   pub threshold : unsigned_abs (upper p) ≤ 2 ^ 64
   pub enough : p.variables ≤ length q.diagonal
@@ -43,7 +58,7 @@ pub record IsFormed (p : ProblemContent) (q : QuadContent) (n : Figures) : Type 
 
 -- an Ising form that relaxes a problem with four times the problem's figures, and has room for the
 -- steps to a model on chains
-pub record IsSpun (p : ProblemContent) (f : IsingContent) (n : Figures) : Type 0 where
+pub record IsIsingOf (p : ProblemContent) (f : IsingContent) (n : Figures) : Type 0 where
   pub figures : n ≡ ising_figures (penalty.figures p)
   pub kept : IsIsing f
   pub enough : p.variables ≤ length f.fields

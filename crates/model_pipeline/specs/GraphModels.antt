@@ -11,7 +11,7 @@ use Rattle.problem_form.specs.declared.limits.Choices.{Choices}
 use Rattle.problem_form.specs.Problems.{ProblemContent}
 use Rattle.problem_form.specs.Problems as problems
 use Rattle.problem_form.specs.Limits.{upper}
-use Rattle.command_words.specs.declared.commands.Ties.{Ties}
+use Rattle.command_words.specs.declared.commands.ChainStrength.{ChainStrength}
 use Rattle.penalty_layer.specs.Penalty as penalty
 use Rattle.ising_form.specs.Isings.{IsingContent}
 use Rattle.ising_form.specs.Spins as spins
@@ -32,7 +32,7 @@ ising_of choices p = spins.image (quad_of choices p)
 -- a well-formed model on this graph whose numbers fit their fields, all of them below 2 ^ 124 and
 -- its energies below 2 ^ 121 in size, with so many variables, the stated figures, the unit that was
 -- chosen and the chains of the map, which stands for the problem in this unit as its ties allow
-pub record IsGraphModelOf (p : ProblemContent) (own : ℕ) (choice : UnitChoice) (ties : Ties)
+pub record IsGraphModelOf (p : ProblemContent) (own : ℕ) (choice : UnitChoice) (ties : ChainStrength)
     (graph : Chimera) (fabric : Fabric) (map : List (List ℕ)) (m : Written) : Type 0 where
   pub kind : m.kind ≡ kind_of graph
   pub fits : FitsFields m
@@ -48,21 +48,21 @@ pub record IsGraphModelOf (p : ProblemContent) (own : ℕ) (choice : UnitChoice)
 
 -- the chains that a site has for the Ising form of a problem
 abbrev pub site_chains : Site → Choices → ProblemContent → List (List ℕ)
-site_chains site choices p = chains_of site.qubits site.perch (length (ising_of choices p).fields)
+site_chains site choices p = chains_of site.qubits site.chain_source (length (ising_of choices p).fields)
 
 -- the model of an Ising form at a site, as a check embeds it on the site's chains; so many of its
 -- variables are the source's own
 abbrev pub IsFormAt : Site → UnitChoice → IsingContent → ℕ → Figures → Written → Type 0
 IsFormAt site unit form own figures m =
     (e : Embedding) × IsChecked (fabric_in site.qubits).joined (fabric_in site.qubits).qubits form
-    (chains_of site.qubits site.perch (length form.fields)) e
+    (chains_of site.qubits site.chain_source (length form.fields)) e
     × (m ≡ qubit_model unit site.ties e own figures (kind_of (graph_in site.qubits)))
 
 -- the same, as a model that stands for the form as the site's ties allow
 abbrev pub StandsForForm : Site → UnitChoice → IsingContent → ℕ → Figures → Written → Type 0
 StandsForForm site unit form own figures m =
     IsQubitModelOf form figures own unit site.ties (graph_in site.qubits) (fabric_in site.qubits)
-    (chains_of site.qubits site.perch (length form.fields)) m
+    (chains_of site.qubits site.chain_source (length form.fields)) m
 
 -- a model at a site that stands for the problem
 abbrev pub StandsAt : Site → Choices → UnitChoice → ℕ → ProblemContent → Written → Type 0

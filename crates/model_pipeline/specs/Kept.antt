@@ -4,8 +4,8 @@ use Rattle.problem_form.specs.declared.limits.Choices.{Choices}
 use Rattle.problem_form.specs.declared.limits.Normal.{Normal}
 use Rattle.problem_form.specs.declared.limits.High.{High}
 use Rattle.problem_form.specs.Problems.{ProblemContent}
-use Rattle.direct_quad.specs.declared.new_nodes.NewNodes.{NewNodes}
-use Rattle.direct_quad.specs.NewNodes.{with_new_bits}
+use Rattle.quadratization.specs.declared.new_nodes.NewNodes.{NewNodes}
+use Rattle.quadratization.specs.NewNodes.{with_new_bits}
 use Rattle.model_pipeline.specs.declared.kept.FormSteps.{FormSteps}
 use Rattle.model_pipeline.specs.declared.kept.Keeping.{Keeping}
 use Rattle.model_pipeline.specs.declared.kept.Keeping.TheVariants.{Unwanted, Wanted, Kept}

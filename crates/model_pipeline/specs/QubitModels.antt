@@ -7,8 +7,8 @@ use Rattle.base.specs.declared.unit.UnitChoice.{UnitChoice}
 use Rattle.base.specs.declared.unit.UnitChoice.TheVariants.{One, Reduce}
 use Rattle.base.specs.Figures.{figures_after, figures_moved}
 use Rattle.bits_model.specs.Output.{Written}
-use Rattle.command_words.specs.declared.commands.Ties.{Ties}
-use Rattle.command_words.specs.declared.commands.Ties.TheVariants.{Choi, Cut}
+use Rattle.command_words.specs.declared.commands.ChainStrength.{ChainStrength}
+use Rattle.command_words.specs.declared.commands.ChainStrength.TheVariants.{Choi, Cut}
 use Rattle.ising_form.specs.Isings.{IsingContent}
 use Rattle.ising_form.specs.Outputs as isings
 use Rattle.ising_form.specs.Reduction as reduction
@@ -25,21 +25,21 @@ kind_of graph = kinds.Chimera graph.rows graph.cols graph.shore
 
 -- how strong the tie of a node's qubit is: so strong that no broken tie pays, or as strong as its
 -- lighter side asks
-abbrev pub strength_by : Ties → Embedding → ℕ → ℕ → ℕ
+abbrev pub strength_by : ChainStrength → Embedding → ℕ → ℕ → ℕ
 strength_by Choi e = λ node q. chains.strength e node
 strength_by Cut e = cut_strength e
 
 -- an embedded form on the qubits, with these ties
-abbrev pub image_tied : Ties → Embedding → IsingContent
+abbrev pub image_tied : ChainStrength → Embedding → IsingContent
 image_tied ties e = chains.image_by (strength_by ties e) e
 
 -- what the ties give where none is broken
-abbrev pub offset_tied : Ties → Embedding → ℤ
+abbrev pub offset_tied : ChainStrength → Embedding → ℤ
 offset_tied ties e = chains.offset_by (strength_by ties e) e
 
 -- how the energies on chains stand for costs: as those of the embedded form do, but lower by what
 -- the ties give
-abbrev pub chained_figures : Ties → Embedding → Figures → Figures
+abbrev pub chained_figures : ChainStrength → Embedding → Figures → Figures
 chained_figures ties e figures = figures_after figures (pos 1) (offset_tied ties e)
 
 -- ---- a model
@@ -55,7 +55,7 @@ chained_model Reduce f variables figures kind chains =
 
 -- the model of an embedded Ising form on the qubits of a graph: its energies are lower than those of
 -- the embedded form by what the ties give
-abbrev pub qubit_model : UnitChoice → Ties → Embedding → ℕ → Figures → Kind → Written
+abbrev pub qubit_model : UnitChoice → ChainStrength → Embedding → ℕ → Figures → Kind → Written
 qubit_model unit ties e variables figures kind =
     chained_model unit (chains.image_by (strength_by ties e) e) variables
     (figures_after figures (pos 1) (chains.offset_by (strength_by ties e) e)) kind e.chains

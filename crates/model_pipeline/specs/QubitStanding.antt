@@ -9,8 +9,8 @@ use Rattle.faithful.specs.AtLeast.{StandsAtLeast}
 use Rattle.faithful.specs.Bounds.{IsBounded}
 use Rattle.faithful.specs.Faithful.{Demand, HasUnit, IsEmbedded}
 use Rattle.model_text.specs.Rows.{FitsFields}
-use Rattle.command_words.specs.declared.commands.Ties.{Ties}
-use Rattle.command_words.specs.declared.commands.Ties.TheVariants.{Choi, Cut}
+use Rattle.command_words.specs.declared.commands.ChainStrength.{ChainStrength}
+use Rattle.command_words.specs.declared.commands.ChainStrength.TheVariants.{Choi, Cut}
 use Rattle.ising_form.specs.Isings.{IsingContent, ising_total}
 use Rattle.ising_form.specs.Isings as isings
 use Rattle.chimera_graph.specs.declared.chimera.Chimera.{Chimera}
@@ -32,18 +32,18 @@ demand_of choice fabric map = record {
 
 -- every state stands for what it is read as; where ties are as strong as their lighter sides ask,
 -- the least states do
-abbrev pub StandsBy : Ties → Form → Form → Decoding → ℤ → Figures → Type 0
+abbrev pub StandsBy : ChainStrength → Form → Form → Decoding → ℤ → Figures → Type 0
 StandsBy Choi f g d u n = Relaxes f g d u n
 StandsBy Cut f g d u n = StandsAtLeast f g d u n
 
 -- however the ties are, the least states stand for the least assignments
 abbrev pub LeastStandBy : Type 0
-LeastStandBy = (ties : Ties) (f g : Form) (d : Decoding) (u : ℤ) (n : Figures)
+LeastStandBy = (ties : ChainStrength) (f g : Form) (d : Decoding) (u : ℤ) (n : Figures)
     → StandsBy ties f g d u n → StandsAtLeast f g d u n
 
 -- whatever source the Ising form relaxes, with these figures and by its first bits, the model
 -- stands for too, in its own unit, with its own figures and by its chains
-abbrev pub StandsForWhat : Ties → IsingContent → Figures → Written → Type 0
+abbrev pub StandsForWhat : ChainStrength → IsingContent → Figures → Written → Type 0
 StandsForWhat ties f n m =
     (source : Form) (d : Decoding) (variables : ℕ) → variables ≤ length f.fields
     → ((y : List Bool) → d.decoded y ≡ take variables y) → source.bits ≡ variables
@@ -70,7 +70,7 @@ pub record HasChainRoom (f : IsingContent) (n : Figures) : Type 0 where
 -- was chosen and the chains of the map, which stands for what the form relaxes, and is bounded where
 -- the form has room
 pub record IsQubitModelOf (f : IsingContent) (n : Figures) (own : ℕ) (choice : UnitChoice)
-    (ties : Ties) (graph : Chimera) (fabric : Fabric) (map : List (List ℕ)) (m : Written)
+    (ties : ChainStrength) (graph : Chimera) (fabric : Fabric) (map : List (List ℕ)) (m : Written)
     : Type 0 where
   pub kind : m.kind ≡ kind_of graph
   pub fits : FitsFields m

@@ -14,8 +14,8 @@ use Rattle.working_graph.specs.Places.{taken_places, working_clique}
 use Rattle.working_graph.specs.Working.{fabric_of}
 use Rattle.model_pipeline.specs.declared.site.Qubits.{Qubits}
 use Rattle.model_pipeline.specs.declared.site.Qubits.TheVariants as which
-use Rattle.model_pipeline.specs.declared.site.Perch.{Perch}
-use Rattle.model_pipeline.specs.declared.site.Perch.TheVariants.{Clique, Map}
+use Rattle.model_pipeline.specs.declared.site.ChainSource.{ChainSource}
+use Rattle.model_pipeline.specs.declared.site.ChainSource.TheVariants.{Clique, Map}
 use Rattle.model_pipeline.specs.declared.site.Site.{Site}
 
 -- ---- the qubits
@@ -51,23 +51,23 @@ clique_in (which.All graph) nodes = clique_of graph nodes
 clique_in (which.Working w) nodes = working_clique w nodes
 
 -- the chains of so many nodes: those of the clique, or of the map
-abbrev pub chains_of : Qubits → Perch → ℕ → List (List ℕ)
+abbrev pub chains_of : Qubits → ChainSource → ℕ → List (List ℕ)
 chains_of qubits Clique nodes = clique_in qubits nodes
 chains_of qubits (Map map) nodes = map
 
 -- ---- whether a form has a place
 
 -- each node has a place, or the map is a valid embedding
-abbrev pub CanStandAt : Qubits → Perch → IsingContent → Type 0
+abbrev pub CanStandAt : Qubits → ChainSource → IsingContent → Type 0
 CanStandAt qubits Clique form = length form.fields ≤ places_in qubits
 CanStandAt qubits (Map map) form = IsValidOn (fabric_in qubits) form map
 
 -- the same, for the qubits and the chains of a site
 abbrev pub CanStandBy : Site → IsingContent → Type 0
-CanStandBy site form = CanStandAt site.qubits site.perch form
+CanStandBy site form = CanStandAt site.qubits site.chain_source form
 
 -- why it has none: there are too few places, or what is wrong with the map first
-abbrev pub IsFaultAt : Qubits → Perch → IsingContent → EmbedFault → Type 0
+abbrev pub IsFaultAt : Qubits → ChainSource → IsingContent → EmbedFault → Type 0
 IsFaultAt qubits Clique form fault =
     (places_in qubits < length form.fields)
     × (fault ≡ TooManyNodes (length form.fields) (places_in qubits))
@@ -75,4 +75,4 @@ IsFaultAt qubits (Map map) form fault = IsFaultOn (fabric_in qubits) form map fa
 
 -- the same, for the qubits and the chains of a site
 abbrev pub IsFaultBy : Site → IsingContent → EmbedFault → Type 0
-IsFaultBy site form fault = IsFaultAt site.qubits site.perch form fault
+IsFaultBy site form fault = IsFaultAt site.qubits site.chain_source form fault

@@ -18,7 +18,7 @@ ghost use Rattle.model_pipeline.specs.Sites.{
   IsFaultAt,
 };
 
-use crate::site::{Perch, Qubits};
+use crate::site::{ChainSource, Qubits};
 use chain_map::{ChainMap, CheckAnswer};
 use embedding_check::{Embedded, check};
 use ising_form::Ising;
@@ -32,7 +32,7 @@ fn clique_on_working(alloc: Global, working: &Working, form: Ising) -> Result<Em
         (working_clique working.now (length form.fields))) }
     ensures fits { IfOk result (λ _. length form.fields ≤ length (taken_places working.now)) }
     ensures refused { IfErr result (λ e. IfFault e
-        (IsFaultAt (Qubits.Working working.now) Perch.Clique form)) }
+        (IsFaultAt (Qubits.Working working.now) ChainSource.Clique form)) }
 {
     let map = clique_working(alloc, working, form.fields.as_slice().len())?;
     check_working(alloc, working, form, &map)
@@ -45,7 +45,7 @@ fn on_clique(alloc: Global, qubits: &Qubits, form: Ising) -> Result<Embedded, Ch
         (fabric_in qubits.now).qubits form (clique_in qubits.now (length form.fields))) }
     ensures fits { IfOk result (λ _. length form.fields ≤ places_in qubits.now) }
     ensures refused { IfErr result (λ e. IfFault e
-        (IsFaultAt qubits.now Perch.Clique form)) }
+        (IsFaultAt qubits.now ChainSource.Clique form)) }
 {
     match qubits {
         Qubits::All(graph) => clique_embedded(alloc, graph, form),
@@ -77,19 +77,19 @@ fn on_map(
 pub fn embedded_on(
     alloc: Global,
     qubits: &Qubits,
-    perch: &Perch,
+    chain_source: &ChainSource,
     form: Ising,
 ) -> Result<Embedded, CheckAnswer>
     ensures checked { IfOk result (IsChecked (fabric_in qubits.now).joined
         (fabric_in qubits.now).qubits form
-        (chains_of qubits.now perch.now (length form.fields))) }
-    ensures can_stand { IfOk result (λ _. CanStandAt qubits.now perch.now form) }
-    ensures fault { IfErr result (λ e. IfFault e (IsFaultAt qubits.now perch.now form)) }
+        (chains_of qubits.now chain_source.now (length form.fields))) }
+    ensures can_stand { IfOk result (λ _. CanStandAt qubits.now chain_source.now form) }
+    ensures fault { IfErr result (λ e. IfFault e (IsFaultAt qubits.now chain_source.now form)) }
     ensures refused { IfErr result (λ e. IfFault e (λ _.
-        CanStandAt qubits.now perch.now form → ⊥)) }
+        CanStandAt qubits.now chain_source.now form → ⊥)) }
 {
-    match perch {
-        Perch::Clique => on_clique(alloc, qubits, form),
-        Perch::Map(map) => on_map(alloc, qubits, form, map),
+    match chain_source {
+        ChainSource::Clique => on_clique(alloc, qubits, form),
+        ChainSource::Map(map) => on_map(alloc, qubits, form, map),
     }
 }

@@ -2,8 +2,8 @@
 ghost use Rattle.std.specs.Prelude.{◌≡◌};
 ghost use Rattle.model_pipeline.specs.Kept.{kept_in};
 
-use direct_quad::NewNodes;
 use problem_form::Choices;
+use quadratization::NewNodes;
 
 /// The steps by which a form was made, and its new nodes.
 #[derive(Drop)]

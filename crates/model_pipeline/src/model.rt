@@ -4,7 +4,7 @@ ghost use Rattle.problem_form.specs.Limits.{limit_fault};
 ghost use Rattle.model_pipeline.specs.Models.{model, IsModelOf};
 ghost use Rattle.model_pipeline.specs.Kept.{Keeps};
 
-use crate::forms::formed;
+use crate::forms::quadratized;
 use crate::held::Held;
 use crate::kept::Keeping;
 use crate::written::form_model;
@@ -32,6 +32,6 @@ pub fn model_of<P: Held>(
     ensures kept { OnOk result (Keeps choices.now (P.problem problem) kept.old kept.new) }
 {
     let variables = variables as u32;
-    let made = formed(alloc, problem, choices, kept)?;
-    form_model(alloc, made.quad, variables, made.figures, target, unit)
+    let made = quadratized(alloc, problem, choices, kept)?;
+    form_model(alloc, made, variables, target, unit)
 }

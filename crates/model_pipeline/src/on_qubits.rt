@@ -17,7 +17,7 @@ use crate::embedding::embedded_on;
 use crate::held::Held;
 use crate::kept::Keeping;
 use crate::site::{Site, graph_in};
-use crate::spins::spun;
+use crate::spins::to_ising;
 use base::{Figures, UnitChoice};
 use bits_model::OutputModel;
 use chain_map::CheckAnswer;
@@ -48,7 +48,7 @@ pub fn form_on_qubits(
     ensures fault { IfErr result (λ e. IfFault e (IsFaultBy site.now form)) }
     ensures refused { IfErr result (λ e. IfFault e (λ _. CanStandBy site.now form → ⊥)) }
 {
-    let embedded = embedded_on(alloc, &site.qubits, &site.perch, form)?;
+    let embedded = embedded_on(alloc, &site.qubits, &site.chain_source, form)?;
     let graph = graph_in(&site.qubits);
     Ok(embedded_model(alloc, embedded, own, figures, unit, site.ties, &graph)?)
 }
@@ -80,6 +80,6 @@ pub fn model_on_qubits<P: Held>(
         CanStandBy site.now (ising_of choices.now (P.problem problem)) → ⊥)) }
 {
     let variables = variables as u32;
-    let made = spun(alloc, problem, choices, kept)?;
-    form_on_qubits(alloc, made.ising, variables, made.figures, unit, site)
+    let made = to_ising(alloc, problem, choices, kept)?;
+    form_on_qubits(alloc, made.target, variables, made.figures, unit, site)
 }

@@ -4,7 +4,7 @@ ghost use Rattle.model_pipeline.specs.Sites.{graph_in};
 
 use chain_map::ChainMap;
 use chimera_graph::Chimera;
-use command_words::Ties;
+use command_words::ChainStrength;
 use working_graph::Working;
 
 /// The qubits that chains may stand on: all those of a graph, or those of it that work.
@@ -16,7 +16,7 @@ pub enum Qubits {
 
 /// Where chains come from: they are those of a clique, or of a map.
 #[derive(Drop)]
-pub enum Perch {
+pub enum ChainSource {
     Clique,
     Map(ChainMap),
 }
@@ -25,8 +25,8 @@ pub enum Perch {
 #[derive(Drop)]
 pub struct Site {
     pub qubits: Qubits,
-    pub perch: Perch,
-    pub ties: Ties,
+    pub chain_source: ChainSource,
+    pub ties: ChainStrength,
 }
 
 /// The graph of the qubits.

@@ -12,7 +12,7 @@ ghost use Rattle.model_pipeline.specs.Extensions.{
   IsMadeOf,
 };
 ghost use Rattle.model_pipeline.specs.Kept.{AreNewOf};
-ghost use Rattle.command_words.specs.declared.commands.Ties.TheVariants.{Choi};
+ghost use Rattle.command_words.specs.declared.commands.ChainStrength.TheVariants.{Choi};
 
 use crate::extending::extended;
 use crate::kept::FormSteps;

@@ -6,9 +6,9 @@ ghost use Rattle.problem_form.specs.Problems.{problem_total};
 use base::{NoMemory, UnitChoice};
 use bits_model::OutputModel;
 use chimera_graph::Chimera;
-use command_words::{NodeModel, Ties};
+use command_words::{ChainStrength, NodeModel};
 use literal_lists::Literal;
-use model_pipeline::{Keeping, Perch, Qubits, Site, model_of, model_on_qubits};
+use model_pipeline::{ChainSource, Keeping, Qubits, Site, model_of, model_on_qubits};
 use problem_form::{Choices, High, Normal, Problem, check_limits};
 use std::alloc::Global;
 
@@ -197,8 +197,8 @@ pub fn model_for(alloc: Global, problem: &Problem, target: Target) -> Option<Out
         Target::Chimera(rows, cols, shore) => {
             let site = Site {
                 qubits: Qubits::All(Chimera::new(rows, cols, shore)?),
-                perch: Perch::Clique,
-                ties: Ties::Choi,
+                chain_source: ChainSource::Clique,
+                ties: ChainStrength::Choi,
             };
             model_at(alloc, problem, problem.variables, &site)
         }

@@ -7,8 +7,8 @@ use base::NoMemory;
 use bits_model::OutputModel;
 use chain_map::ChainMap;
 use chimera_graph::Chimera;
-use command_words::{NodeModel, Ties};
-use model_pipeline::{Perch, Qubits, Site};
+use command_words::{ChainStrength, NodeModel};
+use model_pipeline::{ChainSource, Qubits, Site};
 use problem_form::Problem;
 use std::alloc::Global;
 use std::test::Fail;
@@ -97,7 +97,7 @@ fn are_read_there(
     alloc: Global,
     problem: &Problem,
     row: Row,
-    ties: Ties,
+    ties: ChainStrength,
     variables: u64,
 ) -> Result<bool, NoMemory>
     requires { variables ≤ problem.now.variables }
@@ -108,7 +108,7 @@ fn are_read_there(
     };
     let site = Site {
         qubits: Qubits::All(graph),
-        perch: Perch::Map(map_of(alloc, chains)?),
+        chain_source: ChainSource::Map(map_of(alloc, chains)?),
         ties,
     };
     Ok(are_read_off(
@@ -119,7 +119,12 @@ fn are_read_there(
 }
 
 /// The same of three nodes.
-fn are_read_on(alloc: Global, row: Row, ties: Ties, variables: u64) -> Result<bool, NoMemory>
+fn are_read_on(
+    alloc: Global,
+    row: Row,
+    ties: ChainStrength,
+    variables: u64,
+) -> Result<bool, NoMemory>
     requires { variables ≤ 3 }
 {
     let problem = problem_of_three(alloc, &WEIGHTS)?;
@@ -136,7 +141,7 @@ const ROWS: [Row; 4] = [
 #[test]
 fn broken_and_tied_chains_are_read(rt: HostRuntime) -> Result<(), Fail> {
     for row in ROWS {
-        for ties in [Ties::Choi, Ties::Cut] {
+        for ties in [ChainStrength::Choi, ChainStrength::Cut] {
             for variables in 0..4 {
                 let read = are_read_on(rt.alloc(), row, ties, variables)?;
                 assert!(rt; read, "{row:?} {variables}");

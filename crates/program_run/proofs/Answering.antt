@@ -1,52 +1,12 @@
 -- What is asked of the model of a command's plan answers the command.
-use Rattle.std.proofs.Common.{◌≡◌, ℕ, ℤ, pos, ◌*ℤ◌, ◌≤ℤ◌, Bool, List, length, take, Ok, Some, None, refl, sym, ap, ◌∙◌, subst, arith}
-use Rattle.std.proofs.lemmas.Int.{ints, by_lt_z}
-use Rattle.std.specs.declared.option.Option.{Option}
-use Rattle.edge_io.specs.Held.{NamedFiles}
-use Rattle.base.specs.declared.unit.UnitChoice.{UnitChoice}
-use Rattle.base.specs.Costs.{Form, IsOf, Source, energy}
-use Rattle.base.proofs.Products.{times-lt}
-use Rattle.form_steps.specs.Relations.{Relaxes}
-use Rattle.bits_model.specs.Output.{Written, IsWellFormed, form_of, decoding_of}
-use Rattle.faithful.specs.Faithful.{Demand, Faithful, HasChains}
-use Rattle.form_steps.specs.Least.{IsLeastState}
-use Rattle.faithful.proofs.Told.{least_states_tell, length-read_off}
-use Rattle.problem_form.specs.declared.limits.Choices.{Choices}
-use Rattle.problem_form.specs.Problems.{ProblemContent, cut_off, own_cost}
+use Rattle.program_run.proofs.Common.{nat_tests, ◌≡◌, ℕ, ℤ, pos, ◌*ℤ◌, ◌≤ℤ◌, Bool, List, length, take, Ok, Some, None, refl, sym, ap, ◌∙◌, subst, arith, ints, by_lt_z, Option, NamedFiles, UnitChoice, Form, IsOf, Source, energy, times-lt, Relaxes, Written, IsWellFormed, form_of, decoding_of, Demand, Faithful, HasChains, IsLeastState, least_states_tell, length-read_off, Choices, ProblemContent, cut_off, own_cost, FitsFields, model_text, IsTextOf, texts_tell_models, decoding_text, extension_text, proof_text, solution_text, Format, NodeModel, Ask, WordAt, ChainStrength, most_of, text_at, Command, Read, CostsAs, StandsFor, bounded, carried, names_of, names_read, problem_stands, problem_costs, ising_of, ExtendsTo, IsLeastTo, IsMadeOf, Placement, Plan, ties_of, demand_of, form_in, StandsOn, Last, Nothing, Bits, InOrder, Several, bits_step, gives, checking, placing, planning, last_step, format_in, IsSmall, bounded_cost, judgement_by, read_cost, IsExtendedBy, IsModelled, IsModelText, IsOfModel, IsSolvedBy, IsTold, IsMadeText, EveryStateStands, judgement_of, IsFirstBy, Extends, IsAnswer, IsAskedOf, IsDecoded, IsExtended, IsLeastAsked, IsLeastExtension, IsLeastWhereWhole, IsModelFor, IsProved, IsSolved, TellsSource, bits_were, bound}
 use Rattle.problem_form.specs.Problems as problems
-use Rattle.model_text.specs.Rows.{FitsFields, model_text}
-use Rattle.model_text.specs.Told.{IsTextOf}
-use Rattle.model_text.proofs.ModelRows.{texts_tell_models}
-use Rattle.answer_text.specs.Answers.{decoding_text, extension_text, proof_text, solution_text}
-use Rattle.command_words.specs.declared.commands.Format.{Format}
 use Rattle.command_words.specs.declared.commands.Format.TheVariants as formats
-use Rattle.command_words.specs.declared.commands.NodeModel.{NodeModel}
-use Rattle.command_words.specs.declared.commands.NodeModel.TheVariants.{Qubo, Ising}
-use Rattle.command_words.specs.declared.commands.Ask.{Ask}
 use Rattle.command_words.specs.declared.commands.Ask.TheVariants.{Model, Summary, Size, Solve, Decode, Evaluate, Extend, Prove}
-use Rattle.command_words.specs.declared.commands.WordAt.{WordAt}
-use Rattle.command_words.specs.declared.commands.Ties.{Ties}
-use Rattle.command_words.specs.declared.commands.Ties.TheVariants.{Choi, Cut}
-use Rattle.command_words.specs.Bounds.{most_of}
-use Rattle.command_words.specs.Names.{text_at}
-use Rattle.command_words.specs.declared.commands.Command.{Command}
-use Rattle.source_texts.specs.declared.reading.Read.{Read}
-use Rattle.source_texts.specs.Sources.{CostsAs, StandsFor, bounded, carried, names_of}
-use Rattle.source_texts.proofs.Standing.{names_read, problem_stands, problem_costs}
+use Rattle.command_words.specs.declared.commands.ChainStrength.TheVariants.{Choi, Cut}
 use Rattle.model_pipeline.specs.Models as models
-use Rattle.model_pipeline.specs.GraphModels.{ising_of}
-use Rattle.model_pipeline.specs.Extensions.{ExtendsTo, IsLeastTo, IsMadeOf}
-use Rattle.run_steps.specs.declared.placements.Placement.{Placement}
 use Rattle.run_steps.specs.declared.placements.Placement.TheVariants.{Nodes, Qubits}
-use Rattle.run_steps.specs.declared.plans.Plan.{Plan}
-use Rattle.run_steps.specs.Placements.{ties_of, demand_of}
-use Rattle.run_steps.specs.Plans.{form_in, StandsOn}
-use Rattle.run_steps.proofs.Planned.{plan_of}
-use Rattle.run_steps.specs.Steps.{◌>>=◌, Last, Nothing, Bits, InOrder, Several, bits_step, gives, checking, placing, planning, last_step, format_in}
-use Rattle.state_scores.specs.Scores.{IsSmall}
-use Rattle.program_run.specs.Made.{bounded_cost, judgement_by, read_cost, IsExtendedBy, IsModelled, IsModelText, IsOfModel, IsSolvedBy, IsTold, IsMadeText}
-use Rattle.program_run.specs.Answers.{EveryStateStands, judgement_of, IsFirstBy, Extends, IsAnswer, IsAskedOf, IsDecoded, IsExtended, IsLeastAsked, IsLeastExtension, IsLeastWhereWhole, IsModelFor, IsProved, IsSolved, TellsSource}
-use Rattle.run_steps.proofs.Stepping.{bits_were, bound}
+use Rattle.run_steps.specs.Steps.{◌>>=◌}
 use Rattle.program_run.proofs.Scored.{alike_where_wide, scanned_widths, scored_alike}
 use Rattle.program_run.proofs.SmallCosts.{cost_is_small}
 use Rattle.program_run.proofs.Wanted.{HasSoft, costs_wanted, soft_read, soft_wanted, stands_wanted, wanted_names}
@@ -56,6 +16,11 @@ use Rattle.program_run.proofs.Asked.{IsProvedState, stated_width, proved_is, pro
 use Rattle.program_run.proofs.Stood.{alike, model_stands}
 
 -- ---- what a plan is of
+
+-- the plan of what is read and chosen
+abbrev plan_of : Read → Choices → UnitChoice → Placement → Plan
+plan_of read choices unit base =
+    record { read = read; choices = choices; unit = unit; base = base }
 
 -- the plan has what was read and chosen
 pub record IsPlanned (words : List (List ℕ)) (held : NamedFiles) (command : Command) (plan : Plan)
@@ -87,10 +52,7 @@ planned_is words held command plan e =
 
 no_chains : (target : NodeModel) (unit : UnitChoice) (nodes : ℕ) (m : Written)
     → m.kind ≡ models.kind_of target → HasChains m.kind (demand_of unit (Nodes target) nodes) m
-no_chains Qubo unit nodes m kind =
-    subst (λ k. HasChains k (demand_of unit (Nodes Qubo) nodes) m) (sym kind) tt
-no_chains Ising unit nodes m kind =
-    subst (λ k. HasChains k (demand_of unit (Nodes Ising) nodes) m) (sym kind) tt
+no_chains target unit nodes m kind = grind (arith, nat_tests)
 
 stands_on : (base : Placement) (choices : Choices) (unit : UnitChoice) (s : Source) (r : Read)
     (m : Written) → StandsFor s r → StandsOn base choices unit r.variables r.problem m
@@ -184,9 +146,7 @@ module _ (plan : Plan) (s : Source) (m : Written) (names : Option (List (List �
   decoded_bounded : (y : List Bool) → length y ≡ m.nodes
       → bounded_cost plan.read ((decoding_of m).decoded y)
       ≡ (bounded most s).form.cost ((decoding_of m).decoded y)
-  decoded_bounded y w =
-      ap (λ n. cut_off n (read_cost plan.read ((decoding_of m).decoded y))) has
-      ∙ ap (cut_off most) (decoded_cost y w)
+  decoded_bounded y w = grind (arith, nat_tests, decoded_cost)
 
   solved : (order : Option (List ℕ)) (text : List ℕ) → IsSolvedBy order plan.read m text
       → IsSolved order s most names m text
@@ -228,12 +188,7 @@ module _ (plan : Plan) (s : Source) (m : Written) (names : Option (List (List �
       → text ≡ decoding_text ((decoding_of m).decoded bits) plan.read.names
       (read_cost plan.read ((decoding_of m).decoded bits)) (energy (form_of m) bits)
       → IsDecoded s names m bits text
-  decoded bits text w told =
-      let x = (decoding_of m).decoded bits in
-      told
-      ∙ ap (λ (n : Option (List (List ℕ))). decoding_text x n (read_cost plan.read x)
-      (energy (form_of m) bits)) (sym named)
-      ∙ ap (λ c. decoding_text x names c (energy (form_of m) bits)) (decoded_cost bits w)
+  decoded bits text w told = grind (arith, nat_tests, decoded_cost)
 
   -- ---- an assignment
 
@@ -260,26 +215,17 @@ module _ (plan : Plan) (s : Source) (m : Written) (names : Option (List (List �
   plain_least : (x state : List Bool) → IsOf s.form x → plan.read.soft ≡ None
       → IsLeastTo plan.read.problem.variables m (carried plan.read.soft x) state
       → IsLeastExtension m x state
-  plain_least x state w none least other wide decodes =
-      let itself : carried plan.read.soft x ≡ x = ap (λ soft. carried soft x) none in
-      let all : plan.read.problem.variables ≡ m.variables =
-      sym (costs.width x w) ∙ ap length itself ∙ w ∙ sym own in
-      least other wide
-      (ap (λ n. (models.decoding_to n m).decoded other) all ∙ decodes ∙ sym itself)
+  plain_least x state w none least other wide decodes = grind (arith, nat_tests)
 
-  least_by : (ties : Ties) (f : Format) (x state : List Bool) → IsOf s.form x
+  least_by : (ties : ChainStrength) (f : Format) (x state : List Bool) → IsOf s.form x
       → HasSoft f plan.read.soft → EveryStateStands ties (bounded most s) m
       → Extends (bounded most s) m x state
       → (ties ≡ Choi → IsLeastTo plan.read.problem.variables m (carried plan.read.soft x) state)
       → IsLeastAsked ties f (bounded most s) m x state
   least_by Choi formats.Wbo x state w is every extends least =
       least_where_whole (bounded most s) m x state every extends
-  least_by Choi formats.Wcnf x state w is every extends least = plain_least x state w is (least refl)
-  least_by Choi formats.Opb x state w is every extends least = plain_least x state w is (least refl)
-  least_by Choi formats.Poly x state w is every extends least = plain_least x state w is (least refl)
-  least_by Choi formats.Ising x state w is every extends least = plain_least x state w is (least refl)
-  least_by Choi formats.Qubo x state w is every extends least = plain_least x state w is (least refl)
   least_by Cut f x state w is every extends least = tt
+  least_by Choi f x state w is every extends least = plain_least x state w is (least refl)
 
   -- the texts that the plan's own steps make
   abbrev ByPlan : List Bool → List ℕ → Type 0
@@ -306,27 +252,12 @@ module _ (plan : Plan) (s : Source) (m : Written) (names : Option (List (List �
 
   model_asked : (ask : Ask) (last : Last) (text : List ℕ) → IsModelText ask m text
       → IsAskedOf ask s most names ByPlan m last text
-  model_asked Model last text told =
-      let formed = formed_on plan.base plan.choices plan.unit plan.read.variables
-      plan.read.problem m made.stands in
-      subst (λ t. IsTextOf m t) (sym told) (text_is_its m formed.0 formed.1)
-  model_asked Summary last text told = told
-  model_asked Size last text told = told
-  model_asked (Solve order) last text told = absurd told
-  model_asked (Decode at) last text told = absurd told
-  model_asked (Evaluate at) last text told = absurd told
-  model_asked (Extend at) last text told = absurd told
-  model_asked (Prove state certificate) last text told = absurd told
+  model_asked other last text told = grind (arith, nat_tests, formed_on, text_is_its)
 
   bits_asked : (words : List (List ℕ)) (held : NamedFiles) (ask : Ask) (bits : List Bool)
       (text : List ℕ) → (bits_step words held ask plan.read.variables m).end ≡ Some (Ok bits)
       → IsTold ask plan.read plan.choices m (Bits bits) text
       → IsAskedOf ask s most names ByPlan m (Bits bits) text
-  bits_asked words held Model bits text e told = absurd told
-  bits_asked words held Summary bits text e told = absurd told
-  bits_asked words held Size bits text e told = absurd told
-  bits_asked words held (Solve order) bits text e told = absurd told
-  bits_asked words held (Evaluate at) bits text e told = absurd told
   bits_asked words held (Decode at) bits text e told =
       decoded bits text (stated_width held (text_at words at) m.nodes bits e) told
   bits_asked words held (Extend at) bits text e told =
@@ -334,6 +265,7 @@ module _ (plan : Plan) (s : Source) (m : Written) (names : Option (List (List �
       (stated_width held (text_at words at) plan.read.variables bits e ∙ stands.variables) told
   bits_asked words held (Prove state certificate) bits text e told =
       proved bits text (proved_is words held state certificate m bits e) told
+  bits_asked words held last bits text e told = absurd told
 
   -- what the step that reads bits gives
   stepped : (words : List (List ℕ)) (held : NamedFiles) (ask : Ask) (last : Last) (text : List ℕ)
@@ -342,50 +274,31 @@ module _ (plan : Plan) (s : Source) (m : Written) (names : Option (List (List �
       → IsAskedOf ask s most names ByPlan m last text
   stepped words held ask last text e told =
       let were = bits_were (bits_step words held ask plan.read.variables m) last e in
-      subst (λ l. IsAskedOf ask s most names ByPlan m l text) were.2
-      (bits_asked words held ask were.0 text were.1
-      (subst (λ l. IsTold ask plan.read plan.choices m l text) (sym were.2) told))
+      grind (arith, nat_tests, bits_asked)
 
   solved_asked : (order : Option WordAt) (last : Last) (text : List ℕ)
       → IsTold (Solve order) plan.read plan.choices m last text
       → IsAskedOf (Solve order) s most names ByPlan m last text
   solved_asked order Nothing text told = solved None text told
   solved_asked order (InOrder nodes) text told = solved (Some nodes) text told
-  solved_asked order (Bits bits) text told = absurd told
-  solved_asked order (Several states) text told = absurd told
+  solved_asked order last text told = absurd told
 
   -- the states that are read have the model's width
   scored_asked : (words : List (List ℕ)) (held : NamedFiles) (at : WordAt) (last : Last)
       (text : List ℕ) → (last_step words held (Evaluate at) plan.read.variables m).end ≡ Some (Ok last)
       → IsTold (Evaluate at) plan.read plan.choices m last text
       → IsAskedOf (Evaluate at) s most names ByPlan m last text
-  scored_asked words held at Nothing text e told = absurd told
-  scored_asked words held at (Bits bits) text e told = absurd told
-  scored_asked words held at (InOrder order) text e told = absurd told
   scored_asked words held at (Several states) text e told =
       let wide = scanned_widths held (text_at words at) m.nodes states e in
       scored_alike (judgement_by plan.read m) (judgement_of s m) m plan.read.names names states text
       (sym named) (alike_where_wide m.nodes (judgement_by plan.read m) (judgement_of s m) states wide
       (λ y w. decoded_cost y w) (λ y. refl)) told
+  scored_asked words held at last text e told = absurd told
 
   alone_asked : (ask : Ask) (last : Last) (text : List ℕ) → IsOfModel ask → Nothing ≡ last
       → IsTold ask plan.read plan.choices m last text
       → IsAskedOf ask s most names ByPlan m last text
-  alone_asked ask last text is nothing told =
-      subst (λ l. IsAskedOf ask s most names ByPlan m l text) nothing
-      (model_asked ask Nothing text (told_alone ask is
-      (subst (λ l. IsTold ask plan.read plan.choices m l text) (sym nothing) told)))
-    where
-      told_alone : (a : Ask) → IsOfModel a → IsTold a plan.read plan.choices m Nothing text
-          → IsModelText a m text
-      told_alone Model is t = t
-      told_alone Summary is t = t
-      told_alone Size is t = t
-      told_alone (Solve order) is t = absurd is
-      told_alone (Decode at) is t = absurd is
-      told_alone (Evaluate at) is t = absurd is
-      told_alone (Extend at) is t = absurd is
-      told_alone (Prove state certificate) is t = absurd is
+  alone_asked ask last text is nothing told = grind (arith, nat_tests, model_asked)
 
   asked_of : (words : List (List ℕ)) (held : NamedFiles) (ask : Ask) (last : Last)
       (text : List ℕ) → (last_step words held ask plan.read.variables m).end ≡ Some (Ok last)
@@ -397,10 +310,7 @@ module _ (plan : Plan) (s : Source) (m : Written) (names : Option (List (List �
   asked_of words held Size last text e told = alone_asked Size last text tt (let two = e in cc) told
   asked_of words held (Solve order) last text e told = solved_asked order last text told
   asked_of words held (Evaluate at) last text e told = scored_asked words held at last text e told
-  asked_of words held (Decode at) last text e told = stepped words held (Decode at) last text e told
-  asked_of words held (Extend at) last text e told = stepped words held (Extend at) last text e told
-  asked_of words held (Prove state certificate) last text e told =
-      stepped words held (Prove state certificate) last text e told
+  asked_of words held ask last text e told = stepped words held ask last text e told
 
 -- ---- the answer
 

@@ -1,19 +1,5 @@
 -- How many bits are read last, and that those of a proof are of a least state.
-use Rattle.std.proofs.Common.{◌≡◌, ℕ, Bool, List, length, Ok, Some, None, refl, subst}
-use Rattle.std.specs.declared.option.Option.{Option}
-use Rattle.edge_io.specs.Held.{NamedFiles}
-use Rattle.bits_model.specs.Output.{Written, form_of}
-use Rattle.form_steps.specs.Least.{IsLeastState}
-use Rattle.posiform_check.specs.BitForms.{CertificateContent}
-use Rattle.posiform_check.specs.FirstFaults.{proof_fault}
-use Rattle.posiform_check.specs.declared.faults.ProofFault.{ProofFault}
-use Rattle.posiform_check.proofs.FirstFaults.{first_faults_tell}
-use Rattle.posiform_check.proofs.LeastStates.{proved_is_least}
-use Rattle.command_words.specs.declared.commands.WordAt.{WordAt}
-use Rattle.command_words.specs.Names.{text_at}
-use Rattle.run_steps.specs.Steps.{ends, stating, certifying, certified, proving, proof_end}
-use Rattle.run_steps.proofs.Stepping.{bound}
-use Rattle.run_steps.proofs.StateBits.{state_is_taken, state_has_width}
+use Rattle.program_run.proofs.Common.{nat_tests, arith, ◌≡◌, ℕ, Bool, List, length, Ok, Some, None, refl, subst, Option, NamedFiles, Written, form_of, IsLeastState, CertificateContent, proof_fault, ProofFault, first_faults_tell, proved_is_least, WordAt, text_at, ends, stating, certifying, certified, proving, proof_end, bound, state_is_taken, state_has_width}
 
 -- so many bits were read
 pub stated_width : (held : NamedFiles) (name : List ℕ) (width : ℕ) (bits : List Bool)
@@ -38,13 +24,8 @@ certified_is held name m given bits e =
     let read = bound (certifying held name m.nodes)
     (λ c. ends (proof_end given (proof_fault m c given))) bits e in
     let end : proof_end given (proof_fault m read.0 given) ≡ Ok bits = let two = read.2 in cc in
-    let kept = proof_keeps given (proof_fault m read.0 given) bits end in (
-      kept.0,
-      record {
-        certificate = read.0;
-        none = subst (λ b. proof_fault m read.0 b ≡ None) kept.0 kept.1;
-      },
-    )
+    let kept = proof_keeps given (proof_fault m read.0 given) bits end in
+    grind (arith, nat_tests)
 
 -- a state that was read and then proved
 pub record IsProvedState (m : Written) (bits : List Bool) : Type 0 where

@@ -1,27 +1,8 @@
 -- The states of a file, where it has some or none, and the order of one.
-use Rattle.std.proofs.Common.{◌≡◌, ℕ, Bool, List, [], ◌∷◌, reverse, Ok, Err, Some, None, refl, sym, ap, subst, ◌∙◌}
-use Rattle.base.specs.Costs.{Form}
-use Rattle.bits_model.specs.Output.{Written}
-use Rattle.elimination_order.specs.Renumbered.{IsFirstLeastBy}
-use Rattle.program_run.specs.Answers.{IsFirstBy}
-use Rattle.program_run.specs.Made.{EndsOf}
-use Rattle.edge_io.specs.Counts.{Counts}
-use Rattle.edge_io.specs.Held.{NamedFiles}
-use Rattle.command_words.specs.declared.names.Which.{Which}
+use Rattle.program_run.proofs.Common.{nat_tests, arith, ◌≡◌, ℕ, Bool, List, [], ◌∷◌, reverse, Ok, Err, Some, None, refl, sym, subst, Form, Written, IsFirstLeastBy, IsFirstBy, EndsOf, Counts, NamedFiles, Which, Ask, WordAt, Command, if_named, last_files, text_at, StateLine, states_of, Judgement, best_of, Plan, Status, AreFilesOf, AreRead, Last, Several, Steps, Refuses, ends, last_step, scanning, solving, states_end, taking, refuses_on}
 use Rattle.command_words.specs.declared.names.Which.TheVariants.{Order, State}
-use Rattle.command_words.specs.declared.commands.Ask.{Ask}
 use Rattle.command_words.specs.declared.commands.Ask.TheVariants as asks
-use Rattle.command_words.specs.declared.commands.WordAt.{WordAt}
-use Rattle.command_words.specs.declared.commands.Command.{Command}
-use Rattle.command_words.specs.Names.{if_named, last_files, text_at}
-use Rattle.state_file.specs.States.{StateLine, states_of}
-use Rattle.state_scores.specs.Scores.{Judgement, best_of}
-use Rattle.run_steps.specs.declared.plans.Plan.{Plan}
-use Rattle.run_steps.specs.declared.status.Status.{Status}
 use Rattle.run_steps.specs.declared.status.Status.TheVariants.{Done, NoState}
-use Rattle.run_steps.specs.Causes.{AreFilesOf, AreRead}
-use Rattle.run_steps.specs.Steps.{Last, Several, Steps, Refuses, ends, last_step, scanning, solving, states_end, taking}
-use Rattle.run_steps.proofs.Stepping.{next_end, refuses_on}
 
 -- ---- states
 
@@ -38,9 +19,7 @@ module _ (held : NamedFiles) (name : List ℕ) (width : ℕ) where
   pub scan_finds_none : (bytes : List ℕ) → (taking held State name).end ≡ Some (Ok bytes)
       → states_of width bytes ≡ [] → (scanning held name width).end ≡ Some (Err (NoState width))
   unfolding scanning
-  scan_finds_none bytes e none =
-      next_end (taking held State name) rest bytes e
-      ∙ ap (λ states. Some (states_end width states)) none
+  scan_finds_none bytes e none = grind (arith, nat_tests)
 
   -- there is a best one
   pub scan_gives : (bytes : List ℕ) (j : Judgement) (best : StateLine)
@@ -48,14 +27,7 @@ module _ (held : NamedFiles) (name : List ℕ) (width : ℕ) where
       → best_of j (states_of width bytes) ≡ Some best
       → (scanning held name width).end ≡ Some (Ok (Several (states_of width bytes)))
   unfolding scanning
-  scan_gives bytes j best e first =
-      next_end (taking held State name) rest bytes e
-      ∙ ap Some (some_states (states_of width bytes) first)
-    where
-      some_states : (states : List StateLine) → best_of j states ≡ Some best
-          → states_end width states ≡ Ok (Several states)
-      some_states [] none = absurd cc
-      some_states (state ∷ states) first = refl
+  scan_gives bytes j best e first = grind (arith, nat_tests)
 
 -- ---- the last step of a command
 
@@ -86,9 +58,6 @@ pub order_alone : (command : Command) (at : WordAt) → command.ask ≡ asks.Sol
     → if_named command Order ≡ last_files command
 order_alone command at is = rw is refl
 
-pub no_order_file : (command : Command) → command.ask ≡ asks.Solve None → last_files command ≡ []
-no_order_file command is = rw is refl
-
 -- the file of states was read, and has none
 pub none_read : (name : Which → List ℕ) (command : Command) (at : WordAt) (width : ℕ) (a b : Counts)
     → command.ask ≡ asks.Evaluate at → AreRead name (last_files command) a b
@@ -105,6 +74,4 @@ none_read name command at width a b is read =
 
 pub first_in : (g : Form) (given order : List ℕ) (state seen : List Bool) → given ≡ order
     → seen ≡ state → IsFirstLeastBy (reverse given) g state → IsFirstBy (Some order) g seen
-first_in g given order state seen same is first =
-    subst (λ y. IsFirstLeastBy (reverse order) g y) (sym is)
-    (subst (λ o. IsFirstLeastBy (reverse o) g state) same first)
+first_in g given order state seen same is first = grind (arith, nat_tests)

@@ -1,30 +1,5 @@
 -- What answers a command is what it asks for, however it was made.
-use Rattle.std.proofs.Common.{◌≡◌, ℕ, ℤ, Bool, List, length, Ok, Err, Option, Result, ap}
-use Rattle.base.specs.Costs.{Form, Source}
-use Rattle.bits_model.specs.Output.{Written}
-use Rattle.edge_io.specs.Held.{NamedFiles}
-use Rattle.edge_io.specs.Sinks.{Taken}
-use Rattle.whole_text.specs.declared.faults.TextFault.{TextFault}
-use Rattle.whole_text.specs.Steps.{◌>>=◌}
-use Rattle.problem_form.specs.Limits.{upper}
-use Rattle.command_words.specs.declared.commands.Format.{Format}
-use Rattle.command_words.specs.declared.commands.Ask.{Ask}
-use Rattle.command_words.specs.declared.commands.Ask.TheVariants.{Model, Summary, Size, Solve, Decode, Evaluate, Extend, Prove}
-use Rattle.command_words.specs.declared.commands.Command.{Command}
-use Rattle.command_words.specs.declared.commands.Request.{Request}
-use Rattle.command_words.specs.declared.commands.Request.TheVariants as requests
-use Rattle.command_words.specs.Bounds.{most_of}
-use Rattle.command_words.specs.Commands.{request_of}
-use Rattle.source_texts.specs.declared.reading.Read.{Read}
-use Rattle.source_texts.specs.Sources.{form_said, names_of, problem_of, source_of}
-use Rattle.run_steps.specs.declared.status.Status.{Status}
-use Rattle.run_steps.specs.declared.status.Status.TheVariants.{Done, Usage, ReadFault, WriteFault, BadText, Limit, NotEmbedded, TooWide, NotProved, NoState, NoMemory}
-use Rattle.run_steps.specs.Placements.{ties_of}
-use Rattle.run_steps.specs.Plans.{form_in}
-use Rattle.run_steps.specs.Statuses.{OnWriting}
-use Rattle.run_steps.specs.Steps.{Last, Nothing, Bits, InOrder, Several, format_in}
-use Rattle.program_run.specs.Answers.{DeliversAnswer, IsAnswer, IsAskedOf, IsExtended, IsExtension, IsSaidTo}
-use Rattle.program_run.specs.Headline.{DeliversHeadline, IsAskedAt, IsHeadline}
+use Rattle.program_run.proofs.Common.{nat_tests, arith, ◌≡◌, ℕ, ℤ, Bool, List, length, Ok, Option, Result, Source, Written, NamedFiles, Taken, Format, Ask, Command, Request, most_of, form_said, names_of, source_of, Status, ties_of, form_in, OnWriting, Last, format_in, DeliversAnswer, IsAnswer, IsAskedOf, IsExtended, IsExtension, IsSaidTo, DeliversHeadline, IsAskedAt, IsHeadline}
 use Rattle.program_run.proofs.Answering.{planned_is}
 
 -- ---- the source
@@ -32,17 +7,7 @@ use Rattle.program_run.proofs.Answering.{planned_is}
 -- a text that says a source says its form
 form_of_source : (format : Format) (text : List ℕ) (s : Source) → source_of format text ≡ Ok s
     → form_said format text ≡ Ok s.form
-form_of_source format text s e = go (form_said format text) (problem_of format text) e
-  where
-    go : (form : Result Form TextFault) (read : Result Read TextFault)
-        → (form >>= λ f. read >>= λ r. Ok (record { form = f; upper = upper r.problem })) ≡ Ok s
-        → form ≡ Ok s.form
-    go (Err fault) read said = absurd cc
-    go (Ok f) (Err fault) said = absurd cc
-    go (Ok f) (Ok r) said =
-        let made : Source = record { form = f; upper = upper r.problem } in
-        let same : made ≡ s = cc in
-        ap (λ (t : Source). Ok t.form) same
+form_of_source format text s e = grind (arith, nat_tests)
 
 -- ---- what is asked
 
@@ -52,29 +17,7 @@ module _ (s : Source) (most : Option ℤ) (names : Option (List (List ℕ))) (m 
     -- what is asked is asked still where what an assignment extends to is as Q says it
     asked_so : (ask : Ask) (last : Last) (text : List ℕ) → IsAskedOf ask s most names P m last text
         → IsAskedOf ask s most names Q m last text
-    asked_so Model last text is = is
-    asked_so Summary last text is = is
-    asked_so Size last text is = is
-    asked_so (Solve at) Nothing text is = is
-    asked_so (Solve at) (InOrder order) text is = is
-    asked_so (Solve at) (Bits bits) text is = absurd is
-    asked_so (Solve at) (Several states) text is = absurd is
-    asked_so (Decode at) (Bits bits) text is = is
-    asked_so (Decode at) Nothing text is = absurd is
-    asked_so (Decode at) (InOrder order) text is = absurd is
-    asked_so (Decode at) (Several states) text is = absurd is
-    asked_so (Evaluate at) (Several states) text is = is
-    asked_so (Evaluate at) Nothing text is = absurd is
-    asked_so (Evaluate at) (Bits bits) text is = absurd is
-    asked_so (Evaluate at) (InOrder order) text is = absurd is
-    asked_so (Extend at) (Bits bits) text is = so bits text is
-    asked_so (Extend at) Nothing text is = absurd is
-    asked_so (Extend at) (InOrder order) text is = absurd is
-    asked_so (Extend at) (Several states) text is = absurd is
-    asked_so (Prove state certificate) (Bits bits) text is = is
-    asked_so (Prove state certificate) Nothing text is = absurd is
-    asked_so (Prove state certificate) (InOrder order) text is = absurd is
-    asked_so (Prove state certificate) (Several states) text is = absurd is
+    asked_so ask last text is = grind (arith, nat_tests)
 
 -- ---- the headline
 
@@ -109,31 +52,14 @@ headline_of words held command text answer =
 headline_said : (words : List (List ℕ)) (held : NamedFiles) (said : Result Request ℕ)
     (text : List ℕ) → IsSaidTo said (IsAnswer words held) text
     → IsSaidTo said (λ command. IsHeadline words held command (IsAskedAt words held command)) text
-headline_said words held (Ok (requests.Notice notice)) text is = is
-headline_said words held (Ok (requests.Command command)) text is =
-    headline_of words held command text is
-headline_said words held (Err position) text is = absurd is
+headline_said words held said text is = grind (arith, nat_tests, headline_of)
 
 pub headline_delivered : (words : List (List ℕ)) (told : Option NamedFiles) (status : Status)
     (old new : Taken) → DeliversAnswer words told status old new
     → DeliversHeadline words told status old new
-headline_delivered words told status old new is = (
-  is.0,
-  is.1,
-  λ held may. headline_said words held (request_of words) is.0 (is.2 held may),
-)
+headline_delivered words told status old new is = grind (arith, nat_tests, headline_said)
 
 -- what holds once the writing has begun holds of what follows from it
 pub writing_so : {P Q : Type 0} (status : Status) → (P → Q) → OnWriting status P
     → OnWriting status Q
-writing_so Done so is = so is
-writing_so WriteFault so is = so is
-writing_so (Usage position) so is = tt
-writing_so (ReadFault which) so is = tt
-writing_so (BadText which kind line) so is = tt
-writing_so (Limit which kind number) so is = tt
-writing_so (NotEmbedded fault) so is = tt
-writing_so (NoState width) so is = tt
-writing_so (TooWide node width) so is = tt
-writing_so (NotProved fault) so is = tt
-writing_so NoMemory so is = tt
+writing_so status so is = grind (arith, nat_tests)

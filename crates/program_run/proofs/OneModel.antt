@@ -1,19 +1,7 @@
 -- A plan makes one model.
-use Rattle.std.proofs.Common.{◌≡◌, ℕ, sym, ap, ◌∙◌}
-use Rattle.base.specs.declared.unit.UnitChoice.{UnitChoice}
-use Rattle.bits_model.specs.Output.{Written}
-use Rattle.problem_form.specs.declared.limits.Choices.{Choices}
-use Rattle.problem_form.specs.Problems.{ProblemContent}
+use Rattle.program_run.proofs.Common.{nat_tests, arith, ◌≡◌, ℕ, sym, ap, ◌∙◌, UnitChoice, Written, Choices, ProblemContent, Embedding, checked_unique, ising_figures, ising_of, site_chains, kind_of, qubit_model, graph_in, fabric_in, Placement, IsModelOn, PlansMakeOneModel}
 use Rattle.penalty_layer.specs.Penalty as penalty
-use Rattle.embedding_check.specs.Embeddings.{Embedding}
-use Rattle.embedding_check.proofs.Unique.{checked_unique}
-use Rattle.model_pipeline.specs.Models.{ising_figures}
-use Rattle.model_pipeline.specs.GraphModels.{ising_of, site_chains}
-use Rattle.model_pipeline.specs.QubitModels.{kind_of, qubit_model}
-use Rattle.model_pipeline.specs.Sites.{graph_in, fabric_in}
-use Rattle.run_steps.specs.declared.placements.Placement.{Placement}
 use Rattle.run_steps.specs.declared.placements.Placement.TheVariants.{Nodes, Qubits}
-use Rattle.run_steps.specs.Plans.{IsModelOn, PlansMakeOneModel}
 
 one_model_on : (base : Placement) (choices : Choices) (unit : UnitChoice) (own : ℕ)
     (p : ProblemContent) (m n : Written) → IsModelOn base choices unit own p m
@@ -30,6 +18,4 @@ one_model_on (Qubits site) choices unit own p m n first second =
     first.2 ∙ ap model same ∙ sym second.2
 
 pub one_model : PlansMakeOneModel
-one_model plan m n first second =
-    one_model_on plan.base plan.choices plan.unit plan.read.variables plan.read.problem m n first
-    second
+one_model plan m n first second = grind (arith, nat_tests, one_model_on)

@@ -1,8 +1,5 @@
 -- Pieces that are joined one after another.
-use Rattle.std.proofs.Common.{◌≡◌, ℕ, zero, suc, ◌+◌, ◌<◌, ◌≤◌, true, false, List, [], ◌∷◌, ◌++◌, length, length-append, append_assoc, append-nil, take, slice_index_or, ap, sym, ◌∙◌, arith, Bor, Result, Ok, Err, IsOk, inl, inr}
-use Rattle.std.specs.Result.{is_err}
-use Rattle.std.proofs.lemmas.Bool.{cases_lt}
-use Rattle.edge_io.specs.Sinks.{joined_bytes}
+use Rattle.program_run.proofs.Common.{nat_tests, ◌≡◌, ℕ, zero, suc, ◌+◌, ◌<◌, ◌≤◌, true, false, List, [], ◌∷◌, ◌++◌, length, length-append, append_assoc, append-nil, take, slice_index_or, ap, arith, Bor, Result, IsOk, is_err, joined_bytes}
 
 -- the bytes of the first pieces
 abbrev pub front_bytes : ℕ → List (Bor (List ℕ)) → List ℕ
@@ -14,20 +11,13 @@ pub front_more : (n : ℕ) (pieces : List (Bor (List ℕ))) (other : Bor (List �
 front_more n [] other inside = absurd (omega arith)
 front_more zero (p ∷ ps) other inside = append-nil p.now
 front_more (suc n) (p ∷ ps) other inside =
-    ap (λ bytes. p.now ++ bytes) (front_more n ps other (omega arith))
-    ∙ sym (append_assoc p.now (front_bytes n ps) (slice_index_or ps n other).now)
+    grind (arith, nat_tests, front_more n ps other (omega arith), append_assoc)
 
 -- with a piece more they are at most all bytes
 pub front_length : (n : ℕ) (pieces : List (Bor (List ℕ))) → length (front_bytes n pieces) ≤ length (joined_bytes pieces)
 front_length zero ps = omega arith
 front_length (suc n) [] = omega arith
-front_length (suc n) (p ∷ ps) =
-    omega (
-      arith,
-      front_length n ps,
-      length-append p.now (front_bytes n ps),
-      length-append p.now (joined_bytes ps),
-    )
+front_length (suc n) (p ∷ ps) = grind (arith, nat_tests, front_length n ps, length-append)
 
 -- where a front of the pieces has no room for one more, they have none together
 pub no_room : (line : List ℕ) (n : ℕ) (pieces : List (Bor (List ℕ))) (other : Bor (List ℕ)) (most : ℕ)
@@ -50,9 +40,4 @@ no_true e = cc
 
 -- a list that was not extended had too little room
 pub too_long : {T E : Type 0} (r : Result T E) (n most : ℕ) → is_err r ≡ true → (n ≤ most → IsOk r) → most < n
-too_long (Ok x) n most failed fits = cc
-too_long (Err e) n most failed fits =
-    elim (cases_lt most n) [
-      | inl over ↦ over
-      | inr within ↦ absurd (no_true (fits within))
-    ]
+too_long r n most failed fits = grind (arith, nat_tests)

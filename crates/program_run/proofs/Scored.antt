@@ -1,18 +1,5 @@
 -- What states are worth to two judges who agree on them.
-use Rattle.std.proofs.Common.{◌≡◌, ℕ, ◌+◌, ◌==◌, Bool, true, false, not, ◌&&◌, ◌||◌, cond, List, [], ◌∷◌, length, map, find, Ok, Some, Option, refl, sym, subst, ◌∙◌}
-use Rattle.std.specs.List.{AllByRecursion, enumerate_from, filter, list_all}
-use Rattle.std.proofs.lemmas.List.{length-map}
-use Rattle.std.proofs.lemmas.Bool.{eqb-true}
-use Rattle.bits_model.specs.Output.{Written, decoding_of}
-use Rattle.edge_io.specs.Held.{NamedFiles}
-use Rattle.command_words.specs.declared.names.Which.TheVariants.{State}
-use Rattle.state_file.specs.States.{StateLine, is_bit, is_one, is_state, lines_of, states_from, states_of}
-use Rattle.state_scores.specs.declared.worth.Score.{Score}
-use Rattle.state_scores.specs.Scores.{IsEvaluation, Judgement, best_of, has_better, is_better, score_of}
-use Rattle.state_scores.specs.Texts.{evaluation_text}
-use Rattle.run_steps.specs.Steps.{Several, ends, scanning, states_end, taking}
-use Rattle.run_steps.proofs.Stepping.{bound}
-use Rattle.program_run.specs.Answers.{IsScored}
+use Rattle.program_run.proofs.Common.{nat_tests, arith, ◌≡◌, ℕ, ◌+◌, Bool, true, false, not, ◌&&◌, ◌||◌, cond, List, [], ◌∷◌, length, map, find, Ok, Some, Option, refl, sym, subst, ◌∙◌, AllByRecursion, length-map, eqb-true, Written, decoding_of, NamedFiles, StateLine, is_one, is_state, states_from, states_of, Score, IsEvaluation, Judgement, best_of, has_better, is_better, score_of, evaluation_text, Several, scanning, states_end, bound, IsScored}
 
 -- judges who agree on each of these states
 abbrev pub AreAlike : Judgement → Judgement → List StateLine → Type 0
@@ -78,14 +65,8 @@ pub alike_where_wide : (width : ℕ) (j k : Judgement) (states : List StateLine)
     → ((y : List Bool) → length y ≡ width → j.cost y ≡ k.cost y)
     → ((y : List Bool) → j.energy y ≡ k.energy y) → AreAlike j k states
 alike_where_wide width j k [] wide costs energies = tt
-alike_where_wide width j k (state ∷ states) wide costs energies = (
-  (λ i. record {
-    line = state.0;
-    cost = costs state.1 wide.0 i;
-    energy = energies state.1 i;
-  }),
-  alike_where_wide width j k states wide.1 costs energies,
-)
+alike_where_wide width j k (state ∷ states) wide costs energies =
+    grind (arith, nat_tests, alike_where_wide width j k states wide.1 costs energies)
 
 both_true : (a b : Bool) → (a && b) ≡ true → a ≡ true
 both_true true b e = refl
@@ -96,20 +77,14 @@ wide_with : (width number : ℕ) (line : List ℕ) (later : List (ℕ × List �
     → AreWide width (map (λ (l : ℕ × List ℕ). (l.0, map is_one l.1)) later)
     → AreWide width (map (λ (l : ℕ × List ℕ). (l.0, map is_one l.1))
     (cond fits ((number, line) ∷ later) later))
-wide_with width number line later true is rest = (
-  length-map line is_one
-      ∙ eqb-true (length line) width (both_true (length line == width) (list_all is_bit line) is),
-  rest,
-)
-wide_with width number line later false is rest = rest
+wide_with width number line later fits is rest =
+    grind (arith, nat_tests, length-map, eqb-true, both_true)
 
 states_wide : (width number : ℕ) (lines : List (List ℕ))
     → AreWide width (states_from width number lines)
 states_wide width number [] = tt
 states_wide width number (line ∷ lines) =
-    wide_with width number line
-    (filter (λ (l : ℕ × List ℕ). is_state width l.1) (enumerate_from (number + 1) lines))
-    (is_state width line) refl (states_wide width (number + 1) lines)
+    grind (arith, nat_tests, states_wide width (number + 1) lines, wide_with)
 
 these_end : (width : ℕ) (found states : List StateLine)
     → states_end width found ≡ Ok (Several states) → found ≡ states
@@ -120,21 +95,12 @@ these_end width (state ∷ found) states e = cc
 pub scanned_widths : (held : NamedFiles) (name : List ℕ) (width : ℕ) (states : List StateLine)
     → (scanning held name width).end ≡ Some (Ok (Several states)) → AreWide width states
 unfolding scanning
-scanned_widths held name width states e =
-    let taken = bound (taking held State name)
-    (λ bytes. ends (states_end width (states_of width bytes))) (Several states) e in
-    let said : states_end width (states_of width taken.0) ≡ Ok (Several states) =
-    let two = taken.2 in cc in
-    subst (AreWide width) (these_end width (states_of width taken.0) states said)
-    (states_wide width 1 (lines_of taken.0))
+scanned_widths held name width states e = grind (arith, nat_tests, bound, these_end, states_wide)
 
 -- the best of them has it
 pub best_wide : (j : Judgement) (width : ℕ) (text : List ℕ) (best : StateLine)
     → best_of j (states_of width text) ≡ Some best → length best.1 ≡ width
-best_wide j width text best first =
-    found_is (λ (state : StateLine). length state.1 ≡ width)
-    (λ state. not (has_better j (states_of width text) state)) (states_of width text) best first
-    (states_wide width 1 (lines_of text))
+best_wide j width text best first = grind (arith, nat_tests, found_is, states_wide)
 
 -- what an evaluation says of states, with what the best of them decodes to
 pub scored_by : (j : Judgement) (m : Written) (names : Option (List (List ℕ)))

@@ -1,18 +1,8 @@
 -- What costs within the limits come to: below 2 ^ 64 in size.
-use Rattle.std.proofs.Common.{◌≡◌, ◌-◌, ◌^◌, ◌≤◌, ℤ, ◌+ℤ◌, Bool, true, false, ◌||◌, List, None, arith}
-use Rattle.std.specs.Prelude.{if◌then◌else◌}
-use Rattle.std.specs.List.{list_any}
-use Rattle.std.proofs.lemmas.Int.{ints}
-use Rattle.base.specs.Sums.{total_by}
+use Rattle.program_run.proofs.Common.{[], length, get_or, subst, sym, Cost, Read, Written, carried, decoding_of, judgement_by, ◌≡◌, ◌-◌, ◌^◌, ◌≤◌, ℤ, ◌+ℤ◌, Bool, true, false, ◌||◌, List, None, arith, if◌then◌else◌, list_any, ints, total_by, Normal, ProblemContent, fails, fails_hard, own_cost, soft_cost, sum_of, limit_fault, weight, soft_costs-size, sum_of-size, within_limits, IsSmall, All, All-from_get_or, AreCosts, IsWithin}
 use Rattle.base.specs.declared.costs.Cost.TheVariants.{Whole, Infinite}
-use Rattle.problem_form.specs.declared.limits.Normal.{Normal}
 use Rattle.problem_form.specs.declared.limits.Normal.TheVariants.{Literal, Multilinear}
-use Rattle.problem_form.specs.Problems.{ProblemContent, fails, fails_hard, own_cost, soft_cost, sum_of}
-use Rattle.problem_form.specs.Limits.{limit_fault, weight}
-use Rattle.problem_form.proofs.CostSizes.{soft_costs-size, sum_of-size}
-use Rattle.penalty_layer.proofs.Bounds.{within_limits}
 use Rattle.normal_form.proofs.Limits as multilinear
-use Rattle.state_scores.specs.Scores.{IsSmall}
 
 weight_is_small : (normal : Normal) (p : ProblemContent) → limit_fault normal p ≡ None
     → weight p ≤ 2 ^ 64 - 1
@@ -36,3 +26,12 @@ cost_is_small normal p x none =
       soft_costs-size x p.clauses,
       weight_is_small normal p none,
     )
+
+-- so are those of states
+pub costs_are_small : (read : Read) (m : Written) (states : List (List Bool)) (costs : List Cost)
+    → IsWithin read.problem → length costs ≡ length states → AreCosts (judgement_by read m) states costs
+    → All IsSmall costs
+costs_are_small read m states costs within even are =
+    All-from_get_or IsSmall costs Infinite
+    (λ k below. subst IsSmall (sym (are k (omega (arith, even, below))))
+    (cost_is_small within.0 read.problem (carried read.soft ((decoding_of m).decoded (get_or states k []))) within.1))

@@ -1,27 +1,8 @@
 -- A model that is solved, or too wide.
-use Rattle.std.proofs.Common.{◌≡◌, ◌<◌, ◌≤◌, ℕ, zero, suc, Bool, true, false, List, [], Ok, Err, Some, None, refl, sym, ap, ◌∙◌, subst, arith, inl}
-use Rattle.std.specs.Prelude.{nat_lt}
-use Rattle.std.proofs.lemmas.Bool.{lt-ltb, le-ltb}
-use Rattle.bits_model.specs.Output.{Written}
-use Rattle.basic_solve.specs.Widths.{width, IsWithinWidth, IsFirstWider}
-use Rattle.edge_io.specs.Counts.{Counts}
-use Rattle.command_words.specs.declared.names.Which.{Which}
-use Rattle.run_steps.specs.declared.status.Status.{Status}
-use Rattle.run_steps.specs.declared.status.Status.TheVariants.{Done, Usage, ReadFault, WriteFault, BadText, Limit, NotEmbedded, TooWide, NotProved, NoState, NoMemory}
-use Rattle.run_steps.specs.Causes.{AreFilesOf, AreRead}
-use Rattle.basic_solve.specs.declared.answer.SolveAnswer.{SolveAnswer}
+use Rattle.program_run.proofs.Common.{nat_tests, ◌≡◌, ◌<◌, ◌≤◌, ℕ, zero, suc, Bool, true, false, List, [], Ok, Err, Some, None, refl, ap, arith, nat_lt, le-ltb, Written, width, IsWithinWidth, IsFirstWider, Status, SolveAnswer, Plan, IsUnsolved, IsModelled, EndsOf, unsolved, NamedFiles, WordAt, text_at, first_wide, refuses_on, Steps, Last, Nothing, InOrder, Refuses, ends, ordered, wide_below, width_end, TheFirstWideNodeIsNamed}
+use Rattle.run_steps.specs.declared.status.Status.TheVariants.{TooWide}
 use Rattle.basic_solve.specs.declared.answer.SolveAnswer.TheVariants as solving
-use Rattle.run_steps.specs.declared.plans.Plan.{Plan}
-use Rattle.run_steps.specs.Statuses.{IsRefusal, IsUnsolved}
-use Rattle.program_run.specs.Made.{IsModelled, EndsOf}
-use Rattle.program_run.specs.Unembedded.{unsolved}
-use Rattle.edge_io.specs.Held.{NamedFiles}
-use Rattle.command_words.specs.declared.commands.WordAt.{WordAt}
-use Rattle.command_words.specs.Names.{text_at}
-use Rattle.elimination_order.specs.Widths.{first_wide}
-use Rattle.run_steps.proofs.Stepping.{next_end, refuses_on}
-use Rattle.run_steps.specs.Steps.{Steps, Last, Nothing, InOrder, Refuses, ends, ordered, wide_below, width_end, solving as solving_steps}
-use Rattle.program_run.specs.Widths.{TheFirstWideNodeIsNamed}
+use Rattle.run_steps.specs.Steps.{solving as solving_steps}
 
 -- no node below this one is too wide
 narrow_below : (m : Written) (n : ℕ) → ((v : ℕ) → v < n → width m v ≤ 16)
@@ -38,10 +19,7 @@ wider_step : (m : Written) (v w n : ℕ) (b : Bool) → nat_lt v n ≡ b → v <
 wider_step m v w n true e less has wide first rest =
     let below : v < n = grind (arith, e) in
     rw (le-ltb 16 (width m n) (first n below (omega arith))) (rest below)
-wider_step m v w n false e less has wide first rest =
-    let same : v ≡ n = grind (arith, e, less) in
-    subst (λ k. wide_below m (suc k) ≡ Some (v, w)) same
-    (rw (has, lt-ltb 16 w wide) refl)
+wider_step m v w n false e less has wide first rest = grind (arith, nat_tests)
 
 wider_below : (m : Written) (v w n : ℕ) → v < n → width m v ≡ w → 16 < w
     → ((u : ℕ) → v < u → u < n → width m u ≤ 16) → wide_below m n ≡ Some (v, w)
@@ -69,9 +47,7 @@ pub unsolved_ends : (plan : Plan) (m : Written) (answer : SolveAnswer) (steps : 
     → IsModelled plan m
     → ((v w : ℕ) → answer ≡ solving.TooWide v w → (steps m).end ≡ Some (Err (TooWide v w)))
     → EndsOf (unsolved answer) plan steps
-unsolved_ends plan m (solving.TooWide v w) steps made wide =
-    (made.can_stand, (m, made.by, wide v w refl))
-unsolved_ends plan m solving.NoMemory steps made wide = tt
+unsolved_ends plan m answer steps made wide = grind (arith, nat_tests)
 
 -- in the usual order
 pub unsolved_usually : (plan : Plan) (m : Written) (answer : SolveAnswer) → IsModelled plan m
@@ -97,37 +73,8 @@ module _ (words : List (List ℕ)) (held : NamedFiles) (at : WordAt) (m : Writte
       (e : (ordered held (text_at words at) m.nodes).end ≡ Some (Ok order)) where
     pub order_gives : first_wide 16 m [] order ≡ None
         → (solving_steps words held (Some at) m).end ≡ Some (Ok (InOrder order))
-    order_gives narrow =
-        next_end (ordered held (text_at words at) m.nodes) rest order e
-        ∙ ap (λ wide. Some (width_end (InOrder order) wide)) narrow
-
-    pub order_is_wide : (v w : ℕ) → first_wide 16 m [] order ≡ Some (v, w)
-        → (solving_steps words held (Some at) m).end ≡ Some (Err (TooWide v w))
-    order_is_wide v w wide =
-        next_end (ordered held (text_at words at) m.nodes) rest order e
-        ∙ ap (λ node. Some (width_end (InOrder order) node)) wide
+    order_gives narrow = grind (arith, nat_tests)
 
 pub unsolved_is : (answer : SolveAnswer) → IsUnsolved (unsolved answer)
 unsolved_is (solving.TooWide v w) = tt
 unsolved_is solving.NoMemory = tt
-
--- it takes no file, and writes nothing
-pub record IsUntold (name : Which → List ℕ) (taken : List Which) (status : Status) (a : Counts)
-    : Type 0 where
-  pub files : AreFilesOf name [] taken status a a
-  pub refusal : IsRefusal status
-
-pub unsolved_untold : (name : Which → List ℕ) (files : List Which) (status : Status) (a : Counts)
-    → files ≡ [] → IsUnsolved status → IsUntold name files status a
-unsolved_untold name files (NotEmbedded fault) a none is = record { files = refl; refusal = tt }
-unsolved_untold name files (TooWide node width) a none is =
-    record { files = subst (λ l. AreRead name l a a) (sym none) refl; refusal = tt }
-unsolved_untold name files NoMemory a none is = record { files = inl refl; refusal = tt }
-unsolved_untold name files Done a none is = absurd is
-unsolved_untold name files WriteFault a none is = absurd is
-unsolved_untold name files (Usage position) a none is = absurd is
-unsolved_untold name files (ReadFault which) a none is = absurd is
-unsolved_untold name files (BadText which kind line) a none is = absurd is
-unsolved_untold name files (Limit which kind number) a none is = absurd is
-unsolved_untold name files (NoState width) a none is = absurd is
-unsolved_untold name files (NotProved fault) a none is = absurd is

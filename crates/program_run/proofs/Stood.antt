@@ -1,42 +1,13 @@
 -- A model of the problem that a source is read into stands for the source.
-use Rattle.std.proofs.Common.{◌≡◌, ◌≤◌, ℕ, ℤ, ◌+ℤ◌, ◌*ℤ◌, Bool, List, map, take, refl, sym, ap, ◌∙◌, subst, arith}
-use Rattle.std.proofs.lemmas.List.{take-take, take-map}
-use Rattle.bits_model.specs.declared.output.Kind.{Kind}
-use Rattle.bits_model.specs.declared.output.Kind.TheVariants as kinds
-use Rattle.base.specs.Costs.{Form, Source}
-use Rattle.base.specs.declared.costs.Figures.{Figures}
-use Rattle.form_steps.specs.Relations.{Decoding, Relaxes, first_decoded}
-use Rattle.form_steps.proofs.Rewritten.{rewritten_relaxes}
-use Rattle.bits_model.specs.Output.{Written, IsWellFormed, form_of, decoding_of, read_off, majority}
-use Rattle.faithful.specs.Bounds.{IsBounded}
-use Rattle.faithful.specs.Faithful.{HasUnit, HasChains, scale_of}
-use Rattle.form_steps.specs.Stated.{DecodesAlike}
-use Rattle.form_steps.proofs.Alike.{relaxes_alike}
-use Rattle.faithful.specs.AtLeast.{StandsAtLeast}
-use Rattle.form_steps.specs.Least.{IsLeast}
-use Rattle.faithful.proofs.LeastStates.{relaxed_stands, standing_is_faithful}
-use Rattle.faithful.proofs.LongerSources.{rewritten_stands}
-use Rattle.base.specs.declared.unit.UnitChoice.{UnitChoice}
-use Rattle.model_text.specs.Rows.{FitsFields}
+use Rattle.program_run.proofs.Common.{nat_tests, ◌≡◌, ◌≤◌, ℕ, ℤ, ◌+ℤ◌, ◌*ℤ◌, Bool, List, take, refl, sym, ap, ◌∙◌, subst, arith, take-take, take-map, Kind, Form, Source, Figures, Decoding, Relaxes, first_decoded, rewritten_relaxes, Written, IsWellFormed, form_of, decoding_of, read_off, IsBounded, HasUnit, HasChains, scale_of, DecodesAlike, relaxes_alike, StandsAtLeast, IsLeast, relaxed_stands, standing_is_faithful, rewritten_stands, UnitChoice, FitsFields, upper, Read, StandsFor, ChainStrength, decoding_to, StandsBy, Placement, ties_of, demand_of, EveryStateStands, IsModelFor}
 use Rattle.problem_form.specs.Problems as problems
-use Rattle.problem_form.specs.Limits.{upper}
-use Rattle.source_texts.specs.declared.reading.Read.{Read}
-use Rattle.source_texts.specs.Sources.{StandsFor}
-use Rattle.command_words.specs.declared.commands.Ties.{Ties}
-use Rattle.command_words.specs.declared.commands.Ties.TheVariants.{Choi, Cut}
-use Rattle.model_pipeline.specs.Models.{decoding_to}
-use Rattle.model_pipeline.specs.QubitStanding.{StandsBy}
-use Rattle.run_steps.specs.declared.placements.Placement.{Placement}
-use Rattle.run_steps.specs.Placements.{kind_of, ties_of, demand_of}
-use Rattle.program_run.specs.Answers.{EveryStateStands, IsModelFor}
+use Rattle.command_words.specs.declared.commands.ChainStrength.TheVariants.{Choi, Cut}
+use Rattle.run_steps.specs.Placements.{kind_of}
 
 -- the first variables of what a state is read as are what it is read as for them
 take-read_off : (kind : Kind) (a b : ℕ) (chains : List (List ℕ)) (y : List Bool) → a ≤ b
     → take a (read_off kind b chains y) ≡ read_off kind a chains y
-take-read_off kinds.Qubo a b chains y few = take-take a b y few
-take-read_off kinds.Ising a b chains y few = take-take a b y few
-take-read_off (kinds.Chimera rows cols shore) a b chains y few =
-    take-map (majority y) a (take b chains) ∙ ap (map (majority y)) (take-take a b chains few)
+take-read_off kind a b chains y few = grind (arith, nat_tests, take-take, take-map)
 
 -- what stands at least does so by any decoding that agrees on the states
 stands_alike : (f g : Form) (d d' : Decoding) (u : ℤ) (n : Figures) → DecodesAlike g d d'
@@ -54,7 +25,7 @@ stands_alike f g d d' u n alike p = record {
 }
 
 -- what a model of a problem has, wherever it stands
-pub record IsMade (r : Read) (choice : UnitChoice) (ties : Ties) (m : Written) : Type 0 where
+pub record IsMade (r : Read) (choice : UnitChoice) (ties : ChainStrength) (m : Written) : Type 0 where
   pub fits : FitsFields m
   pub bounded : IsBounded m
   pub well_formed : IsWellFormed m
@@ -72,10 +43,7 @@ module _ (unit : UnitChoice) (s : Source) (r : Read) (m : Written) (stands : Sta
 
   pub alike : DecodesAlike (form_of m) (first_decoded s.form.bits (decoding_to r.problem.variables m))
       (decoding_of m)
-  alike y w =
-      ap (λ n. read_off m.kind n m.chains y) bits
-      ∙ sym (take-read_off m.kind s.form.bits r.problem.variables m.chains y
-      (omega (arith, stands.own, stands.variables)))
+  alike y w = grind (arith, nat_tests, bits, take-read_off)
 
   source_relaxed : Relaxes (problems.form_of r.problem) (form_of m)
       (decoding_to r.problem.variables m) m.unit m.figures
@@ -97,14 +65,14 @@ module _ (unit : UnitChoice) (s : Source) (r : Read) (m : Written) (stands : Sta
       (decoding_to r.problem.variables m) m.unit m.figures stands.rewrites at_least)
 
   -- as its ties allow
-  every : (ties : Ties)
+  every : (ties : ChainStrength)
       → StandsBy ties (problems.form_of r.problem) (form_of m) (decoding_to r.problem.variables m)
       m.unit m.figures
       → EveryStateStands ties s m
   every Choi relaxes = source_relaxed relaxes
   every Cut at_least = tt
 
-  at_least : (ties : Ties)
+  at_least : (ties : ChainStrength)
       → StandsBy ties (problems.form_of r.problem) (form_of m) (decoding_to r.problem.variables m)
       m.unit m.figures
       → StandsAtLeast s.form (form_of m) (decoding_of m) m.unit m.figures

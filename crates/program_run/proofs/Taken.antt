@@ -1,22 +1,6 @@
 -- What the steps that take a file have found where they succeed.
-use Rattle.std.proofs.Common.{◌≡◌, ℕ, List, Ok, Err, Some, None, Result, refl, subst}
-use Rattle.std.specs.declared.option.Option.{Option}
-use Rattle.edge_io.specs.Held.{NamedFiles}
-use Rattle.whole_text.specs.declared.faults.TextFault.{TextFault}
-use Rattle.problem_form.specs.declared.limits.LimitFault.{LimitFault}
-use Rattle.problem_form.specs.Limits.{limit_fault}
-use Rattle.command_words.specs.declared.names.Which.{Which}
+use Rattle.program_run.proofs.Common.{nat_tests, arith, ◌≡◌, ℕ, List, Ok, Err, Some, None, Result, refl, subst, Option, NamedFiles, TextFault, LimitFault, limit_fault, Which, Origin, Command, Read, problem_of, ends, text_end, limited, limits_end, format_in, sourcing, reading_source, checking, wanted, IsTextIn, bound}
 use Rattle.command_words.specs.declared.names.Which.TheVariants.{Source}
-use Rattle.command_words.specs.declared.commands.Origin.{Origin}
-use Rattle.command_words.specs.declared.commands.Origin.TheVariants.{File, Drawn}
-use Rattle.command_words.specs.declared.commands.Command.{Command}
-use Rattle.command_words.specs.Names.{text_at}
-use Rattle.source_texts.specs.declared.reading.Read.{Read}
-use Rattle.source_texts.specs.Sources.{problem_of}
-use Rattle.run_steps.specs.Steps.{ends, text_end, limited, limits_end, format_in, sourcing, reading_source, checking, wanted}
-use Rattle.program_run.specs.Answers.{IsTextIn}
-use Rattle.run_steps.proofs.Stepping.{bound}
-use Rattle.run_steps.proofs.TakenBytes.{taken_is_held}
 
 pub text_is_read : {A : Type 0} (which : Which) (read : Result A TextFault) (x : A)
     → text_end which read ≡ Ok x → read ≡ Ok x
@@ -31,9 +15,7 @@ limits_keep which x y (Some fault) e = absurd cc
 sourced_is_held : (words : List (List ℕ)) (held : NamedFiles) (origin : Origin) (text : List ℕ)
     → (sourcing words held origin).end ≡ Some (Ok text) → IsTextIn words held origin text
 unfolding sourcing
-sourced_is_held words held (File format at) text e =
-    taken_is_held held Source (text_at words at) text e
-sourced_is_held words held (Drawn number clauses) text e = cc
+sourced_is_held words held origin text e = grind (arith, nat_tests)
 
 -- the source's text is held or drawn, and what it is read into is this as the command wants it
 pub record IsTaken (words : List (List ℕ)) (held : NamedFiles) (command : Command) (made : Read)

@@ -1,14 +1,6 @@
 -- By what the rows that a least state ends with are chosen.
-use Rattle.std.proofs.Common.{◌≡◌, ◌∙◌, ℤ, Bool, List, ◌∷◌, [], ℕ, Option, ap, refl}
-use Rattle.std.specs.Prelude.{codes}
-use Rattle.base.specs.declared.costs.Cost.{Cost}
+use Rattle.program_run.proofs.Common.{◌≡◌, ◌∙◌, ℤ, Bool, List, ◌∷◌, [], ℕ, Option, ap, refl, codes, Cost, Form, HasCost, IsFeasible, decoding_of, optimum_rows, length-read_off, below, above, RowsGoByTheThreshold}
 use Rattle.base.specs.declared.costs.Cost.TheVariants.{Whole, Infinite}
-use Rattle.base.specs.Costs.{Form}
-use Rattle.form_steps.specs.Least.{HasCost, IsFeasible}
-use Rattle.bits_model.specs.Output.{decoding_of}
-use Rattle.answer_text.specs.Answers.{optimum_rows}
-use Rattle.faithful.proofs.Told.{length-read_off, below, above}
-use Rattle.program_run.specs.Thresholds.{RowsGoByTheThreshold}
 
 -- an assignment of a form that is not feasible is told as that
 none_whole : (f : Form) (names : Option (List (List ℕ))) (x : List Bool) (c : Cost)

@@ -1,26 +1,7 @@
 -- What a command wants of what was read stands for the source and costs as it does.
-use Rattle.std.specs.Prelude.{⊤}
-use Rattle.std.proofs.Common.{◌≡◌, ℕ, ℤ, List, None, Ok, Err, Option, Result, refl, sym, ap, ◌∙◌, subst}
-use Rattle.base.specs.Costs.{Source}
-use Rattle.whole_text.specs.declared.faults.TextFault.{TextFault}
-use Rattle.whole_text.specs.Steps.{◌>>=◌}
-use Rattle.wcnf_reader.specs.Cost as wcnf_cost
-use Rattle.opb_reader.specs.Cost as opb_cost
-use Rattle.wbo_reader.specs.Wbo.{WboContent}
-use Rattle.poly_reader.specs.Cost as poly_cost
-use Rattle.entry_reader.specs.declared.layout.Layout.TheVariants as layouts
-use Rattle.entry_reader.specs.Problems as entry_problems
-use Rattle.command_words.specs.declared.commands.Format.{Format}
-use Rattle.command_words.specs.declared.commands.Format.TheVariants.{Wcnf, Opb, Wbo, Poly, Ising, Qubo}
-use Rattle.command_words.specs.declared.commands.Slack.{Slack}
+use Rattle.program_run.proofs.Common.{nat_tests, arith, ⊤, ◌≡◌, ℕ, ℤ, List, None, Ok, Option, refl, sym, ap, ◌∙◌, subst, Source, WboContent, Format, Slack, Command, most_of, Read, CostsAs, StandsBounded, StandsFor, bounded, bounded_read, problem_of, cleared_costs, cleared_stands, slacked, wanted}
+use Rattle.command_words.specs.declared.commands.Format.TheVariants.{Wbo}
 use Rattle.command_words.specs.declared.commands.Slack.TheVariants.{Bits, Pairs}
-use Rattle.command_words.specs.declared.commands.Command.{Command}
-use Rattle.command_words.specs.Bounds.{most_of}
-use Rattle.source_texts.specs.declared.reading.Read.{Read}
-use Rattle.source_texts.specs.Sources.{CostsAs, StandsBounded, StandsFor, bounded, bounded_read, problem_of}
-use Rattle.source_texts.specs.Sources as sources
-use Rattle.source_texts.proofs.Cleared.{cleared_costs, cleared_stands}
-use Rattle.run_steps.specs.Steps.{slacked, wanted}
 
 slacked_stands : (s : Source) (slack : Slack) (own : Read) → StandsBounded s own
     → StandsBounded s (slacked slack own)
@@ -56,23 +37,9 @@ abbrev pub HasSoft : Format → Option WboContent → Type 0
 HasSoft Wbo soft = ⊤
 HasSoft format soft = soft ≡ None
 
-no_soft : {A : Type 0} (read : Result A TextFault) (make : A → Read)
-    → ((x : A) → (make x).soft ≡ None) → (r : Read) → (read >>= λ x. Ok (make x)) ≡ Ok r
-    → r.soft ≡ None
-no_soft (Ok x) make plain r e =
-    let same : make x ≡ r = cc in sym (ap (λ (read : Read). read.soft) same) ∙ plain x
-no_soft (Err fault) make plain r e = absurd cc
-
 pub soft_read : (format : Format) (text : List ℕ) (r : Read) → problem_of format text ≡ Ok r
     → HasSoft format r.soft
-soft_read Wbo text r e = tt
-soft_read Wcnf text r e = no_soft _ (λ s. sources.plain (wcnf_cost.problem_of s)) (λ s. refl) r e
-soft_read Opb text r e = no_soft _ (λ s. sources.plain (opb_cost.problem_of s)) (λ s. refl) r e
-soft_read Poly text r e = no_soft _ (λ s. sources.named (poly_cost.polynomial_of s)) (λ s. refl) r e
-soft_read Ising text r e =
-    no_soft _ (λ s. sources.plain (entry_problems.problem_of layouts.Ising s)) (λ s. refl) r e
-soft_read Qubo text r e =
-    no_soft _ (λ s. sources.plain (entry_problems.problem_of layouts.Qubo s)) (λ s. refl) r e
+soft_read format text r e = grind (arith, nat_tests)
 
 slacked_soft : (slack : Slack) (own : Read) → (slacked slack own).soft ≡ own.soft
 slacked_soft Bits own = refl

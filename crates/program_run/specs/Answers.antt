@@ -16,8 +16,8 @@ use Rattle.sample_text.specs.Sample.{sample_text}
 use Rattle.model_text.specs.Rows.{FitsFields, model_text}
 use Rattle.model_text.specs.Summary.{summary_text}
 use Rattle.model_text.specs.Told.{IsTextOf}
-use Rattle.command_words.specs.declared.commands.Ties.{Ties}
-use Rattle.command_words.specs.declared.commands.Ties.TheVariants.{Choi, Cut}
+use Rattle.command_words.specs.declared.commands.ChainStrength.{ChainStrength}
+use Rattle.command_words.specs.declared.commands.ChainStrength.TheVariants.{Choi, Cut}
 use Rattle.command_words.specs.declared.commands.Format.{Format}
 use Rattle.command_words.specs.declared.commands.Format.TheVariants.{Wbo}
 use Rattle.command_words.specs.declared.commands.Origin.{Origin}
@@ -71,7 +71,7 @@ pub record IsSaidBy (words : List (List ℕ)) (held : NamedFiles) (origin : Orig
 
 -- every state of a model stands for the source, unless its ties are only as strong as least states
 -- ask
-abbrev pub EveryStateStands : Ties → Source → Written → Type 0
+abbrev pub EveryStateStands : ChainStrength → Source → Written → Type 0
 EveryStateStands Choi source model =
     Relaxes source.form (form_of model) (decoding_of model) model.unit model.figures
 EveryStateStands Cut source model = ⊤
@@ -117,14 +117,14 @@ IsLeastWhereWhole source model x state =
 
 -- the state is a least one that decodes to the assignment: always, with soft constraints where the
 -- cost is whole, and not promised where ties are only as strong as least states ask
-abbrev pub IsLeastAsked : Ties → Format → Source → Written → List Bool → List Bool → Type 0
+abbrev pub IsLeastAsked : ChainStrength → Format → Source → Written → List Bool → List Bool → Type 0
 IsLeastAsked Cut format source model x state = ⊤
 IsLeastAsked Choi Wbo source model x state = IsLeastWhereWhole source model x state
 IsLeastAsked Choi format source model x state = IsLeastExtension model x state
 
 -- the text is a state of the model that extends an assignment of the source, with what the assignment
 -- costs the source, and the energy of the state; the state extends it where the bounded cost is whole
-pub record IsExtension (ties : Ties) (format : Format) (source : Source) (most : Option ℤ)
+pub record IsExtension (ties : ChainStrength) (format : Format) (source : Source) (most : Option ℤ)
     (model : Written) (x : List Bool) (text : List ℕ) : Type 0 where
   pub state : List Bool
   pub extends : Extends (bounded most source) model x state

@@ -8,6 +8,7 @@ use Rattle.problem_form.specs.declared.limits.Normal.{Normal}
 use Rattle.problem_form.specs.Problems.{ProblemContent, cut_off, own_cost}
 use Rattle.problem_form.specs.Problems as problems
 use Rattle.problem_form.specs.Limits.{limit_fault}
+use Rattle.batch_costs.specs.Assigned.{IsPlain}
 use Rattle.model_text.specs.Rows.{model_text}
 use Rattle.model_text.specs.Summary.{summary_text}
 use Rattle.answer_text.specs.Answers.{decoding_text, extension_text, proof_text, solution_text}
@@ -15,7 +16,7 @@ use Rattle.answer_text.specs.Sizes.{size_text}
 use Rattle.model_pipeline.specs.declared.kept.Keeping.{Keeping}
 use Rattle.model_pipeline.specs.declared.kept.Keeping.TheVariants.{Unwanted, Wanted}
 use Rattle.model_pipeline.specs.Extensions.{extension_of, state_on, ExtendsTo, IsLeastTo, IsMadeOf}
-use Rattle.command_words.specs.declared.commands.Ties.TheVariants.{Choi}
+use Rattle.command_words.specs.declared.commands.ChainStrength.TheVariants.{Choi}
 use Rattle.command_words.specs.declared.commands.Ask.{Ask}
 use Rattle.command_words.specs.declared.commands.Ask.TheVariants.{Model, Summary, Size, Solve, Decode, Evaluate, Extend, Prove}
 use Rattle.source_texts.specs.declared.reading.Read.{Read}
@@ -110,6 +111,13 @@ pub record CanJudge (read : Read) (m : Written) (x : List Bool) : Type 0 where
   pub variables : m.variables ≡ read.variables
   pub room : length x ≡ m.variables
   pub narrow : m.variables < 2 ^ 32
+
+-- what assignments of the source cost can be added up together, with a word for each variable: there
+-- are no soft constraints, and all that the problem says is its constant and its products
+pub record CanAddUp (read : Read) (words : List ℕ) : Type 0 where
+  pub own : read.soft ≡ None
+  pub plain : IsPlain read.problem
+  pub width : length words ≡ read.variables
 
 -- what asks for the model, or for what the model alone tells
 abbrev pub IsOfModel : Ask → Type 0

@@ -55,12 +55,47 @@ fn answer_model(alloc: Global, ask: Ask, plan: Plan) -> Result<Answer, Status>
     ensures made { IfOk result (λ answer. IsTextOfModelled ask plan (text_of answer)) }
     ensures refused { IfErr result (IsUnembedded plan) }
 {
-    match model_given(alloc, plan) {
-        Ok(model) => match told_of(alloc, ask, model) {
-            Ok(answer) => Ok(answer),
-            Err(_) => Err(Status::NoMemory),
+    let model = model_given(alloc, plan)?;
+    Ok(told_of(alloc, ask, model)?)
+}
+
+/// What a command answers that asks for more than the model of its plan tells.
+fn answer_lent<F: Files>(
+    alloc: Global,
+    words: &[String],
+    command: Command,
+    plan: &Plan,
+    files: &mut F,
+) -> Result<Answer, Status>
+    requires more { IsOfModel command.ask → ⊥ }
+    requires within { limit_fault plan.now.choices.normal plan.now.read.problem ≡ None }
+    requires kept { KeepsSoft plan.now.read }
+    ensures step { WhereHeld (F.held files.old) (last_files command) (λ held. EndsOf (ended result)
+        plan.now (last_step (spelled words.now) held command.ask plan.now.read.variables)) }
+    ensures files { AreFilesOf (named_in words.now command) []
+        (last_files command) (ended result) (F.counts files.old) (F.counts files.new) }
+    ensures answer { IfOk result (λ answer. WhereHeld (F.held files.old) (last_files command)
+        (λ held. IsMadeTextOf (spelled words.now) held command.ask plan.now (text_of answer))) }
+    ensures some { IfOk result (λ answer. text_of answer ≢ []) }
+    ensures refusal { IfErr result IsRefusal }
+{
+    match command.ask {
+        Ask::Solve(order) => match order {
+            None => Ok(Answer::Text(answer_solved(alloc, plan)?)),
+            Some(at) => {
+                let text = answer_in_order(alloc, words, command, at, plan, files)?;
+                Ok(Answer::Text(text))
+            }
         },
-        Err(status) => Err(status),
+        Ask::Evaluate(at) => {
+            let scores = answer_evaluated(alloc, words, command, at, plan, files)?;
+            Ok(Answer::Scores(scores))
+        }
+        Ask::Decode(at) | Ask::Extend(at) | Ask::Prove(at, _) => {
+            let told = answer_state(alloc, words, command, at, plan, files)?;
+            Ok(Answer::Text(told))
+        }
+        Ask::Model | Ask::Summary | Ask::Size => unreachable!(),
     }
 }
 
@@ -75,7 +110,8 @@ fn answer_by<F: Files>(
     requires within { limit_fault plan.choices.normal plan.read.problem ≡ None }
     requires kept { KeepsSoft plan.read }
     ensures step { WhereHeld (F.held files.old) (last_files command) (λ held.
-        EndsOf (ended result) plan (last_step (spelled words.now) held command.ask plan.read.variables)) }
+        EndsOf (ended result) plan
+        (last_step (spelled words.now) held command.ask plan.read.variables)) }
     ensures files { AreFilesOf (named_in words.now command) []
         (last_files command) (ended result) (F.counts files.old) (F.counts files.new) }
     ensures answer { IfOk result (λ answer. WhereHeld (F.held files.old) (last_files command)
@@ -85,45 +121,14 @@ fn answer_by<F: Files>(
 {
     match command.ask {
         Ask::Model | Ask::Summary | Ask::Size => {
-            match answer_model(alloc, command.ask, plan) {
-                Ok(answer) => Ok(answer),
-                Err(status) => Err(status),
-            }
+            let answer = answer_model(alloc, command.ask, plan)?;
+            Ok(answer)
         }
-        Ask::Solve(order) => match order {
-            None => {
-                let solved = answer_solved(alloc, &plan);
-                // dropped in each arm, since others move it: else each end would ask whether it is there
-                drop(plan);
-                match solved {
-                    Ok(text) => Ok(Answer::Text(text)),
-                    Err(status) => Err(status),
-                }
-            }
-            Some(at) => {
-                let ordered = answer_in_order(alloc, words, command, at, &plan, files);
-                drop(plan);
-                match ordered {
-                    Ok(text) => Ok(Answer::Text(text)),
-                    Err(status) => Err(status),
-                }
-            }
-        },
-        Ask::Evaluate(at) => {
-            let evaluated = answer_evaluated(alloc, words, command, at, &plan, files);
+        Ask::Solve(_) | Ask::Decode(_) | Ask::Evaluate(_) | Ask::Extend(_) | Ask::Prove(..) => {
+            let answer = answer_lent(alloc, words, command, &plan, files);
+            // dropped here, since the other arm moves it: else the end would ask whether it is there
             drop(plan);
-            match evaluated {
-                Ok(text) => Ok(Answer::Scores(text)),
-                Err(status) => Err(status),
-            }
-        }
-        Ask::Decode(at) | Ask::Extend(at) | Ask::Prove(at, _) => {
-            let told = answer_state(alloc, words, command, at, &plan, files);
-            drop(plan);
-            match told {
-                Ok(text) => Ok(Answer::Text(text)),
-                Err(status) => Err(status),
-            }
+            answer
         }
     }
 }
@@ -145,12 +150,6 @@ pub fn answer_to<F: Files>(
     ensures some { IfOk result (λ answer. text_of answer ≢ []) }
     ensures refusal { IfErr result IsRefusal }
 {
-    let plan = match take_plan(alloc, words, command, files) {
-        Ok(plan) => plan,
-        Err(status) => return Err(status),
-    };
-    match answer_by(alloc, words, command, plan, files) {
-        Ok(answer) => Ok(answer),
-        Err(status) => Err(status),
-    }
+    let plan = take_plan(alloc, words, command, files)?;
+    answer_by(alloc, words, command, plan, files)
 }

@@ -8,86 +8,21 @@ ghost use Rattle.source_texts.specs.Sources.{KeepsSoft};
 ghost use Rattle.run_steps.specs.Steps.{last_step};
 ghost use Rattle.run_steps.specs.Statuses.{ended, IsRefusal};
 ghost use Rattle.run_steps.specs.Causes.{AreFilesOf, WhereHeld, spelled, named_in};
-ghost use Rattle.state_scores.specs.Scores.{IsEvaluation, IsSmall};
+ghost use Rattle.state_scores.specs.Scores.{IsEvaluation};
 ghost use Rattle.program_run.specs.Answers.{IsScored};
-ghost use Rattle.program_run.specs.Made.{EndsOf, IsMadeTextOf, IsModelled, IsWithin, judgement_by, read_cost};
+ghost use Rattle.program_run.specs.Made.{EndsOf, IsMadeTextOf, IsModelled, IsWithin, judgement_by};
 
 use crate::decode::decoded;
+use crate::judging::ModelJudge;
 use crate::made::nodes_of;
-use base::{Cost, NoMemory};
-use bits_model::{OutputModel, energy_of};
+use bits_model::OutputModel;
 use command_words::{Command, WordAt};
 use edge_io::Files;
 use run_steps::{Plan, Status, take_states};
-use source_texts::{Read, cost_of};
+use source_texts::Read;
 use state_file::StateAnswer;
-use state_scores::{Evaluation, EvaluationText, Judge, evaluate};
+use state_scores::{Evaluation, EvaluationText, evaluate};
 use std::alloc::Global;
-use std::marker::Model;
-
-/// What an assignment costs, whose size is below 2^64.
-fn small_cost(read: &Read, x: &[bool]) -> Cost
-    requires within { IsWithin read.now.problem }
-    requires kept { KeepsSoft read.now }
-    requires width { length x.now ≡ read.now.variables }
-    requires narrow { length x.now < 2 ^ 32 }
-    ensures cost { result ≡ read_cost read.now x.now }
-    ensures small { IsSmall result }
-{
-    cost_of(read, x)
-}
-
-/// Who judges the states of a model: by its source, and with room for what a state decodes to.
-#[derive(Drop)]
-struct ModelJudge<'a> {
-    read: &'a Read,
-    model: &'a OutputModel,
-    x: Vec<bool>,
-}
-
-impl<'a> Model for ModelJudge<'a> {
-    ghost use Rattle.program_run.specs.Made.{CanJudge, Judged};
-
-    ghost Value = { Judged };
-
-    ghost view = { λ judge. record { read = judge.read.now; model = judge.model.now } };
-
-    ghost invariant = { λ judge. CanJudge judge.read.now judge.model.now judge.x.items };
-}
-
-impl ModelJudge<'_> {
-    /// The judge of a model of this source.
-    fn new<'a>(
-        alloc: Global,
-        read: &'a Read,
-        model: &'a OutputModel,
-    ) -> Result<ModelJudge<'a>, NoMemory>
-        requires within { IsWithin read.now.problem }
-        requires kept { KeepsSoft read.now }
-        requires variables { model.now.variables ≡ read.now.variables }
-        ensures { IfOk result (λ judge. judge ≡ record { read = read.now; model = model.now }) }
-    {
-        let mut x = Vec::new(alloc);
-        x.resize(model.variables as usize, false)?;
-        Ok(ModelJudge { read, model, x })
-    }
-}
-
-impl Judge for ModelJudge<'_> {
-    ghost judgement = { λ judge. judgement_by judge.read judge.model };
-
-    fn cost(&mut self, state: &[bool]) -> Cost {
-        let read = self.read;
-        let model = self.model;
-        model.read_off(state, &mut self.x);
-        small_cost(read, &self.x)
-    }
-
-    fn energy(&self, state: &[bool]) -> i128 {
-        let model = self.model;
-        energy_of(model.kind, state, &model.entries)
-    }
-}
 
 /// What the states of a text are worth, and the best of them.
 fn judged(
@@ -105,7 +40,7 @@ fn judged(
     ensures no_state { IsErrOf result StateAnswer.NoState
         → states_of model.now.nodes text.now ≡ [] }
 {
-    let mut judge = ModelJudge::new(alloc, read, model)?;
+    let mut judge = ModelJudge::new(alloc, read, model, text.len())?;
     evaluate(alloc, text, model.nodes as usize, &mut judge)
 }
 

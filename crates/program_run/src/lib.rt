@@ -7,6 +7,7 @@ mod decode;
 mod delivery;
 mod evaluate;
 mod extend;
+mod judging;
 mod laws;
 mod lines;
 mod made;

@@ -160,10 +160,8 @@ fn solved(alloc: Global, plan: &Plan, model: &OutputModel) -> Result<Vec<u8>, St
         Ok(state) => state,
         Err(answer) => return Err(unsolved(answer)),
     };
-    match solved_text(alloc, &plan.read, model, &state) {
-        Ok(text) => Ok(text),
-        Err(_) => Err(Status::NoMemory),
-    }
+    let text = solved_text(alloc, &plan.read, model, &state)?;
+    Ok(text)
 }
 
 /// Solves the model of a plan, and says what its first least state tells.
@@ -177,10 +175,8 @@ pub fn answer_solved(alloc: Global, plan: &Plan) -> Result<Vec<u8>, Status>
     ensures refusal { IfErr result IsUnsolved }
 {
     let mut kept = Keeping::Unwanted;
-    match model_lent(alloc, plan, &mut kept) {
-        Ok(model) => solved(alloc, plan, &model),
-        Err(status) => Err(status),
-    }
+    let model = model_lent(alloc, plan, &mut kept)?;
+    solved(alloc, plan, &model)
 }
 
 /// Solves a model of a plan in the order of the file of this name, and says what its first least state
@@ -208,18 +204,13 @@ fn solved_in_order<F: Files>(
     ensures refusal { IfErr result IsRefusal }
 {
     let nodes = nodes_of(model);
-    let order = match take_order(alloc, words, command, at, nodes, files) {
-        Ok(order) => order,
-        Err(status) => return Err(status),
-    };
+    let order = take_order(alloc, words, command, at, nodes, files)?;
     let state = match solve_by(alloc, model, &order) {
         Ok(state) => state,
         Err(answer) => return Err(unsolved(answer)),
     };
-    match solved_text(alloc, &plan.read, model, &state) {
-        Ok(text) => Ok(text),
-        Err(_) => Err(Status::NoMemory),
-    }
+    let text = solved_text(alloc, &plan.read, model, &state)?;
+    Ok(text)
 }
 
 /// Solves the model of a plan in the order of the file of this name, and says what its first least
@@ -246,10 +237,8 @@ pub fn answer_in_order<F: Files>(
     ensures refusal { IfErr result IsRefusal }
 {
     let mut kept = Keeping::Unwanted;
-    match model_lent(alloc, plan, &mut kept) {
-        Ok(model) => solved_in_order(alloc, words, command, at, plan, &model, files),
-        Err(status) => Err(status),
-    }
+    let model = model_lent(alloc, plan, &mut kept)?;
+    solved_in_order(alloc, words, command, at, plan, &model, files)
 }
 
 /// Takes states of the plan's model from the file of this name, and says what each is worth, which is
@@ -276,10 +265,8 @@ pub fn answer_evaluated<F: Files>(
     ensures refusal { IfErr result IsRefusal }
 {
     let mut kept = Keeping::Unwanted;
-    match model_lent(alloc, plan, &mut kept) {
-        Ok(model) => states_evaluated(alloc, words, command, at, plan, &model, files),
-        Err(status) => Err(status),
-    }
+    let model = model_lent(alloc, plan, &mut kept)?;
+    states_evaluated(alloc, words, command, at, plan, &model, files)
 }
 
 /// Takes a state of a model, or an assignment of its source, from the file of this name, and says what
@@ -310,14 +297,9 @@ fn state_told<F: Files>(
     ensures some { IfOk result (λ text. text.items ≢ []) }
     ensures refusal { IfErr result IsRefusal }
 {
-    let bits = match take_last(alloc, words, command, at, plan, model, files) {
-        Ok(bits) => bits,
-        Err(status) => return Err(status),
-    };
-    match told(alloc, command.ask, plan, model, kept, &bits) {
-        Ok(text) => Ok(text),
-        Err(_) => Err(Status::NoMemory),
-    }
+    let bits = take_last(alloc, words, command, at, plan, model, files)?;
+    let text = told(alloc, command.ask, plan, model, kept, &bits)?;
+    Ok(text)
 }
 
 /// Takes a state of the plan's model, or an assignment of its source, from the file of this name, and
@@ -344,8 +326,6 @@ pub fn answer_state<F: Files>(
     ensures refusal { IfErr result IsRefusal }
 {
     let mut kept = keeping_for(command.ask);
-    match model_lent(alloc, plan, &mut kept) {
-        Ok(model) => state_told(alloc, words, command, at, plan, &model, &kept, files),
-        Err(status) => Err(status),
-    }
+    let model = model_lent(alloc, plan, &mut kept)?;
+    state_told(alloc, words, command, at, plan, &model, &kept, files)
 }

@@ -53,10 +53,8 @@ pub fn model_on<P: Held>(
 {
     match base {
         Placement::Nodes(target) => {
-            match model_of(alloc, problem, variables, choices, *target, unit, kept) {
-                Ok(model) => Ok(model),
-                Err(_) => Err(Status::NoMemory),
-            }
+            let model = model_of(alloc, problem, variables, choices, *target, unit, kept)?;
+            Ok(model)
         }
         Placement::Qubits(site) => {
             match model_on_qubits(alloc, problem, variables, choices, unit, site, kept) {

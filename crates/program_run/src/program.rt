@@ -59,13 +59,9 @@ fn ending<O: Sink, E: Sink>(rt: HostRuntime, out: &mut O, err: &mut E) -> Result
     ensures unwritten { OnErr result (out.new ≡ out.old) }
     ensures unsaid { OnErr result (err.new ≡ err.old) }
 {
-    match given_words(&rt) {
-        Err(status) => Err(status),
-        Ok(words) => {
-            let alloc: Global = rt.alloc();
-            Ok(finish(alloc, &words, &mut RealFiles::new(rt), out, err))
-        }
-    }
+    let words = given_words(&rt)?;
+    let alloc: Global = rt.alloc();
+    Ok(finish(alloc, &words, &mut RealFiles::new(rt), out, err))
 }
 
 /// One run on the words of the command line and the files of the system. The result is the number to

@@ -1,14 +1,8 @@
 -- What the store of files counts where files are taken, and then others.
-use Rattle.std.proofs.Common.{◌≡◌, ◌≤◌, ℕ, zero, suc, ◌+◌, List, [], ◌∷◌, ◌++◌, length, refl, sym, ap, ◌∙◌, subst, append_assoc, arith, inl, inr}
-use Rattle.std.proofs.lemmas.List.{append-nil, length-append}
-use Rattle.edge_io.specs.Counts.{Counts}
-use Rattle.problem_form.specs.declared.limits.LimitKind.{LimitKind}
-use Rattle.problem_form.specs.declared.limits.LimitKind.TheVariants.{Bytes, Variables, Degree, Negations, Pairs, Weight}
-use Rattle.command_words.specs.declared.names.Which.{Which}
+use Rattle.run_steps.proofs.Common.{nat_tests, ◌≡◌, ◌≤◌, ℕ, suc, ◌+◌, List, [], ◌∷◌, ◌++◌, length, refl, sym, ap, ◌∙◌, subst, append_assoc, arith, inl, inr, append-nil, length-append, Counts, LimitKind, Which, Status, AreBegun, IsBegun, AreWanting, IsReadTo, IsTooLong, IsCause, IsLimited, last_of, AreRead, IsAt, AreRefused, AreFilesOf, IsRefusedBy}
+use Rattle.problem_form.specs.declared.limits.LimitKind.TheVariants.{Bytes}
 use Rattle.command_words.specs.declared.names.Which.TheVariants.{State}
-use Rattle.run_steps.specs.declared.status.Status.{Status}
 use Rattle.run_steps.specs.declared.status.Status.TheVariants.{Done, Usage, ReadFault, WriteFault, BadText, Limit, NotEmbedded, TooWide, NotProved, NoState, NoMemory}
-use Rattle.run_steps.specs.Causes.{AreBegun, IsBegun, AreWanting, IsReadTo, IsTooLong, IsCause, IsLimited, last_of, AreRead, IsAt, AreRefused, AreFilesOf, IsRefusedBy}
 
 -- ---- files after others
 
@@ -19,22 +13,11 @@ record IsMoved (count : ℕ) (old new : Counts) : Type 0 where
 
 moved : (name : Which → List ℕ) (files : List Which) (a b : Counts) → AreRead name files a b
     → IsMoved (length files) a b
-moved name [] a b same = record {
-  begun = ap (λ (n : Counts). n.begun) same;
-  later = omega (arith, ap (λ (n : Counts). n.faults) same);
-}
-moved name (file ∷ files) a b read = record { begun = read.begun; later = read.later }
+moved name files a b same = grind (arith, nat_tests)
 
 begun_more : (n k : ℕ) (a b c : Counts) → AreBegun n a b → AreBegun (suc k) b c
     → AreBegun (n + suc k) a c
-begun_more zero k a b c first next =
-    let all : AreBegun (suc k) a c = omega (arith, first, next) in
-    let same : suc k ≡ zero + suc k = omega arith in
-    subst (λ m. AreBegun m a c) same all
-begun_more (suc n) k a b c first next =
-    let all : AreBegun (suc (n + suc k)) a c = omega (arith, first, next) in
-    let same : suc (n + suc k) ≡ suc n + suc k = omega arith in
-    subst (λ m. AreBegun m a c) same all
+begun_more n k a b c first next = grind (arith, nat_tests)
 
 module _ (n k : ℕ) (a b c : Counts) (some : IsMoved n a b) where
   read_more : (name : List ℕ) → IsReadTo name (suc k) b c → IsReadTo name (n + suc k) a c
@@ -70,11 +53,7 @@ module _ (n k : ℕ) (a b c : Counts) (some : IsMoved n a b) where
   limited_more : (kind : LimitKind) (number : ℕ) (name : List ℕ)
       → IsLimited kind number name (suc k) b c → IsLimited kind number name (n + suc k) a c
   limited_more Bytes number name is = (is.0, long_more name is.1)
-  limited_more Variables number name is = read_more name is
-  limited_more Degree number name is = read_more name is
-  limited_more Negations number name is = read_more name is
-  limited_more Pairs number name is = read_more name is
-  limited_more Weight number name is = read_more name is
+  limited_more kind number name is = read_more name is
 
 at_seam : (first before : List Which)
     → length first + suc (length before) ≡ suc (length (first ++ before))
@@ -96,12 +75,7 @@ at_more first files which P Q more at =
 -- and at the same number before others
 at_first : (files more : List Which) (which : Which) (P : ℕ → Type 0) → IsAt files which P
     → IsAt (files ++ more) which P
-at_first files more which P at = (
-  at.0,
-  at.1 ++ more,
-  ap (λ l. l ++ more) at.2 ∙ append_assoc at.0 (which ∷ at.1) more,
-  at.3,
-)
+at_first files more which P at = grind (arith, nat_tests, append_assoc at.0 (which ∷ at.1) more)
 
 last-append : (file next : Which) (files more : List Which)
     → last_of file (files ++ next ∷ more) ≡ last_of next more
@@ -117,16 +91,8 @@ count_seam first next files = omega (arith, length-append first (next ∷ files)
 -- files were read, and then others
 pub read_then : (name : Which → List ℕ) (first files : List Which) (a b c : Counts)
     → AreRead name first a b → AreRead name files b c → AreRead name (first ++ files) a c
-read_then name [] files a b c same read = subst (λ (n : Counts). AreRead name files n c) same read
-read_then name (file ∷ first) [] a b c read same =
-    subst (λ l. AreRead name (file ∷ l) a c) (sym (append-nil first))
-    (subst (λ (n : Counts). AreRead name (file ∷ first) a n) (sym same) read)
-read_then name (file ∷ first) (next ∷ files) a b c some read =
-    subst (λ w. IsReadTo (name w) (suc (length (first ++ next ∷ files))) a c)
-    (sym (last-append file next first files))
-    (subst (λ n. IsReadTo (name (last_of next files)) n a c) (count_seam first next files)
-    (read_more (suc (length first)) (length files) a b c
-    (moved name (file ∷ first) a b some) (name (last_of next files)) read))
+read_then name first files a b c same read =
+    grind (arith, nat_tests, append-nil, last-append, count_seam, read_more, moved)
 
 -- ---- memory is wanting
 
@@ -143,12 +109,7 @@ last_split file (next ∷ files) =
 pub read_wanting : (name : Which → List ℕ) (files : List Which) (a b : Counts)
     → AreRead name files a b → AreWanting name files a b
 read_wanting name [] a b same = inl same
-read_wanting name (file ∷ files) a b read =
-    let split = last_split file files in
-    let is : IsBegun (name (last_of file files)) (suc (length files)) a b =
-    record { begun = read.begun; named = read.named } in
-    let told = subst (λ n. IsBegun (name (last_of file files)) (suc n) a b) (sym split.2) is in
-    inr (last_of file files, (split.0, [], split.1, told))
+read_wanting name (file ∷ files) a b read = grind (arith, nat_tests, last_split file files)
 
 -- memory was wanting, whatever files come after
 pub wanting_first : (name : Which → List ℕ) (files more : List Which) (a b : Counts)
@@ -191,12 +152,7 @@ refused_then name first files (NoState width) a b c some at =
     at_more first files State (λ n. IsReadTo (name State) n b c) (λ n. IsReadTo (name State) n a c)
     (λ k. read_more (length first) k a b c (moved name first a b some) (name State)) at
 refused_then name first files NoMemory a b c some at = wanting_then name first files a b c some at
-refused_then name first files Done a b c some at = absurd at
-refused_then name first files WriteFault a b c some at = absurd at
-refused_then name first files (Usage position) a b c some at = absurd at
-refused_then name first files (NotEmbedded fault) a b c some at = absurd at
-refused_then name first files (TooWide node width) a b c some at = absurd at
-refused_then name first files (NotProved fault) a b c some at = absurd at
+refused_then name first files status a b c some at = absurd at
 
 -- one was refused, whatever files come after it
 pub refused_first : (name : Which → List ℕ) (files more : List Which) (status : Status)
@@ -210,78 +166,46 @@ refused_first name files more (BadText which kind line) a b at =
 refused_first name files more (NoState width) a b at =
     at_first files more State (λ n. IsReadTo (name State) n a b) at
 refused_first name files more NoMemory a b at = wanting_first name files more a b at
-refused_first name files more Done a b at = absurd at
-refused_first name files more WriteFault a b at = absurd at
-refused_first name files more (Usage position) a b at = absurd at
-refused_first name files more (NotEmbedded fault) a b at = absurd at
-refused_first name files more (TooWide node width) a b at = absurd at
-refused_first name files more (NotProved fault) a b at = absurd at
+refused_first name files more status a b at = absurd at
 
 -- a file alone is refused
-pub refused_alone : (name : Which → List ℕ) (which : Which) (called : List ℕ) (status : Status)
-    (a b : Counts) → called ≡ name which → IsRefusedBy which called status a b
-    → AreRefused name (which ∷ []) status a b
-refused_alone name which called (ReadFault other) a b same by =
-    let P : Which → Type 0 = λ w. IsAt (which ∷ []) w (λ n. IsCause (name w) n a b) in
-    subst P (sym by.0) ([], [], refl, subst (λ l. IsCause l 1 a b) same by.1)
-refused_alone name which called (Limit other kind number) a b same by =
-    let P : Which → Type 0 = λ w. IsAt (which ∷ []) w (λ n. IsLimited kind number (name w) n a b) in
-    subst P (sym by.0) ([], [], refl, subst (λ l. IsLimited kind number l 1 a b) same by.1)
-refused_alone name which called (BadText other kind line) a b same by =
-    let P : Which → Type 0 = λ w. IsAt (which ∷ []) w (λ n. IsReadTo (name w) n a b) in
-    subst P (sym by.0) ([], [], refl, subst (λ l. IsReadTo l 1 a b) same by.1)
-refused_alone name which called (NoState width) a b same by =
-    let P : Which → Type 0 = λ w. IsAt (which ∷ []) w (λ n. IsReadTo (name w) n a b) in
-    subst P by.0 ([], [], refl, subst (λ l. IsReadTo l 1 a b) same by.1)
-refused_alone name which called NoMemory a b same (inl none) = inl none
-refused_alone name which called NoMemory a b same (inr is) =
-    inr (which, ([], [], refl, subst (λ l. IsBegun l 1 a b) same is))
-refused_alone name which called Done a b same by = absurd by
-refused_alone name which called WriteFault a b same by = absurd by
-refused_alone name which called (Usage position) a b same by = absurd by
-refused_alone name which called (NotEmbedded fault) a b same by = absurd by
-refused_alone name which called (TooWide node width) a b same by = absurd by
-refused_alone name which called (NotProved fault) a b same by = absurd by
+pub refused_alone : (name : Which → List ℕ) (which : Which) (status : Status) (a b : Counts)
+    → IsRefusedBy which (name which) status a b → AreRefused name (which ∷ []) status a b
+refused_alone name which (ReadFault other) a b by =
+    subst (λ w. IsAt (which ∷ []) w (λ n. IsCause (name w) n a b)) (sym by.0) ([], [], refl, by.1)
+refused_alone name which (Limit other kind number) a b by =
+    subst (λ w. IsAt (which ∷ []) w (λ n. IsLimited kind number (name w) n a b)) (sym by.0)
+    ([], [], refl, by.1)
+refused_alone name which (BadText other kind line) a b by =
+    subst (λ w. IsAt (which ∷ []) w (λ n. IsReadTo (name w) n a b)) (sym by.0) ([], [], refl, by.1)
+refused_alone name which (NoState width) a b by =
+    subst (λ w. IsAt (which ∷ []) w (λ n. IsReadTo (name w) n a b)) by.0 ([], [], refl, by.1)
+refused_alone name which NoMemory a b (inl none) = inl none
+refused_alone name which NoMemory a b (inr is) = inr (which, ([], [], refl, is))
+refused_alone name which status a b by = absurd by
 
 -- ---- of a command
 
 -- one of the files of a model is refused
 pub made_refused : (name : Which → List ℕ) (made last : List Which) (status : Status)
     (a b : Counts) → AreRefused name made status a b → AreFilesOf name made last status a b
-made_refused name made last (ReadFault which) a b at = refused_first name made last (ReadFault which) a b at
-made_refused name made last (Limit which kind number) a b at =
-    refused_first name made last (Limit which kind number) a b at
-made_refused name made last (BadText which kind line) a b at =
-    refused_first name made last (BadText which kind line) a b at
-made_refused name made last (NoState width) a b at =
-    refused_first name made last (NoState width) a b at
-made_refused name made last NoMemory a b at = wanting_first name made last a b at
 made_refused name made last Done a b at = absurd at
 made_refused name made last WriteFault a b at = absurd at
 made_refused name made last (Usage position) a b at = absurd at
 made_refused name made last (NotEmbedded fault) a b at = absurd at
 made_refused name made last (TooWide node width) a b at = absurd at
 made_refused name made last (NotProved fault) a b at = absurd at
+made_refused name made last status a b at = refused_first name made last status a b at
 
 -- those of a model were read, and then come the last ones
 pub made_then : (name : Which → List ℕ) (made last : List Which) (status : Status)
     (a b c : Counts) → AreRead name made a b → AreFilesOf name [] last status b c
     → AreFilesOf name made last status a c
-made_then name made last (ReadFault which) a b c some at =
-    refused_then name made last (ReadFault which) a b c some at
-made_then name made last (Limit which kind number) a b c some at =
-    refused_then name made last (Limit which kind number) a b c some at
-made_then name made last (BadText which kind line) a b c some at =
-    refused_then name made last (BadText which kind line) a b c some at
-made_then name made last (NoState width) a b c some at =
-    refused_then name made last (NoState width) a b c some at
-made_then name made last NoMemory a b c some at = wanting_then name made last a b c some at
 made_then name made last Done a b c some read = read_then name made last a b c some read
 made_then name made last WriteFault a b c some read = read_then name made last a b c some read
+made_then name made last (TooWide node width) a b c some read = read_then name made last a b c some read
+made_then name made last (NotProved fault) a b c some read = read_then name made last a b c some read
 made_then name made last (Usage position) a b c some at = tt
 made_then name made last (NotEmbedded fault) a b c some same =
     subst (λ (n : Counts). AreRead name made a n) (sym same) some
-made_then name made last (TooWide node width) a b c some read =
-    read_then name made last a b c some read
-made_then name made last (NotProved fault) a b c some read =
-    read_then name made last a b c some read
+made_then name made last status a b c some at = refused_then name made last status a b c some at

@@ -1,39 +1,20 @@
 -- The source of a command, where it is read, within the limits, or refused.
-use Rattle.std.proofs.Common.{◌≡◌, ℕ, List, Ok, Err, Result, Some, None, refl, ◌∙◌, ap, subst, sym}
-use Rattle.edge_io.specs.Held.{NamedFiles}
-use Rattle.problem_form.specs.declared.limits.LimitFault.{LimitFault}
-use Rattle.problem_form.specs.Limits.{limit_fault}
+use Rattle.run_steps.proofs.Common.{nat_tests, arith, ◌≡◌, ℕ, List, Ok, Err, Result, Some, None, refl, ◌∙◌, ap, subst, sym, NamedFiles, LimitFault, limit_fault, Format, WordAt, Command, text_at, sample_text, Read, problem_of, Status, Refuses, checking, ends, limited, reading_source, sourcing, text_end, wanted, checking_file, reading_file, IsDrawnFor}
 use Rattle.command_words.specs.declared.names.Which.TheVariants.{Source}
-use Rattle.command_words.specs.declared.commands.Format.{Format}
 use Rattle.command_words.specs.declared.commands.Format.TheVariants.{Wcnf}
-use Rattle.command_words.specs.declared.commands.WordAt.{WordAt}
 use Rattle.command_words.specs.declared.commands.Origin.TheVariants.{File, Drawn}
-use Rattle.command_words.specs.declared.commands.Command.{Command}
-use Rattle.command_words.specs.Names.{text_at}
-use Rattle.sample_text.specs.Sample.{sample_text}
-use Rattle.source_texts.specs.declared.reading.Read.{Read}
-use Rattle.source_texts.specs.Sources.{problem_of}
-use Rattle.run_steps.specs.declared.status.Status.{Status}
 use Rattle.run_steps.specs.declared.status.Status.TheVariants.{Limit}
-use Rattle.run_steps.specs.Steps.{Steps, ◌>>=◌, Refuses, checking, ends, limited, limits_end, reading_source, sourcing, text_end, wanted}
-use Rattle.run_steps.specs.Cut.{checking_file, reading_file}
-use Rattle.run_steps.specs.Drawn.{IsDrawnFor}
 use Rattle.run_steps.proofs.Stepping.{next_end, refuses_on}
 
 -- what is read is what a command wants within its limits, or passes one of them
 pub limited_is : (command : Command) (own given : Read) → given ≡ wanted command own
     → limit_fault command.choices.normal given.problem ≡ None → limited command own ≡ Ok given
-limited_is command own given is within =
-    ap (limits_end Source (wanted command own))
-    (ap (λ (r : Read). limit_fault command.choices.normal r.problem) (sym is) ∙ within)
-    ∙ ap Ok (sym is)
+limited_is command own given is within = grind (arith, nat_tests)
 
 pub limited_not : (command : Command) (own given : Read) (fault : LimitFault)
     → given ≡ wanted command own → limit_fault command.choices.normal given.problem ≡ Some fault
     → limited command own ≡ Err (Limit Source fault.kind fault.number)
-limited_not command own given fault is beyond =
-    ap (limits_end Source (wanted command own))
-    (ap (λ (r : Read). limit_fault command.choices.normal r.problem) (sym is) ∙ beyond)
+limited_not command own given fault is beyond = grind (arith, nat_tests)
 
 -- ---- a file
 
@@ -42,9 +23,7 @@ module _ (held : NamedFiles) (name : List ℕ) (format : Format) (command : Comm
       → (reading_file held name format).end ≡ Some (Ok own) → limited command own ≡ end
       → (checking_file held name format command).end ≡ Some end
   unfolding checking_file
-  file_ends own end e is =
-      next_end (reading_file held name format) (λ read. ends (limited command read)) own e
-      ∙ ap Some is
+  file_ends own end e is = grind (arith, nat_tests)
 
   pub file_refuses : (status : Status) → Refuses status (reading_file held name format)
       → Refuses status (checking_file held name format command)
@@ -59,14 +38,10 @@ file_is_read words held format at = refl
 
 -- a source in a file is checked as the file is
 pub file_is_checked : (words : List (List ℕ)) (held : NamedFiles) (command : Command)
-    (format : Format) (at : WordAt) (name : List ℕ) → command.origin ≡ File format at
-    → name ≡ text_at words at
-    → checking_file held name format command ≡ checking words held command
+    (format : Format) (at : WordAt) → command.origin ≡ File format at
+    → checking_file held (text_at words at) format command ≡ checking words held command
 unfolding checking checking_file
-file_is_checked words held command format at name is named =
-    ap (λ (m : Steps Read). m >>= λ read. ends (limited command read))
-    (ap (λ n. reading_file held n format) named ∙ sym (file_is_read words held format at)
-    ∙ ap (reading_source words held) (sym is))
+file_is_checked words held command format at is = grind (arith, nat_tests, file_is_read)
 
 -- ---- a number that draws a text
 

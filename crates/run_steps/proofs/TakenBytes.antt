@@ -1,12 +1,5 @@
 -- The bytes that a step takes are those of the held file.
-use Rattle.std.proofs.Common.{◌≡◌, ℕ, List, length, Ok, Err, Some, None, ap, Bool, true, false, if◌then◌else◌, nat_lt}
-use Rattle.std.specs.declared.option.Option.{Option}
-use Rattle.std.specs.Option.{option_map_or}
-use Rattle.edge_io.specs.Held.{NamedFiles, find_file}
-use Rattle.problem_form.specs.Limits.{most_bytes}
-use Rattle.command_words.specs.declared.names.Which.{Which}
-use Rattle.run_steps.specs.declared.status.Status.{Status}
-use Rattle.run_steps.specs.Steps.{not_too_long, taking}
+use Rattle.run_steps.proofs.Common.{◌≡◌, ℕ, List, length, Ok, Err, Some, None, ap, Bool, true, false, if◌then◌else◌, nat_lt, Option, option_map_or, NamedFiles, find_file, most_bytes, Which, Status, not_too_long, taking}
 
 kept : (long : Bool) (status : Status) (b bytes : List ℕ)
     → Some (if long then Err status else Ok b) ≡ Some (Ok bytes) → b ≡ bytes

@@ -7,12 +7,13 @@ use Rattle.edge_io.specs.Held.{NamedFiles, IsFront}
 use Rattle.whole_text.specs.declared.token.Style.{Style}
 use Rattle.whole_text.specs.Tokens.{Word, tokens_of}
 use Rattle.whole_text.specs.Lexing.{LexerState, StandsFor}
+use Rattle.command_words.specs.declared.names.Which.{Which}
 use Rattle.command_words.specs.declared.names.Which.TheVariants.{Source}
 use Rattle.command_words.specs.declared.commands.Format.{Format}
 use Rattle.command_words.specs.declared.commands.Command.{Command}
 use Rattle.source_texts.specs.declared.reading.Read.{Read}
 use Rattle.source_texts.specs.Sources.{problem_of}
-use Rattle.run_steps.specs.Steps.{Steps, ◌>>=◌, ends, limited, text_end, taking}
+use Rattle.run_steps.specs.Steps.{Steps, ◌>>=◌, ends, gives, limited, text_end, taking}
 
 -- the file is held, is no longer than this, and has these words in this style
 abbrev pub AreWordsOf : Option (List ℕ) → ℕ → Style → List Word → Type 0
@@ -41,6 +42,12 @@ pub record IsSameBegin (before now : Counts) : Type 0 where
   pub marked : now.faults_at_begin ≡ before.faults_at_begin
   pub named : now.name ≡ before.name
   pub later : before.faults ≤ now.faults
+
+-- taking the file of this name, and then its words in a style
+unfoldable pub cutting : NamedFiles → Which → List ℕ → Style → Steps (List Word)
+cutting held which name style = do
+  bytes ← taking held which name
+  gives (tokens_of style bytes)
 
 -- taking a file of this name, and reading it in a format
 unfoldable pub reading_file : NamedFiles → List ℕ → Format → Steps Read

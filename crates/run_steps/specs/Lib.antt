@@ -3,5 +3,6 @@ pub mod Placements
 pub mod Plans
 pub mod Steps
 pub mod Causes
+pub mod Takes
 pub mod Cut
 pub mod Drawn

@@ -3,8 +3,8 @@ use Rattle.std.specs.Prelude.{ℕ, [], false}
 use Rattle.bits_model.specs.declared.output.Kind.{Kind}
 use Rattle.base.specs.declared.unit.UnitChoice.{UnitChoice}
 use Rattle.faithful.specs.Faithful.{Demand}
-use Rattle.command_words.specs.declared.commands.Ties.{Ties}
-use Rattle.command_words.specs.declared.commands.Ties.TheVariants.{Choi}
+use Rattle.command_words.specs.declared.commands.ChainStrength.{ChainStrength}
+use Rattle.command_words.specs.declared.commands.ChainStrength.TheVariants.{Choi}
 use Rattle.model_pipeline.specs.Models as models
 use Rattle.model_pipeline.specs.Sites.{graph_in, fabric_in, chains_of}
 use Rattle.model_pipeline.specs.QubitModels as qubits
@@ -18,7 +18,7 @@ kind_of (Qubits site) = qubits.kind_of (graph_in site.qubits)
 
 -- how chains are tied there; without chains every state stands for what it is read as, as with ties
 -- that no state should break
-abbrev pub ties_of : Placement → Ties
+abbrev pub ties_of : Placement → ChainStrength
 ties_of (Nodes target) = Choi
 ties_of (Qubits site) = site.ties
 
@@ -29,7 +29,7 @@ demand_of unit (Nodes target) nodes =
     record { unit = unit; chains = []; exists = λ q. false; joined = λ p q. false }
 demand_of unit (Qubits site) nodes = record {
   unit = unit;
-  chains = chains_of site.qubits site.perch nodes;
+  chains = chains_of site.qubits site.chain_source nodes;
   exists = (fabric_in site.qubits).exists;
   joined = (fabric_in site.qubits).joined;
 }

@@ -51,7 +51,7 @@ Stands plan m = StandsOn plan.base plan.choices plan.unit plan.read.variables pl
 -- on a graph the form has a place
 abbrev pub CanStandOn : Placement → IsingContent → Type 0
 CanStandOn (Nodes target) form = ⊤
-CanStandOn (Qubits site) form = CanStandAt site.qubits site.perch form
+CanStandOn (Qubits site) form = CanStandAt site.qubits site.chain_source form
 
 -- the form of the plan has a place where it is put
 abbrev pub CanStand : Plan → Type 0
@@ -60,4 +60,4 @@ CanStand plan = CanStandOn plan.base (form_in plan)
 -- why the form has none
 abbrev pub IsFaultOn : Placement → IsingContent → EmbedFault → Type 0
 IsFaultOn (Nodes target) form fault = ⊥
-IsFaultOn (Qubits site) form fault = IsFaultAt site.qubits site.perch form fault
+IsFaultOn (Qubits site) form fault = IsFaultAt site.qubits site.chain_source form fault

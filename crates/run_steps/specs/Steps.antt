@@ -5,9 +5,8 @@ use Rattle.std.specs.Option.{option_map_or}
 use Rattle.edge_io.specs.Held.{NamedFiles, find_file}
 use Rattle.bits_model.specs.Output.{Written}
 use Rattle.whole_text.specs.declared.faults.TextFault.{TextFault}
-use Rattle.whole_text.specs.declared.token.Style.{Style}
 use Rattle.whole_text.specs.declared.token.Style.TheVariants.{Plain}
-use Rattle.whole_text.specs.Tokens.{Word, tokens_of}
+use Rattle.whole_text.specs.Tokens.{tokens_of}
 use Rattle.problem_form.specs.declared.limits.LimitFault.{LimitFault}
 use Rattle.problem_form.specs.declared.limits.LimitKind.TheVariants.{Bytes}
 use Rattle.problem_form.specs.Limits.{limit_fault, most_bytes}
@@ -48,8 +47,8 @@ use Rattle.posiform_check.specs.FirstFaults.{proof_fault}
 use Rattle.posiform_check.specs.Texts as certificates
 use Rattle.model_pipeline.specs.declared.site.Qubits.{Qubits}
 use Rattle.model_pipeline.specs.declared.site.Qubits.TheVariants as which
-use Rattle.model_pipeline.specs.declared.site.Perch.{Perch}
-use Rattle.model_pipeline.specs.declared.site.Perch.TheVariants as perches
+use Rattle.model_pipeline.specs.declared.site.ChainSource.{ChainSource}
+use Rattle.model_pipeline.specs.declared.site.ChainSource.TheVariants as chain_sources
 use Rattle.model_pipeline.specs.declared.site.Site.{Site}
 use Rattle.run_steps.specs.declared.placements.Placement.{Placement}
 use Rattle.run_steps.specs.declared.placements.Placement.TheVariants as placements
@@ -99,12 +98,6 @@ taking held which name = record {
   taken = which ∷ [];
   end = option_map_or (λ bytes. Some (not_too_long which bytes)) (find_file held name) None;
 }
-
--- and then its words in a style
-unfoldable pub cutting : NamedFiles → Which → List ℕ → Style → Steps (List Word)
-cutting held which name style = do
-  bytes ← taking held which name
-  gives (tokens_of style bytes)
 
 -- what a text is read into, or its fault
 abbrev pub text_end : {A : Type 0} → Which → Result A TextFault → Result A Status
@@ -180,18 +173,18 @@ mapping held name = do
   ends (text_end Map (maps.reading bytes))
 
 -- where the chains come from, with the map that is named
-unfoldable pub perching : List (List ℕ) → NamedFiles → Chaining → Steps Perch
-perching words held chainings.Clique = gives perches.Clique
-perching words held (chainings.Map at) = do
+unfoldable pub chains_step : List (List ℕ) → NamedFiles → Chaining → Steps ChainSource
+chains_step words held chainings.Clique = gives chain_sources.Clique
+chains_step words held (chainings.Map at) = do
   map ← mapping held (text_at words at)
-  gives (perches.Map map)
+  gives (chain_sources.Map map)
 
 -- where chains stand, and how they are tied
 unfoldable pub siting : List (List ℕ) → NamedFiles → Board → Steps Site
 siting words held board = do
   qubits ← surveying words held board.graph board.dead
-  perch ← perching words held board.chains
-  gives (record { qubits = qubits; perch = perch; ties = board.ties })
+  chain_source ← chains_step words held board.chains
+  gives (record { qubits = qubits; chain_source = chain_source; ties = board.ties })
 
 -- what the model stands on
 unfoldable pub placing : List (List ℕ) → NamedFiles → Target → Steps Placement
@@ -256,8 +249,8 @@ bits_step words held ask variables m = gives []
 -- an order of so many nodes, read from the file of this name
 unfoldable pub ordered : NamedFiles → List ℕ → ℕ → Steps (List ℕ)
 ordered held name nodes = do
-  ws ← cutting held Order name Plain
-  ends (text_end Order (order_of nodes ws))
+  bytes ← taking held Order name
+  ends (text_end Order (order_of nodes (tokens_of Plain bytes)))
 
 -- the first node to be eliminated that is too wide, of the nodes below this one, with its width
 abbrev pub wide_below : Written → ℕ → Option (ℕ × ℕ)

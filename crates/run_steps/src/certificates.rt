@@ -1,41 +1,23 @@
 //! A certificate, read from a file, and the state that it proves.
-ghost use Rattle.std.specs.Prelude.{◌≡◌, ◌≤◌, ◌^◌, [], None, Some, Result, length, IfOk, OnOk, IfErr};
+ghost use Rattle.std.specs.Prelude.{◌≡◌, ◌≤◌, ◌^◌, [], None, Some, length, IfOk, IfErr};
 ghost use Rattle.bits_model.specs.Output.{weight_total};
-ghost use Rattle.edge_io.specs.Held.{WhereTold};
-ghost use Rattle.whole_text.specs.declared.faults.TextFault.{TextFault};
-ghost use Rattle.whole_text.specs.Steps.{Gives};
-ghost use Rattle.command_words.specs.Names.{certificate_of, if_named, text_at};
+ghost use Rattle.command_words.specs.declared.names.Which.{Which};
+ghost use Rattle.command_words.specs.Names.{certificate_of, if_named};
 ghost use Rattle.posiform_check.specs.BitForms.{CertificateContent};
 ghost use Rattle.posiform_check.specs.Certificates.{certificate_fault, AreOfNodes};
 ghost use Rattle.posiform_check.specs.FirstFaults.{proof_fault};
-ghost use Rattle.run_steps.specs.Steps.{Meets, certified, certifying, ends, limits_end, proof_end, text_end};
-ghost use Rattle.run_steps.specs.Statuses.{ended, IsReading, IsTextRefusal, IsUnproved};
-ghost use Rattle.run_steps.specs.Causes.{AreFilesOf, IsReadTo, IsRefusedBy, MeetsHeld, named_in, spelled_at};
+ghost use Rattle.run_steps.specs.Steps.{Meets, certified, certifying, ends, limits_end, proof_end};
+ghost use Rattle.run_steps.specs.Statuses.{ended, IsReading, IsUnproved};
+ghost use Rattle.run_steps.specs.Causes.{AreFilesOf, MeetsHeld, named_in, spelled_at};
 
+use crate::from_file::{FromFile, take_named};
 use crate::status::Status;
-use crate::steps::take_bytes;
+use crate::steps::{read_into, take_bytes};
 use bits_model::OutputModel;
-use command_words::{Command, Which, WordAt, text_at};
+use command_words::{Command, Which, WordAt};
 use edge_io::Files;
 use posiform_check::{Certificate, ProofAnswer, check_certificate, prove, read_certificate};
 use std::alloc::Global;
-use whole_text::TextAnswer;
-
-/// The certificate that a text is read into, or the status of its fault.
-fn judged_certificate(read: Result<Certificate, TextAnswer>) -> Result<Certificate, Status>
-    ensures step { (said : Result CertificateContent TextFault) → Gives (λ c. c) read said
-        → Meets (λ c. c) result (ends (text_end Which.Certificate said)) }
-    ensures good { IfOk result (λ c. read ≡ Ok c) }
-    ensures bad { IfErr result (IsTextRefusal Which.Certificate) }
-{
-    match read {
-        Ok(certificate) => Ok(certificate),
-        Err(TextAnswer::Bad(fault)) => {
-            Err(Status::BadText(Which::Certificate, fault.kind, fault.line))
-        }
-        Err(TextAnswer::NoMemory) => Err(Status::NoMemory),
-    }
-}
 
 /// A certificate within its limits, or the status of the limit that it passes.
 fn within_limits(certificate: Certificate) -> Result<Certificate, Status>
@@ -50,27 +32,33 @@ fn within_limits(certificate: Certificate) -> Result<Certificate, Status>
     }
 }
 
-/// Takes a file of this name, and reads a certificate for a model of so many nodes, within its limits.
-#[tactic(auto, unfolding(crate::specs::Steps::certifying))]
-fn take_certificate<F: Files>(
-    alloc: Global,
-    name: &str,
-    nodes: u32,
-    files: &mut F,
-) -> Result<Certificate, Status>
-    ensures step { WhereTold (F.held files.old) (λ held. Meets (λ c. c) result
-        (certifying held name.now nodes)) }
-    ensures nodes { IfOk result (AreOfNodes nodes) }
-    ensures accepted { IfOk result (λ c. certificate_fault c ≡ None) }
-    ensures passed { OnOk result (IsReadTo name.now 1 (F.counts files.old) (F.counts files.new)) }
-    ensures refused { IfErr result (λ status. IsRefusedBy Which.Certificate name.now status
-        (F.counts files.old) (F.counts files.new)) }
-{
-    let text = take_bytes(alloc, name, Which::Certificate, files)?;
-    let read = read_certificate(alloc, &text, nodes);
-    drop(text);
-    let certificate = judged_certificate(read)?;
-    within_limits(certificate)
+/// A certificate within its limits, for a model of so many nodes.
+impl FromFile for Certificate {
+    type Context = u32;
+
+    ghost which = { Which.Certificate };
+
+    ghost Content = { CertificateContent };
+
+    ghost view = { λ c. c };
+
+    ghost steps = { λ nodes held name. certifying held name nodes };
+
+    ghost fits = { λ nodes c. AreOfNodes nodes c × (certificate_fault c ≡ None) };
+
+    #[tactic(auto, unfolding(crate::specs::Steps::certifying), using(crate::proofs::Taking::judged_meets))]
+    fn take<F: Files>(
+        alloc: Global,
+        name: &str,
+        nodes: u32,
+        files: &mut F,
+    ) -> Result<Certificate, Status> {
+        let text = take_bytes(alloc, name, Which::Certificate, files)?;
+        let read = read_certificate(alloc, &text, nodes);
+        drop(text);
+        let certificate = read_into(read, Which::Certificate)?;
+        within_limits(certificate)
+    }
 }
 
 /// The bits of a state, where a certificate proves that it is least, or the status of the first fault.
@@ -118,11 +106,6 @@ pub fn take_proof<F: Files>(
         (F.counts files.old) (F.counts files.new) }
     ensures refusal { IfErr result IsReading }
 {
-    match take_certificate(alloc, text_at(words, at), model.nodes, files) {
-        Ok(certificate) => match proved(alloc, model, &certificate, bits) {
-            Ok(bits) => Ok(bits),
-            Err(status) => Err(status),
-        },
-        Err(status) => Err(status),
-    }
+    let certificate = take_named::<Certificate, F>(alloc, words, command, at, model.nodes, files)?;
+    proved(alloc, model, &certificate, bits)
 }

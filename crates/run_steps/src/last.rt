@@ -3,13 +3,13 @@
 ghost use Rattle.std.specs.Prelude.{◌≡◌, ◌≤◌, ◌^◌, [], Some, length, IfOk, IfErr};
 ghost use Rattle.bits_model.specs.Output.{weight_total};
 ghost use Rattle.command_words.specs.Names.{last_files};
-ghost use Rattle.run_steps.specs.Steps.{Bits, asked_width, bits_at, bits_step, last_step};
+ghost use Rattle.run_steps.specs.Steps.{Bits, asked_width, bits_at, last_step};
 ghost use Rattle.run_steps.specs.Statuses.{ended, IsReading};
-ghost use Rattle.run_steps.specs.Causes.{AreFilesOf, MeetsHeld, named_in, spelled, state_files};
+ghost use Rattle.run_steps.specs.Causes.{AreFilesOf, MeetsHeld, named_in, spelled};
 
 use crate::certificates::take_proof;
+use crate::from_file::take_named;
 use crate::plans::Plan;
-use crate::states::take_state;
 use crate::status::Status;
 use bits_model::OutputModel;
 use command_words::{Ask, Command, WordAt};
@@ -24,42 +24,6 @@ fn width_of(ask: Ask, read: &Read, model: &OutputModel) -> usize
     match ask {
         Ask::Decode(_) | Ask::Prove(..) => model.nodes as usize,
         _ => read.variables as usize,
-    }
-}
-
-/// Takes the files of a state or an assignment and of a certificate, and reads the bits that a command
-/// asks for.
-fn take_asked<F: Files>(
-    alloc: Global,
-    words: &[String],
-    command: Command,
-    at: WordAt,
-    plan: &Plan,
-    model: &OutputModel,
-    files: &mut F,
-) -> Result<Vec<bool>, Status>
-    requires asked { bits_at command.ask ≡ Some at }
-    requires small { weight_total model.now.entries ≤ 2 ^ 121 }
-    ensures step { MeetsHeld (F.held files.old) (state_files command)
-        (λ bits. bits.items) result
-        (λ held. bits_step (spelled words.now) held command.ask plan.now.read.variables model.now) }
-    ensures width { IfOk result (λ bits.
-        length bits.items ≡ asked_width command.ask plan.now.read.variables model.now) }
-    ensures files { AreFilesOf (named_in words.now command) []
-        (state_files command) (ended result) (F.counts files.old) (F.counts files.new) }
-    ensures refusal { IfErr result IsReading }
-{
-    let width = width_of(command.ask, &plan.read, model);
-    let bits = match take_state(alloc, words, command, at, width, files) {
-        Ok(bits) => bits,
-        Err(status) => return Err(status),
-    };
-    match command.ask {
-        Ask::Prove(_, at) => match take_proof(alloc, words, command, at, model, bits, files) {
-            Ok(bits) => Ok(bits),
-            Err(status) => Err(status),
-        },
-        _ => Ok(bits),
     }
 }
 
@@ -84,8 +48,12 @@ pub fn take_last<F: Files>(
         (last_files command) (ended result) (F.counts files.old) (F.counts files.new) }
     ensures refusal { IfErr result IsReading }
 {
-    match take_asked(alloc, words, command, at, plan, model, files) {
-        Ok(bits) => Ok(bits),
-        Err(status) => Err(status),
+    let width = width_of(command.ask, &plan.read, model);
+    let bits = take_named::<Vec<bool>, F>(alloc, words, command, at, width, files)?;
+    match command.ask {
+        Ask::Prove(_, at) => take_proof(alloc, words, command, at, model, bits, files),
+        Ask::Decode(_) => Ok(bits),
+        Ask::Extend(_) => Ok(bits),
+        Ask::Model | Ask::Summary | Ask::Size | Ask::Solve(_) | Ask::Evaluate(_) => unreachable!(),
     }
 }

@@ -3,6 +3,7 @@
 
 mod certificates;
 mod cut;
+mod from_file;
 mod last;
 mod orders;
 mod placements;

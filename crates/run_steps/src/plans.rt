@@ -76,17 +76,12 @@ pub fn take_plan<F: Files>(
         (F.counts files.old) (F.counts files.new)) }
     ensures refusal { IfErr result IsRefusal }
 {
-    let read = match take_source(alloc, words, command, files) {
-        Ok(read) => read,
-        Err(status) => return Err(status),
-    };
-    match take_placement(alloc, words, command, files) {
-        Ok(base) => Ok(Plan {
-            read,
-            choices: command.choices,
-            unit: command.unit,
-            base,
-        }),
-        Err(status) => Err(status),
-    }
+    let read = take_source(alloc, words, command, files)?;
+    let base = take_placement(alloc, words, command, files)?;
+    Ok(Plan {
+        read,
+        choices: command.choices,
+        unit: command.unit,
+        base,
+    })
 }

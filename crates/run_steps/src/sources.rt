@@ -1,25 +1,27 @@
 //! The source of a command: the file that it names, or the text that a number draws.
-ghost use Rattle.std.specs.Prelude.{◌≡◌, ◌≤◌, None, IfOk, OnOk, IfErr};
-ghost use Rattle.edge_io.specs.Held.{WhereTold};
+ghost use Rattle.std.specs.Prelude.{◌≡◌, ◌≤◌, None, IfOk};
 ghost use Rattle.problem_form.specs.declared.limits.Normal.{Normal};
 ghost use Rattle.problem_form.specs.Limits.{limit_fault};
 ghost use Rattle.command_words.specs.Commands.{HasFewClauses};
+ghost use Rattle.command_words.specs.declared.names.Which.{Which};
 ghost use Rattle.command_words.specs.Names.{if_named};
+ghost use Rattle.source_texts.specs.declared.reading.Read.{Read};
 ghost use Rattle.source_texts.specs.Sources.{KeepsSoft};
-ghost use Rattle.run_steps.specs.Steps.{Meets, checking, slacked, wanted};
-ghost use Rattle.run_steps.specs.Cut.{checking_file};
-ghost use Rattle.run_steps.specs.Statuses.{IsRefusal};
-ghost use Rattle.run_steps.specs.Causes.{AreRead, AreRefused, IsReadTo, IsRefusedBy, MeetsHeld, named_in, spelled};
+ghost use Rattle.run_steps.specs.Steps.{checking, slacked, wanted};
+ghost use Rattle.run_steps.specs.Cut.{checking_file, reading_file};
+ghost use Rattle.run_steps.specs.Causes.{named_in, spelled};
+ghost use Rattle.run_steps.specs.Takes.{Takes, TakesOne};
 ghost use Rattle.run_steps.specs.Drawn.{IsDrawnFor, IsDrawnInto};
 
+use crate::from_file::{FromFile, take_named};
 use crate::status::Status;
-use crate::steps::take_read;
+use crate::steps::{read_into, take_words};
 use base::NoMemory;
-use command_words::{Command, Format, Origin, Slack, Which, most_of, text_at};
+use command_words::{Command, Format, Origin, Slack, Which, most_of};
 use edge_io::Files;
 use problem_form::check_limits;
 use sample_text::sample_text;
-use source_texts::{Read, read_source};
+use source_texts::{Read, read_source, read_source_words, style_of};
 use std::alloc::Global;
 use whole_text::TextAnswer;
 
@@ -74,8 +76,26 @@ fn take_drawn(alloc: Global, number: u64, clauses: u64, command: Command) -> Res
     wanted(alloc, command, read)
 }
 
-/// What a source in a file is read into, as a command wants it and within the limits. The file is cut
-/// into words as it comes.
+/// Takes the file of a source, cut into words as it comes, and reads it.
+fn take_read<F: Files>(
+    alloc: Global,
+    name: &str,
+    format: Format,
+    files: &mut F,
+) -> Result<Read, Status>
+    ensures took { TakesOne (F.held files.old) (F.held files.new) Which.Source name.now
+        (λ read. read) result (λ held. reading_file held name.now format)
+        (F.counts files.old) (F.counts files.new) }
+    ensures kept { IfOk result KeepsSoft }
+{
+    let style = style_of(format);
+    let text = take_words(alloc, name, Which::Source, style, files)?;
+    let read = read_source_words(alloc, format, &text);
+    drop(text);
+    read_into(read, Which::Source)
+}
+
+/// What a source in a file is read into, as a command wants it and within the limits.
 fn take_file<F: Files>(
     alloc: Global,
     name: &str,
@@ -83,26 +103,43 @@ fn take_file<F: Files>(
     command: Command,
     files: &mut F,
 ) -> Result<Read, Status>
-    ensures step { WhereTold (F.held files.old) (λ held. Meets (λ read. read) result
-        (checking_file held name.now format command)) }
-    ensures held { F.held files.new ≡ F.held files.old }
+    ensures took { TakesOne (F.held files.old) (F.held files.new) Which.Source name.now
+        (λ read. read) result (λ held. checking_file held name.now format command)
+        (F.counts files.old) (F.counts files.new) }
     ensures within { IfOk result (λ read.
         limit_fault command.choices.normal read.problem ≡ None) }
     ensures kept { IfOk result KeepsSoft }
-    ensures passed { OnOk result (IsReadTo name.now 1 (F.counts files.old) (F.counts files.new)) }
-    ensures refused { IfErr result (λ status. IsRefusedBy Which.Source name.now status
-        (F.counts files.old) (F.counts files.new)) }
 {
-    let read = match take_read(alloc, name, format, files) {
-        Ok(read) => read,
-        Err(status) => return Err(status),
-    };
-    let Ok(read) = wanted(alloc, command, read) else {
-        return Err(Status::NoMemory);
-    };
+    let own = take_read(alloc, name, format, files)?;
+    let read = wanted(alloc, command, own)?;
     match check_limits(&read.problem, &command.choices) {
         Ok(()) => Ok(read),
         Err(fault) => Err(Status::Limit(Which::Source, fault.kind, fault.number)),
+    }
+}
+
+/// What a source in a format is read into, as a command wants it and within the limits.
+impl FromFile for Read {
+    type Context = (Format, Command);
+
+    ghost which = { Which.Source };
+
+    ghost Content = { Read };
+
+    ghost view = { λ read. read };
+
+    ghost steps = { λ context held name. checking_file held name context.0 context.1 };
+
+    ghost fits = { λ context read. KeepsSoft read
+        × (limit_fault context.1.choices.normal read.problem ≡ None) };
+
+    fn take<F: Files>(
+        alloc: Global,
+        name: &str,
+        context: (Format, Command),
+        files: &mut F,
+    ) -> Result<Read, Status> {
+        take_file(alloc, name, context.0, context.1, files)
     }
 }
 
@@ -114,34 +151,22 @@ pub fn take_source<F: Files>(
     files: &mut F,
 ) -> Result<Read, Status>
     requires { HasFewClauses command.origin }
-    ensures step { MeetsHeld (F.held files.old) (if_named command Which.Source)
-        (λ read. read) result
-        (λ held. checking (spelled words.now) held command) }
-    ensures held { F.held files.new ≡ F.held files.old }
+    ensures took { Takes (F.held files.old) (F.held files.new) (named_in words.now command)
+        (if_named command Which.Source) (λ read. read) result
+        (λ held. checking (spelled words.now) held command)
+        (F.counts files.old) (F.counts files.new) }
     ensures within { IfOk result (λ read.
         limit_fault command.choices.normal read.problem ≡ None) }
     ensures kept { IfOk result KeepsSoft }
-    ensures passed { OnOk result (AreRead (named_in words.now command)
-        (if_named command Which.Source) (F.counts files.old) (F.counts files.new)) }
-    ensures refused { IfErr result (λ status. AreRefused
-        (named_in words.now command) (if_named command Which.Source) status
-        (F.counts files.old) (F.counts files.new)) }
-    ensures refusal { IfErr result IsRefusal }
 {
     match command.origin {
-        Origin::Drawn(number, clauses) => match take_drawn(alloc, number, clauses, command) {
-            Ok(read) => Ok(read),
-            Err(_) => Err(Status::NoMemory),
-        },
-        Origin::File(format, at) => match take_file(
-            alloc,
-            text_at(words, at),
-            format,
-            command,
-            files,
-        ) {
-            Ok(read) => Ok(read),
-            Err(status) => Err(status),
-        },
+        Origin::Drawn(number, clauses) => {
+            let read = take_drawn(alloc, number, clauses, command)?;
+            Ok(read)
+        }
+        Origin::File(format, at) => {
+            let context = (format, command);
+            take_named::<Read, F>(alloc, words, command, at, context, files)
+        }
     }
 }

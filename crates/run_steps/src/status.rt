@@ -1,6 +1,7 @@
 //! How a run ends.
 ghost use Rattle.std.specs.Prelude.{◌≡◌};
 
+use base::NoMemory;
 use chain_map::EmbedFault;
 use command_words::Which;
 use posiform_check::ProofFault;
@@ -21,6 +22,16 @@ pub enum Status {
     TooWide(u32, u32),
     NotProved(ProofFault),
     NoMemory,
+}
+
+impl From<NoMemory> for Status {
+    ghost use Rattle.run_steps.specs.declared.status.Status.TheVariants as statuses;
+
+    ghost from_gives = { λ _ status. status ≡ statuses.NoMemory };
+
+    fn from(_: NoMemory) -> Status {
+        Status::NoMemory
+    }
 }
 
 impl Status {

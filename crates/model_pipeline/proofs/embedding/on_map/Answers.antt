@@ -1,5 +1,4 @@
-use Rattle.std.proofs.lemmas.Result.{IfErr-weaker, IfOk-weaker}
-use Rattle.embedding_check.proofs.Faulty.{if_fault}
+use Rattle.model_pipeline.proofs.Common.{IfErr-weaker, IfOk-weaker, if_fault}
 use Rattle.model_pipeline.proofs.Sites.{whole_fault, whole_valid}
 use Rattle.model_pipeline.proofs.embedding.on_map.Goals as goal
 
@@ -10,20 +9,8 @@ returns-in-All-clause-fault c =
     (λ e h. if_fault e _ _ (whole_fault c.in-All.graph c.args.form c.args.map.now) h)
     c.check.ensures.fault)
 
-pub returns-in-All-clause-checked : goal.returns-in-All-clause-checked
-returns-in-All-clause-checked c = rw c.in-All.is c.check.ensures.checked
-
 pub returns-in-All-clause-valid : goal.returns-in-All-clause-valid
 returns-in-All-clause-valid c =
     rw c.in-All.is
     (IfOk-weaker c.check.result _ _ (λ _ h. whole_valid c.in-All.graph c.args.form c.args.map.now h)
     c.check.ensures.valid)
-
-pub returns-in-Working-clause-checked : goal.returns-in-Working-clause-checked
-returns-in-Working-clause-checked c = rw c.in-Working.is c.check_working.ensures.checked
-
-pub returns-in-Working-clause-valid : goal.returns-in-Working-clause-valid
-returns-in-Working-clause-valid c = rw c.in-Working.is c.check_working.ensures.valid
-
-pub returns-in-Working-clause-fault : goal.returns-in-Working-clause-fault
-returns-in-Working-clause-fault c = rw c.in-Working.is c.check_working.ensures.fault

@@ -1,10 +1,7 @@
-use Rattle.std.proofs.Common.{◌∙◌, ap, subst}
-use Rattle.std.proofs.lemmas.Result.{IfOk-weaker}
-use Rattle.problem_form.specs.Problems.{IsNormal}
-use Rattle.model_pipeline.specs.Extensions.{low_extension}
-use Rattle.model_pipeline.specs.Models.{terms_of}
+use Rattle.model_pipeline.proofs.Common.{◌∙◌, ap, subst, IfOk-weaker, IsNormal, low_extension, terms_of}
 use Rattle.model_pipeline.proofs.LeastStates.{if_ok-always, least_by}
-use Rattle.model_pipeline.proofs.PlainForms.{admits_of, room_of}
+use Rattle.model_pipeline.proofs.PlainForms.{admits_of}
+use Rattle.model_pipeline.proofs.Standing.{room_of}
 use Rattle.model_pipeline.proofs.extending.extended.Goals as goal
 
 pub node_count-requires : goal.node_count-requires

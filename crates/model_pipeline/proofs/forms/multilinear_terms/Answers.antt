@@ -1,7 +1,4 @@
-use Rattle.std.proofs.Common.{[], length, ap, ◌∙◌, subst, sym}
-use Rattle.penalty_layer.specs.Penalty.{node_count}
-use Rattle.direct_quad.specs.Held.{HeldContent, AreHeld}
-use Rattle.normal_form.proofs.Limits.{penalty_admits}
+use Rattle.model_pipeline.proofs.Common.{[], length, ap, ◌∙◌, subst, sym, node_count, HeldContent, AreHeld, penalty_admits}
 use Rattle.model_pipeline.proofs.PlainForms.{plain_additions, room-plain}
 use Rattle.model_pipeline.proofs.forms.multilinear_terms.Goals as goal
 
@@ -24,6 +21,6 @@ add_contributions-requires-clause-empty c =
     subst (λ (h : HeldContent). AreHeld (record { width = node_count c.args.problem.now; terms = [] }) h) (sym c.new-terms.ensures)
     (subst (λ n. AreHeld (record { width = n; terms = [] }) c.in_ok-sums.sums) c.node_count.ensures.value c.in_ok-sums.ensures.empty)
 
-pub returns-clause-held : goal.returns-clause-held
-returns-clause-held c =
+pub returns : goal.returns
+returns c =
     subst (λ (h : HeldContent). AreHeld (plain_additions c.args.problem.now) h) (sym c.into_terms.ensures) c.in_ok-add_contributions.ensures

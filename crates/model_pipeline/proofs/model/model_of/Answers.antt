@@ -1,6 +1,4 @@
-use Rattle.std.proofs.Common.{◌∙◌, arith, subst, sym}
-use Rattle.std.proofs.lemmas.Result.{IfOk-weaker}
-use Rattle.model_pipeline.specs.Models.{IsModelOf, form_model}
+use Rattle.model_pipeline.proofs.Common.{◌∙◌, arith, subst, sym, IfOk-weaker, IsModelOf, form_model}
 use Rattle.model_pipeline.proofs.Standing.{formed_have_room, formed_model}
 use Rattle.model_pipeline.proofs.model.model_of.Goals as goal
 

@@ -1,11 +1,4 @@
-use Rattle.std.proofs.Common.{◌+◌, ◌*◌, ◌^◌, ◌≤◌, ◌∙◌, length, ap, arith, rules, subst, sym}
-use Rattle.std.specs.Prelude.{FitsSigned}
-use Rattle.std.specs.Int.{w128}
-use Rattle.model_text.proofs.Numerals.{size_fits}
-use Rattle.ising_form.specs.Isings.{IsIsing, ising_total}
-use Rattle.model_pipeline.specs.Sites.{chains_of, fabric_in, graph_in}
-use Rattle.model_pipeline.specs.QubitModels.{kind_of, qubit_model}
-use Rattle.model_pipeline.specs.QubitStanding.{IsQubitModelOf}
+use Rattle.model_pipeline.proofs.Common.{◌+◌, ◌*◌, ◌^◌, ◌≤◌, ◌∙◌, length, ap, arith, rules, subst, sym, FitsSigned, w128, size_fits, IsIsing, ising_total, chains_of, fabric_in, graph_in, kind_of, qubit_model, IsQubitModelOf}
 use Rattle.model_pipeline.proofs.QubitModels.{model_stands, moved_by_ties}
 use Rattle.model_pipeline.proofs.Sites.{joined_both_ways, site_valid, sized_in}
 use Rattle.model_pipeline.proofs.on_qubits.form_on_qubits.Goals as goal
@@ -20,7 +13,7 @@ returns-clause-stands c =
     let e = c.in_ok-embedded.embedded in
     let graph = graph_in site.qubits in
     let fabric = fabric_in site.qubits in
-    let map = chains_of site.qubits site.perch (length f.fields) in
+    let map = chains_of site.qubits site.chain_source (length f.fields) in
     let embedded = c.in_ok-embedded.ensures in
     let made = c.in_ok-embedded_model.ensures in
     let kept : IsIsing f = subst IsIsing embedded.checked.ising made.kept.ising in
@@ -32,7 +25,7 @@ returns-clause-stands c =
     subst (λ m. IsQubitModelOf f n own unit site.ties graph fabric map m) (sym same)
     (model_stands f n own site.ties graph fabric map e made.kept (sized_in site.qubits)
     (joined_both_ways site.qubits) embedded.checked
-    (site_valid site.qubits site.perch f kept embedded.can_stand)
+    (site_valid site.qubits site.chain_source f kept embedded.can_stand)
     c.requires.own
     (size_fits n.scale fits)
     c.requires.scale

@@ -1,8 +1,4 @@
-use Rattle.std.proofs.Common.{arith, subst}
-use Rattle.std.specs.Prelude.{IfOk, IfErr}
-use Rattle.ising_form.specs.Isings.{IsIsing}
-use Rattle.chain_map.specs.Faults.{IfFault}
-use Rattle.model_pipeline.specs.Sites.{CanStandBy, IsFaultBy}
+use Rattle.model_pipeline.proofs.Common.{arith, subst, IfOk, IfErr, IsIsing, IfFault, CanStandBy, IsFaultBy}
 use Rattle.model_pipeline.proofs.GraphModels.{form_at_site, if_ok-by_two, made_at_site}
 use Rattle.model_pipeline.proofs.on_qubits.model_on_qubits.Goals as goal
 

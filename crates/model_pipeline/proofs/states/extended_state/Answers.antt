@@ -1,7 +1,5 @@
-use Rattle.std.proofs.Common.{ap, sym, subst, ◌∙◌}
-use Rattle.std.proofs.lemmas.Result.{IfOk-weaker}
+use Rattle.model_pipeline.proofs.Common.{ap, sym, subst, ◌∙◌, IfOk-weaker, ExtendsTo, IsLeastTo, state_on}
 use Rattle.problem_form.specs.Problems as problems
-use Rattle.model_pipeline.specs.Extensions.{ExtendsTo, IsLeastTo, state_on}
 use Rattle.model_pipeline.proofs.WrittenExtensions.{made_extends, made_fits, made_least}
 use Rattle.model_pipeline.proofs.states.extended_state.Goals as goal
 

@@ -1,7 +1,4 @@
-use Rattle.std.proofs.Common.{length, ap, ◌∙◌}
-use Rattle.bits_model.specs.Output.{decoding_of}
-use Rattle.state_file.specs.States.{states_of}
-use Rattle.program_run.specs.Made.{judgement_by}
+use Rattle.program_run.proofs.Common.{length, ap, ◌∙◌, decoding_of, states_of, judgement_by}
 use Rattle.program_run.proofs.Scored.{best_wide, scored_by}
 use Rattle.program_run.proofs.evaluate.evaluated_text.Goals as goal
 

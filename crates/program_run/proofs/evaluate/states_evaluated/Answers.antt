@@ -1,11 +1,5 @@
-use Rattle.std.proofs.Common.{◌≡◌, ℕ, [], Ok, Err, Some, ap, map, string_bytes, sym, subst}
-use Rattle.command_words.specs.Names.{last_files, name_of, text_at}
-use Rattle.state_file.specs.States.{states_of}
+use Rattle.program_run.proofs.Common.{◌≡◌, ℕ, [], Ok, Err, Some, ap, map, string_bytes, sym, subst, last_files, name_of, text_at, states_of, Last, Refuses, Several, Steps, last_step, read_wanting, IsScored, IsTold, judgement_by}
 use Rattle.run_steps.specs.declared.status.Status.TheVariants.{NoState}
-use Rattle.run_steps.specs.Steps.{Last, Refuses, Several, Steps, last_step}
-use Rattle.run_steps.proofs.FilesRead.{read_wanting}
-use Rattle.program_run.specs.Answers.{IsScored}
-use Rattle.program_run.specs.Made.{IsTold, judgement_by}
 use Rattle.program_run.proofs.Endings.{last_gives, last_refuses}
 use Rattle.program_run.proofs.Evaluating.{none_read, scan_finds_none, scan_gives, scan_refuses, scans}
 use Rattle.program_run.proofs.SomeText.{scored_some}

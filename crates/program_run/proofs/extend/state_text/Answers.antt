@@ -1,8 +1,4 @@
-use Rattle.std.proofs.lemmas.Result.{IfOk-weaker}
-use Rattle.std.proofs.Common.{◌≡◌, rules}
-use Rattle.base.specs.Costs.{energy}
-use Rattle.bits_model.specs.Output.{form_of}
-use Rattle.answer_text.specs.Answers.{extension_text}
+use Rattle.program_run.proofs.Common.{IfOk-weaker, ◌≡◌, rules, energy, form_of, extension_text}
 use Rattle.program_run.proofs.extend.state_text.Goals as goal
 
 pub returns : goal.returns

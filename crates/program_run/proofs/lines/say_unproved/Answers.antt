@@ -1,7 +1,4 @@
-use Rattle.std.proofs.Common.{◌≡◌, rules, decimal, ap, ◌∙◌, of_z, to_z}
-use Rattle.std.specs.Int.{w128}
-use Rattle.std.proofs.lemmas.Int.{to_z-of_z}
-use Rattle.std.specs.Fmt.{signed_decimal}
+use Rattle.program_run.proofs.Common.{◌≡◌, rules, decimal, ap, ◌∙◌, of_z, to_z, w128, to_z-of_z, signed_decimal}
 use Rattle.program_run.proofs.lines.say_unproved.Goals as goal
 
 pub returns-in-Negative : goal.returns-in-Negative

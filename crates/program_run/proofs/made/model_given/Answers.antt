@@ -1,3 +1,4 @@
+use Rattle.program_run.proofs.Common.{arith, nat_tests}
 use Rattle.program_run.proofs.MadeModels.{modelled_by}
 use Rattle.program_run.proofs.made.model_given.Goals as goal
 
@@ -6,12 +7,7 @@ model_on-requires-clause-within c =
     rw c.into_problem_and_base-problem.ensures.problem c.requires.within
 
 pub returns-clause-modelled : goal.returns-clause-modelled
-returns-clause-modelled c =
-    let kept = c.into_problem_and_base-problem.ensures in
-    let made = c.model_on.ensures in
-    modelled_by c.args.plan c.model_on.result (rw (kept.problem, kept.base) at made.model)
-    (rw (kept.problem, kept.base) at made.can_stand) (rw (kept.problem, kept.base) at made.stands)
-    (rw (kept.problem, kept.base) at made.made)
+returns-clause-modelled c = grind (arith, nat_tests, modelled_by)
 
 pub returns-clause-refused : goal.returns-clause-refused
 returns-clause-refused c =

@@ -1,5 +1,4 @@
-use Rattle.std.proofs.Common.{sym, subst}
-use Rattle.model_pipeline.specs.Extensions.{IsMade}
+use Rattle.program_run.proofs.Common.{sym, subst, IsMade}
 use Rattle.program_run.proofs.KeptSteps.{steps_kept}
 use Rattle.program_run.proofs.made.told.Goals as goal
 

@@ -1,5 +1,4 @@
-use Rattle.std.proofs.Common.{map, string_bytes}
-use Rattle.command_words.specs.Commands.{request_of}
+use Rattle.program_run.proofs.Common.{arith, nat_tests, map, string_bytes, request_of}
 use Rattle.program_run.proofs.Endings.{done_is_complete}
 use Rattle.program_run.proofs.Headlines.{headline_delivered, writing_so}
 use Rattle.program_run.proofs.running.answered.Goals as goal
@@ -13,8 +12,4 @@ returns-in-Ok-Command-clause-complete g c = λ calm quiet held may done.
     (ends.outcome held may) ends.files calm (λ is. quiet (ends.write_fault is)) done
 
 pub returns-in-Ok-Command-clause-headline : goal.returns-in-Ok-Command-clause-headline
-returns-in-Ok-Command-clause-headline g c =
-    writing_so c.carried_out.result
-    (headline_delivered (map string_bytes c.args.words.now) (g.F.Files.held c.args.files.now)
-    c.carried_out.result (g.O.Sink.taken c.args.out.now) (g.O.Sink.taken c.carried_out.new.out))
-    c.carried_out.ensures.answered
+returns-in-Ok-Command-clause-headline g c = grind (arith, nat_tests, writing_so, headline_delivered)

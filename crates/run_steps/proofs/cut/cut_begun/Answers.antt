@@ -1,11 +1,10 @@
+use Rattle.run_steps.proofs.Common.{nat_tests}
 use Rattle.std.proofs.Common.{arith, ◌∙◌}
 use Rattle.run_steps.proofs.Cutting.{cut_none, words_cut}
 use Rattle.run_steps.proofs.cut.cut_begun.Goals as goal
 
 pub feed_rest-requires-clause-cut : goal.feed_rest-requires-clause-cut
-feed_rest-requires-clause-cut g c =
-    cut_none (g.F.Files.held c.args.files.now) (g.F.Files.counts c.args.files.now).name
-    (g.F.Files.rest c.args.files.now) c.new-lexer.result c.requires.front c.new-lexer.ensures.empty
+feed_rest-requires-clause-cut g c = grind (arith, nat_tests, cut_none)
 
 pub finish-requires : goal.finish-requires
 finish-requires g c =
@@ -23,9 +22,4 @@ returns-in-Ok-finish-clause-words g c =
 pub returns-in-Ok-finish-clause-short : goal.returns-in-Ok-finish-clause-short
 returns-in-Ok-finish-clause-short g c =
     let cut = c.in-Ok.ensures.cut in
-    omega (
-      arith,
-      cut.counted,
-      c.in-Ok.ensures.end.0,
-      c.in-Ok-finish.ensures.size cut.text cut.stands,
-    )
+    grind (arith, nat_tests)

@@ -1,13 +1,9 @@
-use Rattle.std.proofs.Common.{rules, arith, drop, ◌++◌, ◌∙◌}
-use Rattle.std.proofs.lemmas.List.{length-take}
+use Rattle.run_steps.proofs.Common.{nat_tests, rules, arith, drop, ◌∙◌, length-take}
 use Rattle.run_steps.proofs.Cutting.{cut_more}
 use Rattle.run_steps.proofs.cut.feed_rest.Goals as goal
 
 pub feed-requires : goal.feed-requires
-feed-requires g c =
-    let cut = c.loop-count.invariant.cut in
-    let bytes = c.take_piece.new.into ++ drop c.min-room.result c.loop-count.piece in
-    (cut.text, cut.stands, omega (arith, cut.counted, length-take c.in-Ok.count bytes))
+feed-requires g c = grind (arith, nat_tests, length-take)
 
 pub loop-count-preserved : goal.loop-count-preserved
 loop-count-preserved g c =

@@ -1,5 +1,4 @@
-use Rattle.std.proofs.Common.{◌≡◌, ◌≤◌, ◌+◌, ◌-◌}
-use Rattle.run_steps.specs.Cut.{IsCut, IsSameBegin}
+use Rattle.run_steps.proofs.Common.{◌≡◌, ◌≤◌, ◌+◌, ◌-◌, IsCut, IsSameBegin}
 use Rattle.run_steps.proofs.cut.feed_rest.Given as goal
 
 -- what was taken is a front of the begun file, as the store tells it, within the limit, and the lexer

@@ -1,35 +1,80 @@
-use Rattle.std.proofs.Common.{Bool, Global, Vec, [], Ok, Err, map, string_bytes, subst, sym}
-use Rattle.command_words.specs.Names.{name_of}
-use Rattle.run_steps.specs.Causes.{AreFilesOf, MayHold}
-use Rattle.run_steps.specs.declared.status.Status.TheVariants.{Done}
-use Rattle.run_steps.proofs.Certified.{last_meets}
-use Rattle.run_steps.proofs.Holding.{state_files_are}
+use Rattle.run_steps.proofs.Common.{arith, nat_tests, ◌≡◌, ℕ, refl, ◌∙◌, ap, Bool, Global, Vec, Ok, Some, map, string_bytes, subst, length, IfOk-weaker, text_at, stating, Refuses}
+use Rattle.run_steps.proofs.Certified.{alone_refused, bits_given, bits_refuse, proof_meets, then_returned}
+use Rattle.run_steps.proofs.FilesRead.{refused_first}
+use Rattle.run_steps.proofs.Holding.{may_certificate, may_state, state_alone, state_files_are}
+use Rattle.run_steps.proofs.Taking.{reads, returned}
 use Rattle.run_steps.proofs.last.take_last.Goals as goal
 
-pub returns-in-Ok-clause-step : goal.returns-in-Ok-clause-step
-returns-in-Ok-clause-step g c = λ held may.
-    last_meets (map string_bytes c.args.words.now) held c.args.plan.now c.args.model.now
-    c.args.command.ask c.args.at c.requires.asked (λ (bits : Vec Bool Global). bits.items) (Ok c.in-Ok.bits)
-    (c.in-Ok.ensures.step held
-    (subst (λ l. MayHold (g.F.Files.held c.args.files.now) l held)
-    (sym (state_files_are c.args.command c.args.at c.requires.asked)) may))
+pub returns-in_err-bits-clause-step : goal.returns-in_err-bits-clause-step
+returns-in_err-bits-clause-step g c = λ held may.
+    let words = map string_bytes c.args.words.now in
+    let command = c.args.command in
+    let status = c.in_err-bits.field-0.0 in
+    rw (returned c.from_residual.ensures.1)
+    (bits_refuse words held c.args.plan.now.read.variables c.args.model.now command.ask c.args.at status
+    c.requires.asked
+    (subst (λ (n : ℕ). Refuses status (stating held (text_at words c.args.at) n))
+    c.width_of-width.ensures
+    (c.in_err-bits.ensures.took.step held
+    (may_state (g.F.Files.held c.args.files.now) command c.args.at held c.requires.asked may))))
 
-pub returns-in-Err-clause-step : goal.returns-in-Err-clause-step
-returns-in-Err-clause-step g c = λ held may.
-    last_meets (map string_bytes c.args.words.now) held c.args.plan.now c.args.model.now
-    c.args.command.ask c.args.at c.requires.asked (λ (bits : Vec Bool Global). bits.items) (Err c.in-Err.status)
-    (c.in-Err.ensures.step held
-    (subst (λ l. MayHold (g.F.Files.held c.args.files.now) l held)
-    (sym (state_files_are c.args.command c.args.at c.requires.asked)) may))
+pub returns-in_err-bits-clause-files : goal.returns-in_err-bits-clause-files
+returns-in_err-bits-clause-files g c =
+    grind (arith, nat_tests, returned, alone_refused, state_files_are, refused_first)
 
-pub returns-in-Ok-clause-files : goal.returns-in-Ok-clause-files
-returns-in-Ok-clause-files g c =
-    subst (λ l. AreFilesOf (name_of (map string_bytes c.args.words.now) c.args.command) [] l
-    Done (g.F.Files.counts c.args.files.now) (g.F.Files.counts c.take_asked.new.files))
-    (state_files_are c.args.command c.args.at c.requires.asked) c.in-Ok.ensures.files
+pub returns-in_err-bits-clause-refusal : goal.returns-in_err-bits-clause-refusal
+returns-in_err-bits-clause-refusal g c =
+    rw (returned c.from_residual.ensures.1) (reads c.in_err-bits.ensures.took)
 
-pub returns-in-Err-clause-files : goal.returns-in-Err-clause-files
-returns-in-Err-clause-files g c =
-    subst (λ l. AreFilesOf (name_of (map string_bytes c.args.words.now) c.args.command) [] l
-    c.in-Err.status (g.F.Files.counts c.args.files.now) (g.F.Files.counts c.take_asked.new.files))
-    (state_files_are c.args.command c.args.at c.requires.asked) c.in-Err.ensures.files
+pub returns-in-Prove-clause-step : goal.returns-in-Prove-clause-step
+returns-in-Prove-clause-step g c = λ held may.
+    let words = map string_bytes c.args.words.now in
+    let command = c.args.command in
+    let told = g.F.Files.held c.args.files.now in
+    proof_meets words held c.args.plan.now.read.variables c.args.model.now
+    (λ (b : Vec Bool Global). b.items) c.take_proof.result command.ask c.args.at c.in-Prove.field-0
+    c.in-Prove.at c.in_ok-bits.bits.items c.in-Prove.is c.requires.asked
+    (subst (λ (n : ℕ). (stating held (text_at words c.args.at) n).end ≡ Some (Ok c.in_ok-bits.bits.items))
+    c.width_of-width.ensures (c.in_ok-bits.ensures.took.step held
+    (may_state told command c.args.at held c.requires.asked may)))
+    (c.take_proof.ensures.step held
+    (may_certificate told (g.F.Files.held c.take_named.new.files) command c.args.at held
+    c.requires.asked c.in_ok-bits.ensures.took.held may))
+
+pub returns-in-Prove-clause-width : goal.returns-in-Prove-clause-width
+returns-in-Prove-clause-width g c =
+    IfOk-weaker c.take_proof.result _ _
+    (λ b same. ap (λ (v : Vec Bool Global). length v.items) same ∙ c.in_ok-bits.ensures.fits
+    ∙ c.width_of-width.ensures)
+    c.take_proof.ensures.same
+
+pub returns-in-Prove-clause-files : goal.returns-in-Prove-clause-files
+returns-in-Prove-clause-files g c = grind (arith, nat_tests, state_files_are, then_returned)
+
+pub returns-in-Decode-clause-step : goal.returns-in-Decode-clause-step
+returns-in-Decode-clause-step g c = λ held may.
+    let words = map string_bytes c.args.words.now in
+    let command = c.args.command in
+    bits_given words held c.args.plan.now.read.variables c.args.model.now command.ask c.args.at
+    c.in_ok-bits.bits.items c.requires.asked (rw c.in-Decode.is refl)
+    (subst (λ (n : ℕ). (stating held (text_at words c.args.at) n).end ≡ Some (Ok c.in_ok-bits.bits.items))
+    c.width_of-width.ensures
+    (c.in_ok-bits.ensures.took.step held
+    (may_state (g.F.Files.held c.args.files.now) command c.args.at held c.requires.asked may)))
+
+pub returns-in-Decode-clause-files : goal.returns-in-Decode-clause-files
+returns-in-Decode-clause-files g c = grind (arith, nat_tests, state_alone)
+
+pub returns-in-Extend-clause-step : goal.returns-in-Extend-clause-step
+returns-in-Extend-clause-step g c = λ held may.
+    let words = map string_bytes c.args.words.now in
+    let command = c.args.command in
+    bits_given words held c.args.plan.now.read.variables c.args.model.now command.ask c.args.at
+    c.in_ok-bits.bits.items c.requires.asked (rw c.in-Extend.is refl)
+    (subst (λ (n : ℕ). (stating held (text_at words c.args.at) n).end ≡ Some (Ok c.in_ok-bits.bits.items))
+    c.width_of-width.ensures
+    (c.in_ok-bits.ensures.took.step held
+    (may_state (g.F.Files.held c.args.files.now) command c.args.at held c.requires.asked may)))
+
+pub returns-in-Extend-clause-files : goal.returns-in-Extend-clause-files
+returns-in-Extend-clause-files g c = grind (arith, nat_tests, state_alone)

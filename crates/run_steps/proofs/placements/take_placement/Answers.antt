@@ -1,18 +1,20 @@
-use Rattle.std.proofs.Common.{map, string_bytes}
-use Rattle.run_steps.proofs.Placed.{placed_on_nodes, placed_at, site_refuses}
+use Rattle.std.proofs.Common.{refl}
+use Rattle.run_steps.specs.declared.placements.Placement.TheVariants.{Qubits}
+use Rattle.run_steps.proofs.Common.{gives, placing}
+use Rattle.run_steps.proofs.Taking.{still_refuses, takes_given, takes_none, takes_same}
 use Rattle.run_steps.proofs.placements.take_placement.Goals as goal
 
-pub returns-in-Nodes-clause-step : goal.returns-in-Nodes-clause-step
-returns-in-Nodes-clause-step g c = λ held may.
-    placed_on_nodes (map string_bytes c.args.words.now) held c.args.command.target c.in-Nodes.model
-    c.in-Nodes.is
+pub returns-in-Nodes : goal.returns-in-Nodes
+unfolding placing
+returns-in-Nodes g c = takes_none (rw c.in-Nodes.is refl) (λ held. rw c.in-Nodes.is refl)
 
-pub returns-in-Ok-clause-step : goal.returns-in-Ok-clause-step
-returns-in-Ok-clause-step g c = λ held may.
-    placed_at (map string_bytes c.args.words.now) held c.args.command.target c.in-Chimera.board
-    c.in-Chimera.is c.in-Ok.site (c.in-Ok.ensures.step held may)
+pub returns-in_ok-site-in-Chimera : goal.returns-in_ok-site-in-Chimera
+unfolding placing
+returns-in_ok-site-in-Chimera g c =
+    takes_same (λ held. rw c.in-Chimera.is refl) (takes_given Qubits refl c.in_ok-site-in-Chimera.ensures)
 
-pub returns-in-Err-clause-step : goal.returns-in-Err-clause-step
-returns-in-Err-clause-step g c = λ held may.
-    site_refuses (map string_bytes c.args.words.now) held c.args.command.target
-    c.in-Chimera.board c.in-Chimera.is c.in-Err.status (c.in-Err.ensures.step held may)
+pub returns-in_err-site-in-Chimera : goal.returns-in_err-site-in-Chimera
+unfolding placing
+returns-in_err-site-in-Chimera g c =
+    takes_same (λ held. rw c.in-Chimera.is refl)
+    (still_refuses (λ held site. gives (Qubits site)) c.from_residual.ensures.1 c.in_err-site-in-Chimera.ensures)

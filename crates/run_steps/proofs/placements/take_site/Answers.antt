@@ -1,49 +1,32 @@
-use Rattle.std.proofs.Common.{map, string_bytes}
-use Rattle.command_words.specs.declared.names.Which.TheVariants.{Dead, Map}
-use Rattle.command_words.specs.Names.{name_of, if_named}
-use Rattle.run_steps.proofs.FilesRead.{refused_then}
-use Rattle.run_steps.proofs.Holding.{may_first, may_next}
-use Rattle.run_steps.proofs.Placed.{sited, qubits_refuse, chains_refuse}
+use Rattle.run_steps.proofs.Common.{refl, List, ℕ, map, string_bytes, NamedFiles, Board, Qubits, ChainSource, Site, Steps, ◌>>=◌, gives, if_named, chains_step, siting}
+use Rattle.command_words.specs.declared.names.Which.TheVariants.{Map}
+use Rattle.run_steps.proofs.Taking.{first_refuses, still_refuses, takes_given, then_takes}
 use Rattle.run_steps.proofs.placements.take_site.Goals as goal
 
-pub returns-in-Err-clause-step : goal.returns-in-Err-clause-step
-returns-in-Err-clause-step g c = λ held may.
-    let command = c.args.command in
-    qubits_refuse (map string_bytes c.args.words.now) held c.args.board c.in-Err.status
-    (c.in-Err.ensures.step held
-    (may_first (g.F.Files.held c.args.files.now) (if_named command Dead) (if_named command Map)
-    held may))
+-- the site of these qubits and chains
+abbrev site_of : Board → Qubits → ChainSource → Site
+site_of board qubits chain_source = record { qubits = qubits; chain_source = chain_source; ties = board.ties }
 
-pub returns-in-Ok-take_perch-clause-step : goal.returns-in-Ok-take_perch-clause-step
-returns-in-Ok-take_perch-clause-step g c = λ held may.
-    let command = c.args.command in
-    let told = g.F.Files.held c.args.files.now in
-    let dead = if_named command Dead in
-    let map_file = if_named command Map in
-    sited (map string_bytes c.args.words.now) held c.args.board c.in-Ok.qubits
-    c.in-Ok-take_perch.perch
-    (c.in-Ok.ensures.step held (may_first told dead map_file held may))
-    (c.in-Ok-take_perch.ensures.step held
-    (may_next told (g.F.Files.held c.take_qubits.new.files) dead map_file held
-    c.in-Ok.ensures.held may))
+-- what comes after the qubits
+abbrev after : List (List ℕ) → Board → NamedFiles → Qubits → Steps Site
+after words board held qubits =
+    chains_step words held board.chains >>= λ chain_source. gives (site_of board qubits chain_source)
 
-pub returns-in-Err-take_perch-clause-step : goal.returns-in-Err-take_perch-clause-step
-returns-in-Err-take_perch-clause-step g c = λ held may.
-    let command = c.args.command in
-    let told = g.F.Files.held c.args.files.now in
-    let dead = if_named command Dead in
-    let map_file = if_named command Map in
-    chains_refuse (map string_bytes c.args.words.now) held c.args.board
-    c.in-Err-take_perch.status c.in-Ok.qubits
-    (c.in-Ok.ensures.step held (may_first told dead map_file held may))
-    (c.in-Err-take_perch.ensures.step held
-    (may_next told (g.F.Files.held c.take_qubits.new.files) dead map_file held
-    c.in-Ok.ensures.held may))
+pub returns-in_err-qubits : goal.returns-in_err-qubits
+unfolding siting
+returns-in_err-qubits g c =
+    first_refuses (if_named c.args.command Map) (after (map string_bytes c.args.words.now) c.args.board)
+    c.from_residual.ensures.1 c.in_err-qubits.ensures
 
-pub returns-in-Err-take_perch-clause-refused : goal.returns-in-Err-take_perch-clause-refused
-returns-in-Err-take_perch-clause-refused g c =
-    let command = c.args.command in
-    refused_then (name_of (map string_bytes c.args.words.now) command) (if_named command Dead)
-    (if_named command Map) c.in-Err-take_perch.status (g.F.Files.counts c.args.files.now)
-    (g.F.Files.counts c.take_qubits.new.files) (g.F.Files.counts c.take_perch.new.files)
-    c.in-Ok.ensures.passed c.in-Err-take_perch.ensures.refused
+pub returns : goal.returns
+unfolding siting
+returns g c =
+    then_takes (after (map string_bytes c.args.words.now) c.args.board) c.in_ok-qubits.ensures
+    (takes_given (site_of c.args.board c.in_ok-qubits.qubits) refl c.in_ok-chain_source.ensures)
+
+pub returns-in_err-chain_source : goal.returns-in_err-chain_source
+unfolding siting
+returns-in_err-chain_source g c =
+    then_takes (after (map string_bytes c.args.words.now) c.args.board) c.in_ok-qubits.ensures
+    (still_refuses (λ held chain_source. gives (site_of c.args.board c.in_ok-qubits.qubits chain_source))
+    c.from_residual-in_err-chain_source.ensures.1 c.in_err-chain_source.ensures)

@@ -1,69 +1,56 @@
-use Rattle.std.proofs.Common.{map, string_bytes}
-use Rattle.command_words.specs.declared.names.Which.TheVariants.{Source}
-use Rattle.command_words.specs.Names.{name_of, if_named}
-use Rattle.run_steps.proofs.FilesRead.{refused_first, refused_then}
-use Rattle.run_steps.proofs.Holding.{may_board, may_source, of_model_files}
-use Rattle.run_steps.proofs.Planned.{plan_gives, source_refuses, placement_refuses}
-use Rattle.run_steps.specs.Causes.{AreRead, AreRefused, board_files}
-use Rattle.run_steps.proofs.FilesRead.{read_then}
+use Rattle.run_steps.proofs.Common.{arith, nat_tests, refl, List, ℕ, map, string_bytes, Command, NamedFiles, Read, Placement, Plan, Steps, ◌>>=◌, gives, placing, planning}
+use Rattle.run_steps.proofs.Taking.{refuses, source_refuses, source_then, still_refuses, takes_given}
 use Rattle.run_steps.proofs.plans.take_plan.Goals as goal
 
-pub returns-in-Err-clause-step : goal.returns-in-Err-clause-step
-returns-in-Err-clause-step g c = λ held may.
-    let command = c.args.command in
-    source_refuses (map string_bytes c.args.words.now) held command c.in-Err.status
-    (c.in-Err.ensures.step held (may_source (g.F.Files.held c.args.files.now) command held may))
+-- the plan of what is read, on what it stands
+abbrev plan_of : Command → Read → Placement → Plan
+plan_of command read base =
+    record { read = read; choices = command.choices; unit = command.unit; base = base }
 
-pub returns-in-Err-clause-refused : goal.returns-in-Err-clause-refused
-returns-in-Err-clause-refused g c =
-    let command = c.args.command in
-    let name = name_of (map string_bytes c.args.words.now) command in
-    let old = g.F.Files.counts c.args.files.now in
-    let new = g.F.Files.counts c.take_source.new.files in
-    of_model_files command (λ files. AreRefused name files c.in-Err.status old new)
-    (refused_first name (if_named command Source) (board_files command) c.in-Err.status old new
-    c.in-Err.ensures.refused)
+-- what comes after the source
+abbrev after : List (List ℕ) → Command → NamedFiles → Read → Steps Plan
+after words command held read =
+    placing words held command.target >>= λ base. gives (plan_of command read base)
 
-pub returns-in-Ok-take_placement-clause-step : goal.returns-in-Ok-take_placement-clause-step
-returns-in-Ok-take_placement-clause-step g c = λ held may.
-    let command = c.args.command in
-    let told = g.F.Files.held c.args.files.now in
-    plan_gives (map string_bytes c.args.words.now) held command c.in-Ok.read
-    c.in-Ok-take_placement.base
-    (c.in-Ok.ensures.step held (may_source told command held may))
-    (c.in-Ok-take_placement.ensures.step held
-    (may_board told (g.F.Files.held c.take_source.new.files) command held c.in-Ok.ensures.held may))
+pub returns-in_err-read-clause-step : goal.returns-in_err-read-clause-step
+unfolding planning
+returns-in_err-read-clause-step g c =
+    (source_refuses c.args.command (λ (plan : Plan). plan) (after (map string_bytes c.args.words.now) c.args.command)
+    c.from_residual.ensures.1 c.in_err-read.ensures.took).step
 
-pub returns-in-Ok-take_placement-clause-passed : goal.returns-in-Ok-take_placement-clause-passed
-returns-in-Ok-take_placement-clause-passed g c =
-    let command = c.args.command in
-    let name = name_of (map string_bytes c.args.words.now) command in
-    let old = g.F.Files.counts c.args.files.now in
-    let new = g.F.Files.counts c.take_placement.new.files in
-    of_model_files command (λ files. AreRead name files old new)
-    (read_then name (if_named command Source) (board_files command) old
-    (g.F.Files.counts c.take_source.new.files) new c.in-Ok.ensures.passed
-    c.in-Ok-take_placement.ensures.passed)
+pub returns-in_err-read-clause-refused : goal.returns-in_err-read-clause-refused
+returns-in_err-read-clause-refused g c =
+    (source_refuses c.args.command (λ (plan : Plan). plan) (after (map string_bytes c.args.words.now) c.args.command)
+    c.from_residual.ensures.1 c.in_err-read.ensures.took).refused
 
-pub returns-in-Err-take_placement-clause-step : goal.returns-in-Err-take_placement-clause-step
-returns-in-Err-take_placement-clause-step g c = λ held may.
-    let command = c.args.command in
-    let told = g.F.Files.held c.args.files.now in
-    placement_refuses (map string_bytes c.args.words.now) held command
-    c.in-Err-take_placement.status c.in-Ok.read
-    (c.in-Ok.ensures.step held (may_source told command held may))
-    (c.in-Err-take_placement.ensures.step held
-    (may_board told (g.F.Files.held c.take_source.new.files) command held c.in-Ok.ensures.held may))
+pub returns-in_err-read-clause-refusal : goal.returns-in_err-read-clause-refusal
+returns-in_err-read-clause-refusal g c = grind (arith, nat_tests, refuses, source_refuses, after)
 
-pub returns-in-Err-take_placement-clause-refused :
-    goal.returns-in-Err-take_placement-clause-refused
-returns-in-Err-take_placement-clause-refused g c =
-    let command = c.args.command in
-    let name = name_of (map string_bytes c.args.words.now) command in
-    let status = c.in-Err-take_placement.status in
-    let old = g.F.Files.counts c.args.files.now in
-    let new = g.F.Files.counts c.take_placement.new.files in
-    of_model_files command (λ files. AreRefused name files status old new)
-    (refused_then name (if_named command Source) (board_files command) status old
-    (g.F.Files.counts c.take_source.new.files) new c.in-Ok.ensures.passed
-    c.in-Err-take_placement.ensures.refused)
+pub returns-in_err-base-clause-step : goal.returns-in_err-base-clause-step
+unfolding planning
+returns-in_err-base-clause-step g c =
+    (source_then c.args.command (λ (plan : Plan). plan) (after (map string_bytes c.args.words.now) c.args.command)
+    c.in_ok-read.ensures.took
+    (still_refuses (λ held base. gives (plan_of c.args.command c.in_ok-read.read base))
+    c.from_residual-in_err-base.ensures.1 c.in_err-base.ensures)).step
+
+pub returns-in_err-base-clause-refused : goal.returns-in_err-base-clause-refused
+returns-in_err-base-clause-refused g c =
+    (source_then c.args.command (λ (plan : Plan). plan) (after (map string_bytes c.args.words.now) c.args.command)
+    c.in_ok-read.ensures.took
+    (still_refuses (λ held base. gives (plan_of c.args.command c.in_ok-read.read base))
+    c.from_residual-in_err-base.ensures.1 c.in_err-base.ensures)).refused
+
+pub returns-in_err-base-clause-refusal : goal.returns-in_err-base-clause-refusal
+returns-in_err-base-clause-refusal g c =
+    grind (arith, nat_tests, refuses, source_then, after, still_refuses, plan_of)
+
+pub returns-clause-step : goal.returns-clause-step
+unfolding planning
+returns-clause-step g c =
+    (source_then c.args.command (λ (plan : Plan). plan) (after (map string_bytes c.args.words.now) c.args.command)
+    c.in_ok-read.ensures.took
+    (takes_given (plan_of c.args.command c.in_ok-read.read) refl c.in_ok-base.ensures)).step
+
+pub returns-clause-passed : goal.returns-clause-passed
+returns-clause-passed g c = grind (arith, nat_tests, source_then, after, takes_given, plan_of)

@@ -1,7 +1,5 @@
-use Rattle.std.proofs.Common.{◌≡◌, sym, ap, ◌∙◌}
+use Rattle.run_steps.proofs.Common.{◌≡◌, sym, ap, ◌∙◌, sample_text, problem_of}
 use Rattle.command_words.specs.declared.commands.Format.TheVariants.{Wcnf}
-use Rattle.sample_text.specs.Sample.{sample_text}
-use Rattle.source_texts.specs.Sources.{problem_of}
 use Rattle.run_steps.proofs.Sampled.{drawn_is_read}
 use Rattle.run_steps.proofs.sources.read_drawn.Goals as goal
 

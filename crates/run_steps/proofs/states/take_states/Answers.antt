@@ -1,14 +1,16 @@
-use Rattle.std.proofs.Common.{◌∙◌, map, string_bytes}
+use Rattle.run_steps.proofs.Common.{ℕ, map, string_bytes, name_of, text_at, last_files, taking, Vec, Global}
 use Rattle.command_words.specs.declared.names.Which.TheVariants.{State}
-use Rattle.command_words.specs.Names.{name_of, last_files}
-use Rattle.run_steps.proofs.Holding.{has_states, refused_named}
+use Rattle.run_steps.proofs.Holding.{has_states}
+use Rattle.run_steps.proofs.Taking.{takes_alone}
 use Rattle.run_steps.proofs.states.take_states.Goals as goal
 
-pub returns-in-Err-clause-refused : goal.returns-in-Err-clause-refused
-returns-in-Err-clause-refused g c =
+pub returns-clause-refused : goal.returns-clause-refused
+returns-clause-refused g c =
     let words = map string_bytes c.args.words.now in
     let has = has_states words c.args.command c.args.at c.requires in
-    refused_named (name_of words c.args.command) State (last_files c.args.command)
-    c.text_at.result.now c.in-Err.status (g.F.Files.counts c.args.files.now)
-    (g.F.Files.counts c.take_bytes.new.files) has.0 (c.text_at.ensures ∙ has.1)
-    c.in-Err.ensures.refused
+    (takes_alone (g.F.Files.held c.args.files.now) (g.F.Files.held c.take_bytes.new.files)
+    (name_of words c.args.command) (last_files c.args.command) State (text_at words c.args.at)
+    c.text_at.result.now (λ (bytes : Vec ℕ Global). bytes.items) c.take_bytes.result
+    (λ held name. taking held State name) (g.F.Files.counts c.args.files.now)
+    (g.F.Files.counts c.take_bytes.new.files) has.0 has.1 c.text_at.ensures
+    c.take_bytes.ensures.took).refused
