@@ -21,38 +21,41 @@ HEADING = ROW.format(
     'kind', 'bytes', 'seconds', 'clock', 'MB/s', 'out MB', 'peak MB', 'time x', 'peak x')
 
 
-def run(words, out=subprocess.DEVNULL):
-    """Seconds of the processor and by the clock, and peak memory in KiB, of one run."""
+def run(words, out=subprocess.DEVNULL, wanted=0):
+    """Seconds of the processor and by the clock, and peak memory in KiB, of one run.
+
+    Where another status than 0 is wanted, the error line goes where the output goes.
+    """
     begun = time.perf_counter()
     try:
-        process = subprocess.Popen(words, stdout=out)
+        process = subprocess.Popen(words, stdout=out, stderr=subprocess.STDOUT if wanted else None)
     except OSError as error:
         sys.exit(f'cannot run {words[0]}: {error.strerror}')
     _, status, usage = os.wait4(process.pid, 0)
     clock = time.perf_counter() - begun
     process.returncode = os.waitstatus_to_exitcode(status)
-    if process.returncode != 0:
+    if process.returncode != wanted:
         sys.exit(f'status {process.returncode}: {" ".join(words)}')
     return usage.ru_utime + usage.ru_stime, clock, usage.ru_maxrss
 
 
-def peak(words, out):
+def peak(words, out, wanted=0):
     """Peak memory in KiB."""
     if not os.access(GNU_TIME, os.X_OK):
-        return run(words, out)[2]
+        return run(words, out, wanted)[2]
     with tempfile.NamedTemporaryFile('r') as told:
-        run([GNU_TIME, '-f', '%M', '-o', told.name] + words, out)
+        run([GNU_TIME, '-q', '-f', '%M', '-o', told.name] + words, out, wanted)
         return int(told.read())
 
 
-def words_for(program, file):
-    """The command that compiles a file, whose name ends in its format."""
-    return [program, 'compile', file.rsplit('.', 1)[1], 'qubo', file]
+def words_for(file):
+    """The words that compile a file, whose name ends in its format."""
+    return ['compile', file.rsplit('.', 1)[1], 'qubo', file]
 
 
 def measured(program, file):
     """Seconds of the processor, seconds by the clock, MB written, and peak memory in MB."""
-    words = words_for(program, file)
+    words = [program] + words_for(file)
     runs = [run(words) for _ in range(int(os.environ.get('RUNS', '3')))]
     seconds = max(min(r[0] for r in runs), 1e-4)
     with tempfile.TemporaryFile() as out:

@@ -8,15 +8,18 @@
     equations   four of eight variables                       bytes; at most 15,000,000 are written
     sacks       knapsacks of 14 items, at most half of them   bytes; at most 5,000,000 are written
     sack        one knapsack                                  items, of which at most 4,080 are taken
+    conflicts   at most one of 1,000 variables                constraints, at most 2,140
 
-Each has an objective over all variables with weights 1 to 9, counted below 0 for knapsacks. One seed
-gives one text, and each text is within the program's limits.
+Each has an objective over all variables with weights 1 to 9, counted below 0 for knapsacks and
+conflicts. One seed gives one text, and each text is within the program's limits, but for conflicts:
+with `slack=pairs` four of them become pairs, and 12 are within the limits.
 """
 import argparse
 import random
 import sys
 
 MOST_ITEMS = 4080    # with its slack bits the square of a knapsack has 2^24 pairs at most
+MOST_CONFLICTS = 2140    # in 2^24 bytes
 
 
 def terms(weights, variables):
@@ -47,6 +50,13 @@ def knapsack_of_14(source, variables):
     return knapsack(source, source.sample(range(variables), 14))
 
 
+def write_conflicts(source, wanted):
+    """Conflicts of 1,000 of 5,000 variables."""
+    sys.stdout.write(objective(source, 5000, -1))
+    for _ in range(min(wanted, MOST_CONFLICTS)):
+        sys.stdout.write(f'{terms([1] * 1000, source.sample(range(5000), 1000))} <= 1 ;\n')
+
+
 # Of each kind: a constraint, the most variables, the sign of the objective's weights, and the most
 # bytes, since more would pass the limit on pairs.
 LINES = {
@@ -74,7 +84,7 @@ def write_lines(source, kind, wanted):
 
 def arguments():
     parser = argparse.ArgumentParser()
-    parser.add_argument('kind', choices=[*LINES, 'sack'])
+    parser.add_argument('kind', choices=[*LINES, 'sack', 'conflicts'])
     parser.add_argument('size', type=int)
     parser.add_argument('--seed', type=int, default=1)
     return parser.parse_args()
@@ -87,8 +97,10 @@ def main():
         items = min(given.size, MOST_ITEMS)
         sys.stdout.write(objective(source, items, -1))
         sys.stdout.write(knapsack(source, range(items)))
-        return
-    write_lines(source, given.kind, given.size)
+    elif given.kind == 'conflicts':
+        write_conflicts(source, given.size)
+    else:
+        write_lines(source, given.kind, given.size)
 
 
 if __name__ == '__main__':
