@@ -148,7 +148,7 @@ impl CouplerList {
     }
 
     /// Appends an entry: to the last row, where that has the same first node.
-    #[inline]
+    #[inline(always)]
     pub fn push(&mut self, first: u32, second: u32, weight: i128) -> Result<(), NoMemory>
         ensures pushed { OnOk result (self.new
             ≡ self.old ++ record { first = first; second = second; weight = weight } ∷ []) }

@@ -129,8 +129,9 @@ impl WeightList {
         }
     }
 
-    #[inline]
-    pub fn push(&mut self, weight: i128) -> Result<(), NoMemory>
+    /// Appends a weight of any size.
+    #[inline(never)]
+    fn push_any(&mut self, weight: i128) -> Result<(), NoMemory>
         ensures pushed { OnOk result (self.new ≡ self.old ++ weight ∷ []) }
         ensures unchanged { OnErr result (self.new ≡ self.old) }
     {
@@ -146,6 +147,21 @@ impl WeightList {
             HeldWeights::Wide(weights) => weights.push(weight)?,
         }
         Ok(())
+    }
+
+    /// Appends a weight. A narrow one to narrow ones takes no call.
+    #[inline(always)]
+    pub fn push(&mut self, weight: i128) -> Result<(), NoMemory>
+        ensures pushed { OnOk result (self.new ≡ self.old ++ weight ∷ []) }
+        ensures unchanged { OnErr result (self.new ≡ self.old) }
+    {
+        if let HeldWeights::Narrow(weights) = &mut self.held {
+            if let Ok(narrow) = i64::try_from(weight) {
+                weights.push(narrow)?;
+                return Ok(());
+            }
+        }
+        self.push_any(weight)
     }
 
     /// The same weights in memory of their own.

@@ -18,8 +18,8 @@ ordered-map entry n xs x up = λ i j d le in'.
       up i j x le here,
     )
 
--- a greater code has no lesser pair
-pub codes-ordered : (shape : Shape) (c d : ℕ) (w v : ℤ) → c ≤ d
+-- a code with greater nodes has no lesser pair
+pub codes-ordered : (shape : Shape) (c d : ℕ) (w v : ℤ) → c / numbers_of shape ≤ d / numbers_of shape
     → pair_number (coupler_of shape c w) ≤ pair_number (coupler_of shape d v)
 codes-ordered shape c d w v le = grind (arith, nat_tests, ints)
 

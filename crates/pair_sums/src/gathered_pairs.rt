@@ -55,15 +55,6 @@ fn joined(mut pairs: Pairs, couplers: CouplerList) -> Result<Pairs, NoMemory>
     Ok(pairs)
 }
 
-/// Appends a coupler that does not come in order. Where memory is refused the list stays as it was.
-#[inline(never)]
-fn push_late(others: &mut Pairs, entry: Entry) -> Result<(), NoMemory>
-    ensures pushed { OnOk result (others.new ≡ others.old ++ entry ∷ []) }
-    ensures unchanged { OnErr result (others.new ≡ others.old) }
-{
-    others.push(entry)
-}
-
 impl GatheredPairs {
     /// No couplers yet. They begin packed where there are few enough nodes. Takes no memory.
     pub fn empty(alloc: Global, nodes: usize) -> GatheredPairs
@@ -94,7 +85,7 @@ impl GatheredPairs {
             self.last = number;
             return Ok(());
         }
-        push_late(&mut self.others, entry)
+        self.others.push(entry)
     }
 
     /// The same couplers, of more nodes. Where all came in order, later ones begin packed anew.

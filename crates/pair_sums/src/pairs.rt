@@ -28,7 +28,7 @@ pub enum HeldPairs {
 /// Couplers, which contracts see as a list of entries: 8 bytes each as long as all can be packed, 8
 /// and the weights that differ as long as their indices can be, and else 32.
 ///
-/// The library's sort in place is fastest for elements of at most 8 bytes.
+/// The sorts are fastest for elements of at most 8 bytes.
 pub struct Pairs {
     alloc: Global,
     held: HeldPairs,
@@ -125,6 +125,42 @@ fn push_packed(shape: Shape, codes: &mut Vec<u64>, entry: Entry) -> Result<bool,
         }
         None => Ok(false),
     }
+}
+
+/// Appends a coupler, however many bits it needs. An entry goes through memory, so its parts are
+/// handed over.
+#[inline(never)]
+fn push_held(
+    alloc: Global,
+    held: &mut HeldPairs,
+    first: u32,
+    second: u32,
+    weight: i128,
+) -> Result<(), NoMemory>
+    ensures pushed { OnOk result (held_pairs held.new ≡ held_pairs held.old
+        ++ record { first = first; second = second; weight = weight } ∷ []) }
+    ensures unchanged { OnErr result (held_pairs held.new ≡ held_pairs held.old) }
+{
+    let entry = Entry {
+        first,
+        second,
+        weight,
+    };
+    let longer = match held {
+        HeldPairs::Packed(shape, codes) => with_longer(alloc, *shape, codes, entry)?,
+        HeldPairs::Listed(pairs) => {
+            if pairs.push(entry)? {
+                return Ok(());
+            }
+            HeldPairs::Wide(with_wide(alloc, pairs, entry)?)
+        }
+        HeldPairs::Wide(pairs) => {
+            pairs.push(entry)?;
+            return Ok(());
+        }
+    };
+    *held = longer;
+    Ok(())
 }
 
 /// Entries in the order of their pairs.
@@ -291,25 +327,17 @@ impl Pairs {
         ensures pushed { OnOk result (self.new ≡ self.old ++ entry ∷ []) }
         ensures unchanged { OnErr result (self.new ≡ self.old) }
     {
-        let longer = match &mut self.held {
-            HeldPairs::Packed(shape, codes) => {
-                if push_packed(*shape, codes, entry)? {
-                    return Ok(());
-                }
-                with_longer(self.alloc, *shape, codes, entry)?
-            }
-            HeldPairs::Listed(pairs) => {
-                if pairs.push(entry)? {
-                    return Ok(());
-                }
-                HeldPairs::Wide(with_wide(self.alloc, pairs, entry)?)
-            }
-            HeldPairs::Wide(pairs) => {
-                pairs.push(entry)?;
+        if let HeldPairs::Packed(shape, codes) = &mut self.held {
+            if push_packed(*shape, codes, entry)? {
                 return Ok(());
             }
-        };
-        self.held = longer;
-        Ok(())
+        }
+        push_held(
+            self.alloc,
+            &mut self.held,
+            entry.first,
+            entry.second,
+            entry.weight,
+        )
     }
 }

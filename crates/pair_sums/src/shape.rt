@@ -5,7 +5,7 @@ ghost use Rattle.pair_sums.specs.Codes.{coupler_of, low_of, numbers_of, unpacked
 
 use base::NoMemory;
 use bits_model::Entry;
-use radix_sort::sorted_keys;
+use radix_sort::{sorted_above, sorted_keys};
 use std::alloc::Global;
 
 /// How the bits of a code are shared out: 18 to each node and 28 to the number where there are few
@@ -106,11 +106,13 @@ fn numbers_of(shape: Shape) -> u64
 }
 
 /// A weight counted from the least one on that so many values allow, unless these are too few.
+#[inline(always)]
 fn raised(weight: i128, values: u64) -> Option<u64>
     requires { values ≤ 2 ^ 28 }
     ensures { IfSome result (λ number. pos number ≡ weight +ℤ pos (values / 2)) }
 {
-    u64::try_from(weight.checked_add(i128::from(values / 2))?).ok()
+    let weight = i64::try_from(weight).ok()?;
+    u64::try_from(weight.checked_add((values / 2) as i64)?).ok()
 }
 
 /// The code of a coupler whose number is its weight, unless a node or the weight needs more bits.
@@ -142,7 +144,10 @@ pub enum Arrival {
 }
 
 /// How many bits of a code its number has.
-fn number_bits(shape: Shape) -> u32 {
+fn number_bits(shape: Shape) -> u32
+    ensures numbers { 2 ^ result ≡ numbers_of shape }
+    ensures few { result < 64 }
+{
     match shape {
         Shape::Few => 28,
         Shape::Many => 24,
@@ -159,22 +164,21 @@ fn node_bits(shape: Shape) -> u32 {
     }
 }
 
-/// Codes in ascending order. Those that nearly ascend are sorted by their first nodes and then moved;
-/// others by the library, in place.
+/// Codes in the order of their pairs. Those that nearly ascend are sorted by their first nodes and
+/// then moved; others are sorted by the bits of both nodes.
 pub fn ascending(
     alloc: Global,
     shape: Shape,
-    mut codes: Vec<u64>,
+    codes: Vec<u64>,
     arrival: Arrival,
 ) -> Result<Vec<u64>, NoMemory>
     ensures same { IfOk result (λ sorted. IsPermutation codes.items sorted.items) }
-    ensures ordered { IfOk result (λ sorted. IsNonDecreasingBy (λ code. code) sorted.items) }
+    ensures ordered { IfOk result (λ sorted.
+        IsNonDecreasingBy (λ code. code / numbers_of shape) sorted.items) }
 {
+    let bits = number_bits(shape);
     match arrival {
-        Arrival::Mixed => {
-            codes.sort_unstable();
-            Ok(codes)
-        }
-        Arrival::Nearly => sorted_keys(alloc, codes, number_bits(shape), node_bits(shape)),
+        Arrival::Mixed => sorted_above(alloc, codes, bits),
+        Arrival::Nearly => sorted_keys(alloc, codes, bits, node_bits(shape)),
     }
 }

@@ -1,5 +1,5 @@
 //! The terms of a square.
-ghost use Rattle.std.specs.Prelude.{◌≡◌, ◌*◌, ◌≤◌, ◌^◌, ◌*ℤ◌, ◌∷◌, [], All, drop, length, pos, unsigned_abs, OnOk};
+ghost use Rattle.std.specs.Prelude.{◌≡◌, ◌*◌, ◌≤◌, ◌^◌, ◌*ℤ◌, ◌∷◌, [], All, drop, length, nat_lt, pos, unsigned_abs, OnOk, if◌then◌else◌};
 ghost use Rattle.term_table.specs.Terms.{terms_total};
 ghost use Rattle.term_table.specs.Products.{products_with, union_terms};
 ghost use Rattle.term_table.specs.Rooms.{Fills, HasRoomFor};
@@ -37,6 +37,38 @@ fn squared(factor: u128, a: &i128) -> i128
     times(&scaled(factor, a), a)
 }
 
+/// Adds a coefficient on the union of two literals of one variable, where they do not clash.
+#[inline(never)]
+fn add_alike<T: Gather>(
+    terms: &mut T,
+    l: Literal,
+    k: Literal,
+    coefficient: i128,
+) -> Result<(), NoMemory>
+    requires alike { l.variable ≡ k.variable }
+    requires room { HasRoomFor T.takes terms.old (union_terms (l ∷ []) (k ∷ []) coefficient) }
+    ensures { OnOk result (Fills T.takes T.holds terms.old terms.new
+        (union_terms (l ∷ []) (k ∷ []) coefficient)) }
+{
+    if l.negated == k.negated {
+        terms.gather(&[l], coefficient)
+    } else {
+        Ok(())
+    }
+}
+
+/// Two literals, that of the lesser variable first.
+#[inline(always)]
+fn ascending(l: Literal, k: Literal) -> (Literal, Literal)
+    ensures { result ≡ (if nat_lt l.variable k.variable then (l, k) else (k, l)) }
+{
+    if l.variable < k.variable {
+        (l, k)
+    } else {
+        (k, l)
+    }
+}
+
 /// Adds a coefficient on the union of two literals, where they do not clash.
 #[inline(always)]
 fn add_pair<T: Gather>(
@@ -49,18 +81,43 @@ fn add_pair<T: Gather>(
     ensures { OnOk result (Fills T.takes T.holds terms.old terms.new
         (union_terms (l ∷ []) (k ∷ []) coefficient)) }
 {
-    if l.variable < k.variable {
-        terms.gather(&[l, k], coefficient)
-    } else if k.variable < l.variable {
-        terms.gather(&[k, l], coefficient)
-    } else if l.negated == k.negated {
-        terms.gather(&[l], coefficient)
-    } else {
-        Ok(())
+    if l.variable == k.variable {
+        return add_alike(terms, l, k, coefficient);
     }
+    let (low, high) = ascending(l, k);
+    terms.gather(&[low, high], coefficient)
 }
 
-/// Adds a coefficient on the union of two sets, where it has no clash.
+/// Adds a coefficient on the union of two sets of any length, where it has no clash.
+#[inline(never)]
+fn add_sets<T: Gather>(
+    terms: &mut T,
+    set: &mut Vec<Literal>,
+    ls: &[Literal],
+    ks: &[Literal],
+    coefficient: i128,
+) -> Result<(), NoMemory>
+    requires left { IsSet ls.now }
+    requires right { IsSet ks.now }
+    requires room { HasRoomFor T.takes terms.old (union_terms ls.now ks.now coefficient) }
+    ensures { OnOk result (Fills T.takes T.holds terms.old terms.new
+        (union_terms ls.now ks.now coefficient)) }
+{
+    if ks.is_empty() {
+        return terms.gather(ls, coefficient);
+    }
+    if ls.is_empty() {
+        return terms.gather(ks, coefficient);
+    }
+    unite(set, ls, ks)?;
+    if clashes(set) {
+        return Ok(());
+    }
+    terms.gather(set, coefficient)
+}
+
+/// Adds a coefficient on the union of two sets, where it has no clash. Mostly both are of one
+/// literal.
 #[inline(always)]
 fn add_union<T: Gather>(
     terms: &mut T,
@@ -78,17 +135,7 @@ fn add_union<T: Gather>(
     if ls.len() == 1 && ks.len() == 1 {
         return add_pair(terms, ls[0], ks[0], coefficient);
     }
-    if ks.is_empty() {
-        return terms.gather(ls, coefficient);
-    }
-    if ls.is_empty() {
-        return terms.gather(ks, coefficient);
-    }
-    unite(set, ls, ks)?;
-    if clashes(set) {
-        return Ok(());
-    }
-    terms.gather(set, coefficient)
+    add_sets(terms, set, ls, ks, coefficient)
 }
 
 /// Adds the products of a term and each of the parts from a place on.

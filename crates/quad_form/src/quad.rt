@@ -102,18 +102,6 @@ impl Quad {
         })
     }
 
-    /// The couplers, where they lie. All else of the form is let go.
-    pub fn into_couplers(self) -> CouplerList
-        ensures { result ≡ self.couplers }
-    {
-        let Quad {
-            constant: _constant,
-            diagonal: _diagonal,
-            couplers,
-        } = self;
-        couplers
-    }
-
     /// The form whose weights are counted in their greatest unit, without the constant. The weights
     /// are divided in place, or stay as they are in the unit 1.
     pub fn reduce(self) -> Result<Reduced<Quad>, NoMemory>

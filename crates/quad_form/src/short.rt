@@ -1,6 +1,6 @@
 //! Terms of at most two literals, as they go at once to the constant, the weights of nodes and the
 //! pairs.
-ghost use Rattle.std.specs.Prelude.{◌≡◌, ◌+◌, ◌*◌, ◌≤◌, ◌<◌, ◌^◌, ◌++◌, ◌∷◌, [], OnOk, OnErr, All, length, unsigned_abs};
+ghost use Rattle.std.specs.Prelude.{◌≡◌, ◌+◌, ◌*◌, ◌≤◌, ◌<◌, ◌^◌, ◌++◌, ◌∷◌, [], OnOk, OnErr, All, length, neg_ℤ, unsigned_abs};
 ghost use Rattle.quad_form.specs.Short.{moved_share, signed, short_constant, short_couplers, short_shares};
 ghost use Rattle.quad_form.specs.Sums.{size_of, Gain};
 
@@ -78,6 +78,15 @@ pub(crate) fn constant_of(literals: &[Literal], coefficient: i128) -> i128
     if counts { coefficient } else { 0 }
 }
 
+/// A weight with its sign turned. Few pairs of literals turn it, so the others take a branch.
+#[inline(never)]
+fn turned(weight: i128) -> i128
+    requires { unsigned_abs weight ≤ 2 ^ 126 }
+    ensures { result ≡ neg_ℤ weight }
+{
+    -weight
+}
+
 /// A weight, whose sign two complements turn twice.
 #[inline(always)]
 fn twice_signed(first: Literal, second: Literal, weight: i128) -> i128
@@ -87,7 +96,7 @@ fn twice_signed(first: Literal, second: Literal, weight: i128) -> i128
     if first.negated == second.negated {
         weight
     } else {
-        -weight
+        turned(weight)
     }
 }
 
