@@ -1,6 +1,6 @@
 -- Short and long terms apart: the long ones of a table are the table of the long additions, and they
 -- alone have new nodes.
-use Rattle.quadratization.proofs.Common.{◌≡◌, ℕ, ◌≤◌, Bool, true, false, not, leb, cond, arith, sym, ◌∙◌, refl, List, [], ◌∷◌, length, sum_by, filter, AllByRecursion, IsStrictlySortedBy, is_eq, nat_tests, All-filter, filter_passes, All-weaker, recursion_from_All, sum_by-cons, if_so, Literal, Term, set_cmp, with_additions, Ascends, TableContent, if_so-plus, OfSet, Under, Ascends-with_additions, nonzero-with_additions, All-with_additions, same_terms, new_nodes, IsTable, AreAdditions, terms_total-with_additions, AreTerms-with_additions, table_of, is_long, short_terms, long_additions, long_terms}
+use Rattle.quadratization.proofs.Common.{◌≡◌, ℕ, ◌≤◌, Bool, true, false, not, leb, cond, arith, sym, ◌∙◌, refl, List, [], ◌∷◌, length, sum_by, filter, AllByRecursion, IsStrictlySortedBy, is_eq, nat_tests, All-filter, filter_passes, All-weaker, recursion_from_All, sum_by-cons, if_so, Literal, Term, set_cmp, with_additions, Ascends, if_so-plus, OfSet, Under, Ascends-with_additions, nonzero-with_additions, All-with_additions, same_terms, new_nodes, is_long, short_terms, long_additions, long_terms}
 use Rattle.term_table.proofs.KeptTerms.{IsNonzero}
 use Rattle.quadratization.proofs.Additive.{Amount, IsAdditive, given-with_additions, only, additive-only, given-filter}
 

@@ -48,7 +48,7 @@ pub use Rattle.std.proofs.Math.Nat.{mul-le-mul, mul-le-mul_left, mul-le-mul_righ
 pub use Rattle.monomial_layer.specs.laws.Positive.{factor_cases, pairs, pairs_is}
 pub use Rattle.quad_form.specs.Sums.{size_of, Gain, SumsContent, IsSums, widened, with_weight}
 pub use Rattle.quad_form.proofs.HeldSums.{gain-both, length-widened, value-widened, size-with_weight, size-zeros, size-widened}
-pub use Rattle.quadratization.specs.Long.{AreLong, node_at, terms_of, node_count, product_term, IsPlaceOf, place_nodes, additions_at, set_at, summed_term, sums_with, first_nodes, addition_at, key_for, set_key}
+pub use Rattle.quadratization.specs.Long.{AreLong, node_at, terms_of, node_count, product_term, IsPlaceOf, place_nodes, additions_at, set_at, summed_term, sums_with, first_nodes, addition_at, key_for, triple_key, code_of, IsCoded}
 pub use Rattle.quadratization.specs.Held.{shares_total, HeldContent, AreHeld, HasPlaces, IsHeld, held_of, Gains}
 pub use Rattle.quadratization.specs.Rows.{AreRows, AreFromRow, row_of, IsRow}
 pub use Rattle.problem_form.specs.Problems.{ProblemContent, products_total}
@@ -101,6 +101,7 @@ pub use Rattle.monomial_layer.specs.laws.TermCosts.{all_hold-count}
 pub use Rattle.monomial_layer.proofs.Adding.{bits_left}
 pub use Rattle.problem_form.specs.Limits.{limit_fault}
 pub use Rattle.quadratization.specs.declared.additions.Keyed.{Keyed}
+pub use Rattle.quadratization.specs.declared.additions.KeyLength.{KeyLength}
 pub use Rattle.std.proofs.lemmas.List.FromFn.{fill_by_all, get_or-map-range_with_len, length-map-range_with_len}
 pub use Rattle.std.specs.Cmp.{IsTotalOrder}
 pub use Rattle.std.proofs.lemmas.Fn.{always_returns_same}

@@ -59,7 +59,7 @@ module _ (t : TableContent) (h : HeldContent) (room : FitsByPairs t) (held : Are
 
   -- ---- what the run adds
 
-  module _ (made : Substitutions) (left : IsRunOf (table_of t) made) (width count : ℕ) (wide : width ≡ length h.weights) (number : count ≡ length made.pairs.items) where
+  module _ (made : Substitutions) (left : IsRunOf (table_of t) made) (width count : ℕ) (wide : width ≡ length h.weights) (number : count ≡ length made.pairs) where
     abbrev full : TableContent
     full = table_of t
 

@@ -116,6 +116,6 @@ pub run-of : {E : Type 0} (r : Result Substitutions E) (t : TableContent) (width
     → turns ≡ excess t.terms
     → IfOk r (λ made. AreParts (run turns t) (filter is_short t.terms ++ moved_of width made)
     (filter is_long (run turns t).terms) (weights t.terms))
-    → IfOk r (λ made. made.pairs.items ≡ pairs_of turns t)
-    → IfOk r (λ made. length made.weights.items ≡ length made.pairs.items) → IfOk r (IsRunOf t)
+    → IfOk r (λ made. made.pairs ≡ pairs_of turns t)
+    → IfOk r (λ made. length made.weights.items ≡ length made.pairs) → IfOk r (IsRunOf t)
 run-of r t width turns wide number parts pairs each = grind (arith, nat_tests)

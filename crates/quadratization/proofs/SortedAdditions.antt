@@ -1,5 +1,5 @@
 -- Additions with their keys, in the order of their sets, and the numbers of new nodes.
-use Rattle.quadratization.proofs.Common.{length-map, get_or-map, nat_tests, ◌≡◌, ◌≢◌, ℕ, ◌+◌, ◌<◌, ◌≤◌, ◌^◌, Bool, arith, sym, ap, ◌∙◌, subst, List, [], ◌∷◌, ◌++◌, map, length, get_or, take, drop, ℤ, pos, ◌+ℤ◌, Some, slice_get, All, sum_by, ordering_then, take_more, take-map, map_push, drop_more, sum_by_push, sum_by-cons, sum_by-take-le, All-push, All-map, slice_get_within, get_or_from_slice_get, Literal, Product, literal_cmp, ints, Term, set_cmp, AreAdditions, sums_of, same_set, All-with_additions, table_of, new_nodes, Keyed, product_term, terms_of, node_count, first_nodes, key_for, addition_at, additions_at, sums_with, AreLong}
+use Rattle.quadratization.proofs.Common.{length-map, get_or-map, nat_tests, ◌≡◌, ◌≢◌, ℕ, ◌+◌, ◌<◌, ◌≤◌, ◌^◌, Bool, arith, sym, ap, ◌∙◌, subst, List, [], ◌∷◌, ◌++◌, map, length, get_or, take, drop, ℤ, pos, ◌+ℤ◌, Some, slice_get, All, sum_by, ordering_then, take_more, take-map, map_push, drop_more, sum_by_push, sum_by-cons, sum_by-take-le, All-push, All-map, slice_get_within, get_or_from_slice_get, Literal, Product, literal_cmp, ints, Term, set_cmp, AreAdditions, sums_of, same_set, All-with_additions, table_of, new_nodes, Keyed, KeyLength, product_term, terms_of, node_count, first_nodes, key_for, addition_at, additions_at, sums_with, AreLong}
 use Rattle.std.specs.declared.cmp.Ordering.TheVariants.{Equal}
 use Rattle.quadratization.specs.laws.Between.{IsTable-table_of}
 
@@ -44,23 +44,23 @@ step_equal l k ls ks e = ap (λ o. ordering_then o (set_cmp ls ks)) (sym e)
 
 -- ---- keys, one after another
 
-pub keyed_more : (coded : Bool) (additions : List Product) (i key : ℕ) (p : Product)
+pub keyed_more : (n : KeyLength) (additions : List Product) (i key : ℕ) (p : Product)
     (order new : List Keyed) → slice_get additions i ≡ Some p
-    → key ≡ key_for coded p.literals
+    → key ≡ key_for n p.literals
     → new ≡ order ++ record { key = key; index = i } ∷ []
     → All (λ k. k.index < length additions) order
-    → All (λ k. k.key ≡ key_for coded (addition_at additions k.index).0) order
+    → All (λ k. k.key ≡ key_for n (addition_at additions k.index).0) order
     → additions_at additions order ≡ map product_term (take i additions)
     → All (λ k. k.index < length additions) new
-    × All (λ k. k.key ≡ key_for coded (addition_at additions k.index).0) new
+    × All (λ k. k.key ≡ key_for n (addition_at additions k.index).0) new
     × (additions_at additions new ≡ map product_term (take (i + 1) additions))
-keyed_more coded additions i key p order new at is pushed within keys whole =
+keyed_more n additions i key p order new at is pushed within keys whole =
     let d : Product = record { literals = []; coefficient = pos 0 } in
     let k : Keyed = record { key = key; index = i } in
     let same : get_or additions i d ≡ p = get_or_from_slice_get additions i p d at in
     let W : Keyed → Type 0 = λ k. k.index < length additions in
-    let K : Keyed → Type 0 = λ k. k.key ≡ key_for coded (addition_at additions k.index).0 in
-    let own : K k = is ∙ ap (λ (q : Product). key_for coded q.literals) (sym same) in (
+    let K : Keyed → Type 0 = λ k. k.key ≡ key_for n (addition_at additions k.index).0 in
+    let own : K k = is ∙ ap (λ (q : Product). key_for n q.literals) (sym same) in (
       subst (All W) (sym pushed) (All-push W order k within (slice_get_within additions i p at)),
       subst (All K) (sym pushed) (All-push K order k keys own),
       ap (additions_at additions) pushed

@@ -30,5 +30,5 @@ pub record FitsByPairs (t : TableContent) : Type 0 where
 pub record IsRunOf (t : TableContent) (made : Substitutions) : Type 0 where
   pub parts : AreParts (run (excess t.terms) t) (filter is_short t.terms ++ moved_of t.width made)
       (filter is_long (run (excess t.terms) t).terms) (weights t.terms)
-  pub pairs : made.pairs.items ≡ rosenberg.pairs_of (excess t.terms) t
-  pub each : length made.weights.items ≡ length made.pairs.items
+  pub pairs : made.pairs ≡ rosenberg.pairs_of (excess t.terms) t
+  pub each : length made.weights.items ≡ length made.pairs

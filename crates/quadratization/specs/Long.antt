@@ -1,9 +1,11 @@
 -- Terms of three literals or more, as they are kept for what is made of them.
-use Rattle.std.specs.Prelude.{◌≡◌, ℕ, ◌+◌, ◌≤◌, ◌<◌, ◌^◌, ◌*◌, pos, int_lt, unsigned_abs, ℤ, ◌+ℤ◌, Bool, Option, None, Some, List, [], ◌∷◌, ◌++◌, map, take, drop, length, All, if◌then◌else◌}
+use Rattle.std.specs.Prelude.{◌≡◌, ℕ, ◌+◌, ◌≤◌, ◌<◌, ◌^◌, ◌*◌, pos, int_lt, unsigned_abs, ℤ, ◌+ℤ◌, Option, None, Some, List, [], ◌∷◌, ◌++◌, map, take, drop, length, All, if◌then◌else◌}
 use Rattle.std.specs.List.{sum_by, slice_index_or}
 use Rattle.literal_lists.specs.declared.literal.Literal.{Literal}
 use Rattle.problem_form.specs.declared.terms.Product.{Product}
 use Rattle.quadratization.specs.declared.additions.Keyed.{Keyed}
+use Rattle.quadratization.specs.declared.additions.KeyLength.{KeyLength}
+use Rattle.quadratization.specs.declared.additions.KeyLength.TheVariants.{Three, Two, Zero}
 use Rattle.term_table.specs.Terms.{Term, terms_total, AreTerms}
 use Rattle.term_table.specs.Tables.{TableContent}
 use Rattle.term_table.specs.Summed.{sums_from}
@@ -64,19 +66,30 @@ pub record IsPlaceOf (t : TableContent) (variable : ℕ) (p : Place) : Type 0 wh
 abbrev pub code_of : Literal → ℕ
 code_of l = 2 * l.variable + (if l.negated then 1 else 0)
 
--- the key of two literals: 32 bits each
-abbrev pub pair_key : Literal → Literal → ℕ
-pair_key l k = code_of l * 2 ^ 32 + code_of k
+-- the key of the first two literals: 32 bits each
+abbrev pub pair_key : List Literal → ℕ
+pair_key [] = 0
+pair_key (l ∷ []) = 0
+pair_key (l ∷ k ∷ ls) = code_of l * 2 ^ 32 + code_of k
 
--- the key of the first two literals
-abbrev pub set_key : List Literal → ℕ
-set_key [] = 0
-set_key (l ∷ []) = 0
-set_key (l ∷ k ∷ ls) = pair_key l k
+-- the key of the first three literals: 21 bits each
+abbrev pub triple_key : List Literal → ℕ
+triple_key [] = 0
+triple_key (l ∷ []) = 0
+triple_key (l ∷ k ∷ []) = 0
+triple_key (l ∷ k ∷ m ∷ ls) = (code_of l * 2 ^ 21 + code_of k) * 2 ^ 21 + code_of m
 
--- the key by which a set is sorted first: 0 for all where some literal has no code of 32 bits
-abbrev pub key_for : Bool → List Literal → ℕ
-key_for coded ls = if coded then set_key ls else 0
+-- the key by which a set is sorted first, of so many literals
+abbrev pub key_for : KeyLength → List Literal → ℕ
+key_for Three ls = triple_key ls
+key_for Two ls = pair_key ls
+key_for Zero ls = 0
+
+-- the literals of a variable have codes of 21 bits, for keys of three, or of 32, for those of two
+abbrev pub IsCoded : KeyLength → ℕ → Type 0
+IsCoded Three v = v < 2 ^ 20
+IsCoded Two v = v < 2 ^ 31
+IsCoded Zero v = Unit {0}
 
 -- the term of an addition
 abbrev pub addition_at : List Product → ℕ → Term
@@ -93,13 +106,13 @@ additions_from additions order place = additions_at additions (drop place order)
 
 -- the keys of an order are those of their sets
 pub record HaveKeys (additions : List Product) (order : List Keyed) : Type 0 where
-  pub coded : Bool
-  pub keys : All (λ k. k.key ≡ key_for coded (addition_at additions k.index).0) order
+  pub literals : KeyLength
+  pub keys : All (λ k. k.key ≡ key_for literals (addition_at additions k.index).0) order
 
 -- indices of additions with their keys, in the order of the additions
-pub record AreKeyed (coded : Bool) (additions : List Product) (order : List Keyed) : Type 0 where
+pub record AreKeyed (literals : KeyLength) (additions : List Product) (order : List Keyed) : Type 0 where
   pub within : All (λ k. k.index < length additions) order
-  pub keys : All (λ k. k.key ≡ key_for coded (addition_at additions k.index).0) order
+  pub keys : All (λ k. k.key ≡ key_for literals (addition_at additions k.index).0) order
   pub whole : additions_at additions order ≡ map product_term additions
 
 -- the set of the addition at a place of an order

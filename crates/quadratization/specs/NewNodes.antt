@@ -12,7 +12,7 @@ use Rattle.quadratization.specs.declared.new_nodes.NewNodes.TheVariants.{Terms, 
 -- pair the product of its literals
 abbrev pub with_new_bits : NewNodes → List Bool → List Bool
 with_new_bits (Terms t) x = monomials.extension x t.terms
-with_new_bits (Pairs pairs) x = fold with_product x pairs.items
+with_new_bits (Pairs pairs) x = fold with_product x pairs
 
 -- they have the bits of a table's new nodes, where each term is replaced by itself
 abbrev pub AreOfTerms : TableContent → NewNodes → Type 0

@@ -1,12 +1,12 @@
 //! Additions in the order of their literals, with those of one set as one.
-ghost use Rattle.std.specs.Prelude.{◌≡◌, ◌≤◌, ◌<◌, ◌^◌, IfOk, All, IsTrue, length, map, []};
+ghost use Rattle.std.specs.Prelude.{◌≡◌, ℕ, ◌≤◌, ◌<◌, ◌^◌, IfOk, All, IsTrue, length, map, []};
 ghost use Rattle.std.specs.List.Sorted.{IsPermutation, IsSortedBy};
 ghost use Rattle.std.specs.Bool.{Decides};
 ghost use Rattle.std.specs.declared.cmp.Ordering.TheVariants.{Equal};
 ghost use Rattle.std.specs.Ordering.{is_lt, nat_cmp, ordering_then};
 ghost use Rattle.term_table.specs.Terms.{set_cmp};
 ghost use Rattle.term_table.specs.Tables.{AreAdditions};
-ghost use Rattle.quadratization.specs.Long.{terms_of, product_term, code_of, set_key, addition_at, additions_at, AreKeyed, HaveKeys};
+ghost use Rattle.quadratization.specs.Long.{terms_of, product_term, code_of, pair_key, triple_key, key_for, addition_at, additions_at, AreKeyed, HaveKeys, IsCoded};
 
 use base::NoMemory;
 use literal_lists::{Literal, Literals};
@@ -14,13 +14,27 @@ use problem_form::ProductList;
 use std::alloc::Global;
 use std::cmp::Ordering;
 
+/// Variables below it have codes of 21 bits.
+const FEW_VARIABLES: usize = 1 << 20;
+
 /// Variables below it have codes of 32 bits.
 const CODED_VARIABLES: usize = 1 << 31;
 
-/// A key takes the code of its first literal times it.
-const CODE_LIMIT: u64 = 1 << 32;
+/// A key of three literals has 21 bits for each.
+const SHORT_CODES: u64 = 1 << 21;
 
-/// An addition's index, and the key of its first two literals.
+/// A key of two literals has 32 bits for each.
+const CODES: u64 = 1 << 32;
+
+/// How many of a set's first literals its key is made of: of as many as 64 bits hold.
+#[derive(Clone, Copy)]
+pub enum KeyLength {
+    Three,
+    Two,
+    Zero,
+}
+
+/// An addition's index, and the key of its first literals.
 #[derive(Clone, Copy, Drop)]
 pub struct Keyed {
     pub key: u64,
@@ -37,17 +51,42 @@ fn code_of(literal: Literal) -> u64
 }
 
 /// The key of the first two literals.
-fn set_key(mut literals: Literals<'_>) -> u64
+fn pair_key(mut literals: Literals<'_>) -> u64
     requires { All (λ l. l.variable < 2 ^ 31) literals }
-    ensures { result ≡ set_key literals.entry }
+    ensures { result ≡ pair_key literals.entry }
 {
-    let Some(first) = literals.next() else {
+    let (Some(first), Some(second)) = (literals.next(), literals.next()) else {
         return 0;
     };
-    let Some(second) = literals.next() else {
+    code_of(first) * CODES + code_of(second)
+}
+
+/// The key of the first three literals.
+fn triple_key(mut literals: Literals<'_>) -> u64
+    requires { All (λ l. l.variable < 2 ^ 20) literals }
+    ensures { result ≡ triple_key literals.entry }
+{
+    let (Some(first), Some(second), Some(third)) = (
+        literals.next(),
+        literals.next(),
+        literals.next(),
+    ) else {
         return 0;
     };
-    code_of(first) * CODE_LIMIT + code_of(second)
+    (code_of(first) * SHORT_CODES + code_of(second)) * SHORT_CODES + code_of(third)
+}
+
+/// The key of a set, of so many literals.
+#[inline(always)]
+fn key_for(length: KeyLength, literals: Literals<'_>) -> u64
+    requires { All (λ l. IsCoded length l.variable) literals }
+    ensures { result ≡ key_for length literals.entry }
+{
+    match length {
+        KeyLength::Three => triple_key(literals),
+        KeyLength::Two => pair_key(literals),
+        KeyLength::Zero => 0,
+    }
 }
 
 /// The order of two sets, by their first difference. A proper prefix stands first.
@@ -92,22 +131,34 @@ fn compared_at(additions: &ProductList, left: usize, right: usize) -> Ordering
     }
 }
 
-/// Additions with their keys, which are 0 where some literal has no code of 32 bits.
-fn with_keys(alloc: Global, coded: bool, additions: &ProductList) -> Result<Vec<Keyed>, NoMemory>
-    requires { IsTrue coded
-        → All (λ p. All (λ l. l.variable < 2 ^ 31) p.literals) additions.now }
-    ensures { IfOk result (λ order. AreKeyed coded additions.now order.items) }
+/// Additions with their keys.
+fn with_keys(
+    alloc: Global,
+    length: KeyLength,
+    additions: &ProductList,
+) -> Result<Vec<Keyed>, NoMemory>
+    requires { All (λ p. All (λ l. IsCoded length l.variable) p.literals) additions.now }
+    ensures { IfOk result (λ order. AreKeyed length additions.now order.items) }
 {
     let mut order = Vec::with_capacity(alloc, additions.len())?;
     for index in 0..additions.len() {
-        let key = if coded {
-            set_key(additions.at(index).literals)
-        } else {
-            0
-        };
+        let key = key_for(length, additions.at(index).literals);
         order.push(Keyed { key, index })?;
     }
     Ok(order)
+}
+
+/// Of how many literals keys of sets over the variables below a width are made.
+fn key_length(width: usize) -> KeyLength
+    ensures { (v : ℕ) → v < width → IsCoded result v }
+{
+    if width <= FEW_VARIABLES {
+        KeyLength::Three
+    } else if width <= CODED_VARIABLES {
+        KeyLength::Two
+    } else {
+        KeyLength::Zero
+    }
 }
 
 /// The order of two additions: by their keys, and then by their sets.
@@ -137,7 +188,7 @@ pub fn ordered_additions(
         (additions_at additions.now order.items)) }
     ensures keys { IfOk result (λ order. HaveKeys additions.now order.items) }
 {
-    let mut order = with_keys(alloc, width <= CODED_VARIABLES, additions)?;
+    let mut order = with_keys(alloc, key_length(width), additions)?;
     order.sort_unstable_by(|left, right| compared_keys(additions, left, right));
     Ok(order)
 }

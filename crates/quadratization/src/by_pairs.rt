@@ -11,12 +11,11 @@ use crate::gathered::DirectTerms;
 use crate::long_run::long_run;
 use crate::new_nodes::{DirectForm, NewNodes};
 use base::NoMemory;
-use literal_lists::Literal;
-use rosenberg_layer::{Substitutions, add_moved};
+use rosenberg_layer::{PairList, Substitutions, add_moved};
 use std::alloc::Global;
 
 /// The pairs that a run replaced. All else of it is let go.
-fn pairs_alone(run: Substitutions) -> Vec<(Literal, Literal)>
+fn pairs_alone(run: Substitutions) -> PairList
     ensures { result ≡ run.pairs }
 {
     run.pairs

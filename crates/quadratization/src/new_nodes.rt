@@ -4,9 +4,8 @@ ghost use Rattle.quadratization.specs.NewNodes.{with_new_bits};
 
 use crate::long_table::LongTable;
 use base::NoMemory;
-use literal_lists::Literal;
 use quad_form::Quad;
-use rosenberg_layer::push_products;
+use rosenberg_layer::PairList;
 use std::alloc::Global;
 
 /// What the new nodes of a form stand for: long terms, each of which has nodes of its own, or pairs
@@ -14,7 +13,7 @@ use std::alloc::Global;
 #[derive(Drop)]
 pub enum NewNodes {
     Terms(LongTable),
-    Pairs(Vec<(Literal, Literal)>),
+    Pairs(PairList),
 }
 
 /// A quadratic form and its new nodes.
@@ -41,7 +40,7 @@ impl NewNodes {
         match self {
             NewNodes::Terms(terms) => terms.extended(alloc, &x),
             NewNodes::Pairs(pairs) => {
-                push_products(&mut x, pairs)?;
+                pairs.push_products(&mut x)?;
                 Ok(x)
             }
         }

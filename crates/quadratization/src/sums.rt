@@ -36,6 +36,41 @@ pub fn next_sum(
     if whole == 0 { None } else { Some(whole) }
 }
 
+/// So many additions are read before the first of them is summed.
+const STRETCH: usize = 32;
+
+/// Reads additions one after another, and gives 0 or 1. What is made of one of them depends on jumps
+/// that cannot be foreseen, so the next one, which lies anywhere, would be fetched only after it;
+/// here the processor fetches many at a time.
+fn fetched(additions: &ProductList, order: &[Keyed]) -> usize
+    requires { All (λ k. k.index < length additions.now) order.now }
+    ensures { result ≤ 1 }
+{
+    let mut read = 0;
+    for keyed in order {
+        let mut addition = additions.at(keyed.index);
+        let first = addition
+            .literals
+            .next()
+            .map_or(0, |literal| literal.variable);
+        read ^= first ^ u64::from(addition.coefficient < 0);
+    }
+    (read % 2) as usize
+}
+
+/// Reads a stretch of additions where a place begins one, and gives 0 or 1.
+fn read_ahead(additions: &ProductList, order: &[Keyed], place: usize) -> usize
+    requires within { place < length order.now }
+    requires indices { All (λ k. k.index < length additions.now) order.now }
+    ensures { result ≤ 1 }
+{
+    if place % STRETCH != 0 {
+        return 0;
+    }
+    let end = order.len().min(place.saturating_add(STRETCH));
+    fetched(additions, &order[place..end])
+}
+
 /// The sums of neighbours of one set. A sum of 0 is left out.
 pub(crate) fn summed_additions(
     alloc: Global,
@@ -52,6 +87,8 @@ pub(crate) fn summed_additions(
     let mut literals = Vec::new(alloc);
     let mut sum = 0;
     for i in 0..order.len() {
+        // what is read has to be used, or it would not be read: here it is room for one literal more
+        literals.reserve(read_ahead(additions, order, i))?;
         if let Some(coefficient) = next_sum(additions, order, i, &mut sum) {
             additions
                 .at(order[i].index)

@@ -1,5 +1,5 @@
 -- Lists of terms, each of which tells the next one.
-use Rattle.rosenberg_layer.proofs.Common.{nat_tests, elements, ◌≡◌, ◌≢◌, ℕ, zero, suc, ◌+◌, ◌-◌, ◌<◌, ◌≤◌, List, [], ◌∷◌, ◌++◌, length, map, get_or, set, replicate, refl, sym, ap, subst, arith, append_assoc, All, AllByRecursion, map-set, get_or-set_same, get_or-set_other, length-map, sum_by_more_le, All-tail, recursion_from_All, Head, chain, list_of, list_at, listed_count, IsApart}
+use Rattle.rosenberg_layer.proofs.Common.{nat_tests, elements, ◌≡◌, ◌≢◌, IsTrue, ◌↔◌, eqb, ℕ, zero, suc, ◌+◌, ◌-◌, ◌<◌, ◌≤◌, List, [], ◌∷◌, ◌++◌, length, map, get_or, set, replicate, refl, sym, ap, subst, arith, append_assoc, All, AllByRecursion, map-set, get_or-set_same, get_or-set_other, length-map, sum_by_more_le, All-tail, recursion_from_All, Head, chain, list_of, list_at, listed_count, IsApart}
 
 -- the next term, and those after it
 pub chain-next : (nexts : List ℕ) (n i at : ℕ) → i < n
@@ -118,3 +118,9 @@ pub take_room : (lists lists' : List (List ℕ)) (b room : ℕ)
     → All (λ xs. All (λ x. x < room) xs) lists → lists' ≡ set lists b []
     → All (λ xs. All (λ x. x < room) xs) lists'
 take_room lists lists' b room all new = grind (arith, nat_tests, elements)
+
+-- a list has no terms where it has so many: none
+pub none-chain : (nexts : List ℕ) (n at : ℕ) (terms : List ℕ) → terms ≡ chain nexts n at
+    → IsTrue (eqb n 0) ↔ terms ≡ []
+none-chain nexts zero at terms is = (λ e. is, λ e. refl)
+none-chain nexts (suc n) at terms is = (λ e. grind (arith, nat_tests), λ e. absurd (omega (arith, ap length (sym is), ap length e)))

@@ -1,5 +1,5 @@
 -- What the proofs of this crate stand on, of std and of the crates below.
-pub use Rattle.std.proofs.Common.{◌≡◌, ◌≢◌, ℕ, suc, ◌+◌, ◌≤◌, Bool, true, false, not, ◌||◌, cond, arith, refl, sym, ap, ◌∙◌, subst, List, [], ◌∷◌, ◌++◌, map, ℤ, pos, negsuc, ◌+ℤ◌, neg_ℤ, Some, None, ◌^◌, sum_by, unsigned_abs, zero, ◌-◌, ◌<◌, length, get_or, set, replicate, Option, ◌&&◌, ◌*◌, take, drop, ◌==◌, leb, ◌⊎◌, inl, inr, eqb, ◌/◌, ◌%◌, rules, is_ok, is_err, fold}
+pub use Rattle.std.proofs.Common.{◌≡◌, ◌≢◌, ℕ, suc, ◌+◌, ◌≤◌, Bool, true, false, not, ◌||◌, cond, arith, refl, sym, ap, ◌∙◌, subst, List, [], ◌∷◌, ◌++◌, map, ℤ, pos, negsuc, ◌+ℤ◌, neg_ℤ, Some, None, ◌^◌, sum_by, unsigned_abs, zero, IsTrue, ◌↔◌, ◌-◌, ◌<◌, length, get_or, set, replicate, Option, ◌&&◌, ◌*◌, take, drop, ◌==◌, leb, ◌⊎◌, inl, inr, eqb, ◌/◌, ◌%◌, rules, is_ok, is_err, fold}
 pub use Rattle.std.specs.Bool.{Decides}
 pub use Rattle.std.specs.List.{AllByRecursion, filter, list_any, slice_range, AllZip}
 unfoldable pub use Rattle.std.specs.List.{IsDistinct}

@@ -1,6 +1,7 @@
 -- The turns of a run, one after another.
-use Rattle.rosenberg_layer.proofs.Common.{nat_tests, ◌≡◌, ℕ, zero, suc, ◌+◌, ◌-◌, ◌≤◌, arith, refl, sym, ap, ◌∙◌, subst, List, [], ◌∷◌, ◌++◌, length, map, Option, Some, None, filter, IsPermutation, mul-le-mul_left, append_assoc, append-nil, length-append, length-map, length-filter_both, IsPermutation-append_left, IsPermutation-append_right, IsPermutation-append_comm, length_permutation, sum_by-cons, Literal, Term, set_size, terms_size, TableContent, terms_size-cons, node, Pair, next_pair, tie_terms, with_next, is_long, substituted, run, excess, next_before, pairs_of, front_term, is_short, IsStep, ties_of, AllLong, IsTurn, width-run-le}
+use Rattle.rosenberg_layer.proofs.Common.{nat_tests, ◌≡◌, ℕ, zero, suc, ◌+◌, ◌-◌, ◌≤◌, arith, refl, sym, ap, ◌∙◌, subst, List, [], ◌∷◌, ◌++◌, length, map, Option, Some, None, filter, IsPermutation, mul-le-mul_left, append_assoc, append-nil, length-append, length-map, length-filter_both, IsPermutation-append_left, IsPermutation-append_right, IsPermutation-append_comm, length_permutation, sum_by-cons, Literal, Term, set_size, terms_size, TableContent, terms_size-cons, node, Pair, next_pair, tie_terms, with_next, is_long, substituted, run, excess, next_before, pairs_of, front_term, is_short, IsStep, ties_of, AllLong, IsTurn, width-run-le, ◌≢◌, AllByRecursion, All-permutation, All-from_recursion, recursion_from_All, IsTermSet, IsPair, Begin, pair_of_set}
 use Rattle.rosenberg_layer.proofs.Growth.{square_is}
+use Rattle.rosenberg_layer.proofs.PairTerms.{begins-is}
 use Rattle.rosenberg_layer.proofs.Bags.{held-step, none-next, AreHeld}
 
 -- ---- the measure fits
@@ -152,3 +153,21 @@ turn-few (Some pair) n most low low' long long' pairs pairs' ms ms' few turned =
 pub pairs-enough : (k : ℕ) (t : TableContent) → pairs_of (length (pairs_of k t)) t ≡ pairs_of k t
 pairs-enough zero t = refl
 pairs-enough (suc k) t = grind (arith, nat_tests, pairs-enough k)
+
+-- ---- the pair of a step
+
+-- it is of two variables of the terms
+pub step-pair : (n : ℕ) (pair : Pair) (w : Literal) (long low long' low' : List Term) (m : ℕ)
+    → IsStep pair w long low long' low' m → AllByRecursion (λ (t : Term). IsTermSet n t.0) long
+    → IsPair n pair
+step-pair n pair w long low long' low' m step sets =
+    let S : Term → Type 0 = λ t. IsTermSet n t.0 in
+    let all = All-permutation S long (step.touched ++ step.rest) step.taken.whole (All-from_recursion S long sets) in
+    go step.touched step.rest step.taken.some step.taken.begin (recursion_from_All S _ all)
+  where
+    go : (touched rest : List Term) → touched ≢ [] → Begin pair touched
+        → AllByRecursion (λ (t : Term). IsTermSet n t.0) (touched ++ rest) → IsPair n pair
+    go [] rest some begin inside = absurd (some refl)
+    go (t ∷ touched) rest some begin inside =
+        let own = begins-is pair.0 pair.1 t.0 begin.0 in
+        pair_of_set n pair.0 pair.1 own.0 t.0 own.1 inside.0

@@ -1,6 +1,6 @@
 -- Terms that wait, in lists and as keys: one more in a list, one less among the keys, and a list that
 -- is taken.
-use Rattle.rosenberg_layer.proofs.Common.{pos, elements, ◌≡◌, ◌≢◌, ◌⊎◌, inl, inr, ℕ, zero, suc, ◌+◌, ◌*◌, ◌%◌, ◌<◌, ◌≤◌, ◌^◌, ◌==◌, eqb, true, false, arith, refl, sym, ap, ◌∙◌, subst, List, [], ◌∷◌, ◌++◌, length, map, get_or, set, replicate, All, Contains, AllByRecursion, IsDistinct, IsPermutation, IsStrictlySortedBy, IsNonDecreasing, nat_cmp, cases_eq, nat_tests, ranked, get_or-set_same, get_or-set_other, get_or_default, get_or_past, length-set, length-map, All-from_recursion, All-contains, Contains-get_or, Contains-permutation, IsPermutation-sym, length_permutation, sum_by-set, sum_by-cons, IsDistinct-cons, IsDistinct-IsPermutation, IsStrictlyIncreasing-from_distinct, sorted_from_strictly_increasing, sorted_head, sorted_tail, Term, is_long, code_at, term_at, list_at, listed_count, IsApart, key_of, IsListed, IsKeyed, IsFound, AreWaiting}
+use Rattle.rosenberg_layer.proofs.Common.{pos, elements, ◌≡◌, ◌≢◌, ◌⊎◌, inl, inr, ℕ, zero, suc, ◌+◌, ◌*◌, ◌%◌, ◌<◌, ◌≤◌, ◌^◌, ◌==◌, eqb, true, false, arith, refl, sym, ap, ◌∙◌, subst, List, [], ◌∷◌, ◌++◌, length, map, get_or, set, replicate, All, Contains, AllByRecursion, IsDistinct, IsPermutation, IsStrictlySortedBy, IsNonDecreasing, nat_cmp, cases_eq, nat_tests, ranked, set-get_or, IsPermutation-refl, get_or-set_same, get_or-set_other, get_or_default, get_or_past, length-set, length-map, All-from_recursion, All-contains, Contains-get_or, Contains-permutation, IsPermutation-sym, length_permutation, sum_by-set, sum_by-cons, IsDistinct-cons, IsDistinct-IsPermutation, IsStrictlyIncreasing-from_distinct, sorted_from_strictly_increasing, sorted_head, sorted_tail, Term, is_long, code_at, term_at, list_at, listed_count, IsApart, key_of, IsListed, IsKeyed, IsFound, AreWaiting}
 use Rattle.std.specs.declared.cmp.Ordering.TheVariants.{Less}
 
 -- ---- members
@@ -340,6 +340,19 @@ wait_collected ts lists lists' cursor raw keys wait narrow within is moved sorte
             length-map own (key_of ts),
           );
     })
+
+-- .. where it has no terms
+pub wait_skipped : (ts : List Term) (lists : List (List ℕ)) (cursor : ℕ) (keys : List ℕ) → keys ≡ []
+    → AreWaiting ts (length ts) lists cursor keys → length ts ≤ 2 ^ 32 → cursor < length lists
+    → list_at lists cursor ≡ [] → AreWaiting ts (length ts) lists (cursor + 1) keys
+wait_skipped ts lists cursor keys none wait narrow within empty =
+    let S = AreWaiting ts (length ts) lists in
+    let same : lists ≡ set lists cursor [] =
+    sym (set-get_or lists cursor []) ∙ ap (λ xs. set lists cursor xs) empty in
+    subst (S (cursor + 1)) (sym none)
+    (wait_collected ts lists lists cursor [] [] (subst (S cursor) none wait) narrow within
+    (ap (map (key_of ts)) (sym empty)) (IsPermutation-refl [])
+    (λ i j d up within. absurd (omega arith)) same)
 
 -- ---- lists without terms
 

@@ -10,7 +10,7 @@ use Rattle.rosenberg_layer.specs.Steps.{is_short}
 
 -- the touched terms of lower degree, and those that tie the new nodes, numbered from n on
 abbrev pub moved_of : ℕ → Substitutions → List Term
-moved_of n made = made.low.items ++ ties_of n made.pairs.items made.weights.items
+moved_of n made = made.low.items ++ ties_of n made.pairs made.weights.items
 
 -- what is gathered in the end: the terms of degree 2 or less, and what the substitutions moved
 abbrev pub gathered_terms : TableContent → ℕ → Substitutions → List Term
@@ -26,5 +26,5 @@ IsRunAfter t width turns made =
 -- one turn of a run over so many nodes, from some terms of degree 3 or more to others
 abbrev pub TurnsRun : Option Pair → ℕ → List Term → Substitutions → List Term → Substitutions → Type 0
 TurnsRun pair width long made long' made' =
-    IsTurn pair (width + length made.pairs.items) long made.low.items made.pairs.items
-    made.weights.items long' made'.low.items made'.pairs.items made'.weights.items
+    IsTurn pair (width + length made.pairs) long made.low.items made.pairs
+    made.weights.items long' made'.low.items made'.pairs made'.weights.items

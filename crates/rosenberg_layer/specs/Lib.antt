@@ -8,3 +8,4 @@ pub mod Buckets
 pub mod Waiting
 pub mod Added
 pub mod LongParts
+pub mod PairLists

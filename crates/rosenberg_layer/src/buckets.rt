@@ -1,6 +1,6 @@
 //! Terms in lists by their first literals. A term takes four bytes, since it is in one list at most, and
 //! a list eight.
-ghost use Rattle.std.specs.Prelude.{◌≡◌, ◌+◌, ◌<◌, ◌^◌, ◌++◌, ◌∷◌, [], IfOk, OnOk, All, length, replicate, set};
+ghost use Rattle.std.specs.Prelude.{◌≡◌, ◌↔◌, ◌+◌, ◌<◌, ◌^◌, ◌++◌, ◌∷◌, [], IfOk, OnOk, IsTrue, All, length, replicate, set};
 ghost use Rattle.rosenberg_layer.specs.Buckets.{chain, list_at, listed_count, IsApart};
 
 use base::NoMemory;
@@ -70,6 +70,14 @@ impl Buckets {
         ensures { result ≡ length self.now.lists }
     {
         self.heads.len()
+    }
+
+    /// Whether a list has no terms.
+    pub(crate) fn is_empty(&self, list: usize) -> bool
+        requires { list < length self.now.lists }
+        ensures { IsTrue result ↔ list_at self.now.lists list ≡ [] }
+    {
+        self.heads[list].count == 0
     }
 
     /// Appends a list without terms.

@@ -10,6 +10,7 @@ ghost use Rattle.rosenberg_layer.specs.Parts.{ties_of};
 ghost use Rattle.rosenberg_layer.specs.Added.{moved_of, gathered_terms};
 
 use crate::low_set::LowSet;
+use crate::pair_list::PairList;
 use crate::run::Substitutions;
 use base::NoMemory;
 use literal_lists::Literal;
@@ -86,7 +87,7 @@ fn add_tie<G: Gather>(
 /// Adds the terms that tie the nodes, from a number on, to the products of their pairs.
 fn add_ties<G: Gather>(
     terms: &mut G,
-    pairs: &[(Literal, Literal)],
+    pairs: &PairList,
     weights: &[u128],
     start: usize,
 ) -> Result<(), NoMemory>
@@ -98,7 +99,7 @@ fn add_ties<G: Gather>(
         (ties_of start pairs.now weights.now)) }
 {
     for index in 0..pairs.len() {
-        add_tie(terms, pairs[index], node(start + index), weights[index])?;
+        add_tie(terms, pairs.at(index), node(start + index), weights[index])?;
     }
     Ok(())
 }
@@ -109,8 +110,8 @@ pub fn add_moved<G: Gather>(
     made: &Substitutions,
     start: usize,
 ) -> Result<(), NoMemory>
-    requires each { length made.now.weights.items ≡ length made.now.pairs.items }
-    requires narrow { start + length made.now.pairs.items < 2 ^ 64 }
+    requires each { length made.now.weights.items ≡ length made.now.pairs }
+    requires narrow { start + length made.now.pairs < 2 ^ 64 }
     requires room { HasRoomFor G.takes terms.old (moved_of start made.now) }
     requires small { terms_total (moved_of start made.now) ≤ 2 ^ 124 }
     ensures { OnOk result (Fills G.takes G.holds terms.old terms.new (moved_of start made.now)) }
@@ -127,8 +128,8 @@ pub(crate) fn gathered(
     start: usize,
     width: usize,
 ) -> Result<Table, NoMemory>
-    requires each { length made.now.weights.items ≡ length made.now.pairs.items }
-    requires narrow { start + length made.now.pairs.items < 2 ^ 64 }
+    requires each { length made.now.weights.items ≡ length made.now.pairs }
+    requires narrow { start + length made.now.pairs < 2 ^ 64 }
     requires additions { AreAdditions (record {
       width = width;
       terms = gathered_terms table.now.content start made.now;

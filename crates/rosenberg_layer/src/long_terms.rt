@@ -16,11 +16,11 @@ use std::alloc::Global;
 use std::marker::Model;
 
 /// The literal of a code: twice its variable, and one more where it is negated.
-fn literal_of(code: u32) -> Literal
+pub(crate) fn literal_of(code: u64) -> Literal
     ensures { result ≡ literal_of code }
 {
     Literal {
-        variable: u64::from(code / 2),
+        variable: code / 2,
         negated: code % 2 == 1,
     }
 }
@@ -213,7 +213,9 @@ impl LongTerms {
         requires two { 2 ≤ length (term_at self.now i).0 }
         ensures { result ≡ pair_of (term_at self.now i).0 }
     {
-        (literal_of(self.first(i)), literal_of(self.second(i)))
+        let first = u64::from(self.first(i));
+        let second = u64::from(self.second(i));
+        (literal_of(first), literal_of(second))
     }
 
     pub(crate) fn coefficient(&self, i: usize) -> i128

@@ -210,7 +210,7 @@ pub fn pairs_of(
         let long = long_terms(alloc, table)?;
         if long.len() <= TERMS {
             let Substitutions { pairs, .. } = run_of_long(alloc, long, width, turns)?;
-            return Ok(pairs);
+            return pairs.listed(alloc);
         }
     }
     wide_pairs(alloc, table, width, turns)

@@ -10,7 +10,7 @@ use std::alloc::Global;
 use std::marker::Model;
 
 /// Twice the variable, and one more where it is negated.
-fn code_of(literal: Literal) -> u32
+pub(crate) fn code_of(literal: Literal) -> u32
     requires { literal.variable < 2 ^ 31 }
     ensures { result ≡ code_of literal }
 {

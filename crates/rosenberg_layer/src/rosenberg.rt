@@ -46,13 +46,21 @@ fn reduced(alloc: Global, table: &Table) -> Result<Table, NoMemory>
     gathered(alloc, table, &made, width, width + made.pairs.len())
 }
 
+/// Appends the product of a pair.
+pub(crate) fn push_product(bits: &mut Vec<bool>, pair: (Literal, Literal)) -> Result<(), NoMemory>
+    ensures { OnOk result (bits.new.items ≡ with_product bits.old.items pair) }
+{
+    let product = pair.0.holds(bits) && pair.1.holds(bits);
+    bits.push(product)?;
+    Ok(())
+}
+
 /// Appends the product of each pair, one after another.
 pub fn push_products(bits: &mut Vec<bool>, pairs: &[(Literal, Literal)]) -> Result<(), NoMemory>
     ensures { OnOk result (bits.new.items ≡ fold with_product bits.old.items pairs.now) }
 {
-    for (first, second) in pairs {
-        let product = first.holds(bits) && second.holds(bits);
-        bits.push(product)?;
+    for pair in pairs {
+        push_product(bits, *pair)?;
     }
     Ok(())
 }

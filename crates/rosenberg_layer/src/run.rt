@@ -28,6 +28,7 @@ ghost use Rattle.rosenberg_layer.specs.Added.{IsRunAfter, TurnsRun};
 
 use crate::long_terms::LongTerms;
 use crate::low_set::LowSet;
+use crate::pair_list::PairList;
 use crate::replacing::substitute;
 use crate::waiting::Waiting;
 use base::NoMemory;
@@ -40,7 +41,7 @@ use term_table::Table;
 #[derive(Drop)]
 pub struct Substitutions {
     pub low: Vec<(LowSet, i128)>,
-    pub pairs: Vec<(Literal, Literal)>,
+    pub pairs: PairList,
     pub weights: Vec<u128>,
 }
 
@@ -64,15 +65,15 @@ fn turn(
     width: usize,
 ) -> Result<Option<(Literal, Literal)>, NoMemory>
     requires wait { Wait long.old waiting.old }
-    requires lists { length waiting.old.buckets.lists ≡ 2 * (width + length made.old.pairs.items) }
-    requires narrow { width + length made.old.pairs.items < 2 ^ 31 }
+    requires lists { length waiting.old.buckets.lists ≡ 2 * (width + length made.old.pairs) }
+    requires narrow { width + length made.old.pairs < 2 ^ 31 }
     requires few { length long.old < 2 ^ 32 }
-    requires sets { AllByRecursion (λ t. IsTermSet (width + length made.old.pairs.items) t.0)
+    requires sets { AllByRecursion (λ t. IsTermSet (width + length made.old.pairs) t.0)
         (filter is_long long.old) }
     requires small { terms_total (filter is_long long.old) ≤ 2 ^ 124 }
     ensures wait { OnOk result (Wait long.new waiting.new) }
     ensures lists { OnOk result
-        (length waiting.new.buckets.lists ≡ 2 * (width + length made.new.pairs.items)) }
+        (length waiting.new.buckets.lists ≡ 2 * (width + length made.new.pairs)) }
     ensures few { OnOk result (length long.new ≡ length long.old) }
     ensures turn { IfOk result (λ pair. TurnsRun pair width
         (filter is_long long.old) made.old (filter is_long long.new) made.new) }
@@ -105,14 +106,14 @@ fn turns_of(
         → IfOk result (IsRunAfter t width turns) }
     ensures pairs { (t : TableContent) → IsTable t → t.width ≡ width
         → filter is_long t.terms ≡ long.old
-        → IfOk result (λ made. made.pairs.items ≡ pairs_of turns t) }
-    ensures each { IfOk result (λ made. length made.weights.items ≡ length made.pairs.items) }
+        → IfOk result (λ made. made.pairs ≡ pairs_of turns t) }
+    ensures each { IfOk result (λ made. length made.weights.items ≡ length made.pairs) }
     ensures few { IfOk result (λ made. length made.low.items ≤ length long.old) }
 {
     let mut waiting = Waiting::new(alloc, long, 2 * width)?;
     let mut made = Substitutions {
         low: Vec::new(alloc),
-        pairs: Vec::new(alloc),
+        pairs: PairList::empty(alloc),
         weights: Vec::new(alloc),
     };
     for _done in 0..turns {
@@ -138,8 +139,8 @@ pub fn run_of_long(
         → IfOk result (IsRunAfter t width turns) }
     ensures pairs { (t : TableContent) → IsTable t → t.width ≡ width
         → filter is_long t.terms ≡ long
-        → IfOk result (λ made. made.pairs.items ≡ pairs_of turns t) }
-    ensures each { IfOk result (λ made. length made.weights.items ≡ length made.pairs.items) }
+        → IfOk result (λ made. made.pairs ≡ pairs_of turns t) }
+    ensures each { IfOk result (λ made. length made.weights.items ≡ length made.pairs) }
     ensures few { IfOk result (λ made. length made.low.items ≤ length long) }
 {
     let mut terms = long;
@@ -183,8 +184,8 @@ pub(crate) fn run_of(
     requires turns { turns ≤ excess table.now.content.terms }
     requires size { table_size table.now.content * 2 ^ 2 ≤ 2 ^ 32 }
     ensures parts { IfOk result (IsRunAfter table.now.content width turns) }
-    ensures pairs { IfOk result (λ made. made.pairs.items ≡ pairs_of turns table.now.content) }
-    ensures each { IfOk result (λ made. length made.weights.items ≡ length made.pairs.items) }
+    ensures pairs { IfOk result (λ made. made.pairs ≡ pairs_of turns table.now.content) }
+    ensures each { IfOk result (λ made. length made.weights.items ≡ length made.pairs) }
     ensures few { IfOk result (λ made. length made.low.items ≤ length table.now.content.terms) }
     ensures kept { IsTable table.now.content }
 {

@@ -12,7 +12,7 @@ ghost use Rattle.rosenberg_layer.specs.Buckets.{listed_count, IsApart};
 ghost use Rattle.rosenberg_layer.specs.Waiting.{first_pair, key_of, keys_left, AreWaiting, IsBeyond, Wait};
 
 use crate::buckets::Buckets;
-use crate::long_terms::LongTerms;
+use crate::long_terms::{LongTerms, literal_of};
 use base::NoMemory;
 use literal_lists::Literal;
 use std::alloc::Global;
@@ -63,7 +63,7 @@ impl Waiting {
         })
     }
 
-    /// Takes the list of the next literal.
+    /// Takes the list of the next literal. Many have no terms, as those of new nodes' complements.
     fn collect(&mut self, terms: &LongTerms) -> Result<(), NoMemory>
         requires wait { Wait terms.now self.old }
         requires none { keys_left self.old ≡ [] }
@@ -74,6 +74,10 @@ impl Waiting {
         ensures lists { OnOk result
             (length self.new.buckets.lists ≡ length self.old.buckets.lists) }
     {
+        if self.buckets.is_empty(self.cursor) {
+            self.cursor += 1;
+            return Ok(());
+        }
         self.keys.clear();
         self.at = 0;
         self.buckets.take(self.cursor, &mut self.keys)?;
@@ -98,7 +102,8 @@ impl Waiting {
         Ok(())
     }
 
-    /// The first two literals of the term that is replaced next.
+    /// The first two literals of the term that is replaced next: the one before the cursor, and the
+    /// one that its key begins with. The term itself is not read.
     pub(crate) fn next_pair(
         &mut self,
         terms: &LongTerms,
@@ -115,8 +120,9 @@ impl Waiting {
         if self.at == self.keys.len() {
             return Ok(None);
         }
-        let term = (self.keys[self.at] % TERMS) as usize;
-        Ok(Some(terms.pair(term)))
+        let first = self.cursor as u64 - 1;
+        let second = self.keys[self.at] / TERMS;
+        Ok(Some((literal_of(first), literal_of(second))))
     }
 
     /// Takes the first key off where it is of this second literal, and gives its term.

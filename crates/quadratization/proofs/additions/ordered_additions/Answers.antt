@@ -1,16 +1,13 @@
-use Rattle.quadratization.proofs.Common.{◌≡◌, ℕ, refl, ◌<◌, ◌≤◌, ◌^◌, List, length, true, leb, subst, rules, arith, All, is_lt, IsPermutation, always_returns_same, nat_tests, All-weaker, All-from_recursion, ranks_by, All-permutation, IsPermutation-map, Literal, Product, Term, Keyed, key_for, addition_at, additions_at}
+use Rattle.quadratization.proofs.Common.{◌≡◌, ℕ, refl, ◌<◌, ◌≤◌, ◌^◌, List, length, true, leb, subst, rules, arith, All, is_lt, IsPermutation, always_returns_same, nat_tests, All-weaker, All-from_recursion, ranks_by, All-permutation, IsPermutation-map, Literal, Product, Term, Keyed, IsCoded, key_for, addition_at, additions_at}
 use Rattle.quadratization.proofs.SetKeys.{IsAddition, are_additions, sets_sorted, keyed_cmp, keyed_total}
 use Rattle.quadratization.proofs.additions.ordered_additions.Goals as goal
 
-within : (n m : ℕ) → leb n m ≡ true → n ≤ m
-within n m e = grind (arith, nat_tests)
-
 pub with_keys-requires : goal.with_keys-requires
 with_keys-requires c =
-    λ coded.
-    let all = are_additions true c.args.width c.args.additions.now c.requires.additions.sets c.requires.long (λ yes. within c.args.width (2 ^ 31) coded) in
-    All-weaker (IsAddition true) (λ (p : Product). All (λ (l : Literal). l.variable < 2 ^ 31) p.literals)
-    (λ (p : Product) h. All-from_recursion (λ (l : Literal). l.variable < 2 ^ 31) p.literals (h.low refl)) c.args.additions.now all
+    let n = c.key_length.result in
+    All-weaker (IsAddition n) (λ (p : Product). All (λ (l : Literal). IsCoded n l.variable) p.literals)
+    (λ (p : Product) h. All-from_recursion (λ (l : Literal). IsCoded n l.variable) p.literals h.low) c.args.additions.now
+    (are_additions n c.args.width c.args.additions.now c.requires.additions.sets c.requires.long c.key_length.ensures)
 
 pub returns-clause-indices : goal.returns-clause-indices
 returns-clause-indices c =
@@ -24,21 +21,20 @@ returns-clause-permuted c =
 pub returns-clause-ordered : goal.returns-clause-ordered
 returns-clause-ordered c =
     let ps = c.args.additions.now in
-    let coded = leb c.args.width (2 ^ 31) in
+    let n = c.key_length.result in
     let moved = c.sort_unstable_by.ensures.permutation in
     let sorted = c.sort_unstable_by.ensures.sorted (λ a b. is_lt (keyed_cmp ps a b)) (ranks_by (keyed_total ps) (λ (k : Keyed). k))
     (always_returns_same _ (λ a r. is_lt r ≡ is_lt (keyed_cmp ps a.0.now a.1.0.now)) _ (λ a r f k. (search rules, search rules))) in
-    sets_sorted coded ps _
-    (are_additions coded c.args.width ps c.requires.additions.sets c.requires.long (λ yes. within c.args.width (2 ^ 31) yes))
+    sets_sorted n ps _
+    (are_additions n c.args.width ps c.requires.additions.sets c.requires.long c.key_length.ensures)
     (All-permutation (λ (k : Keyed). k.index < length ps) _ _ moved c.in_ok-order.ensures.within)
-    (All-permutation (λ (k : Keyed). k.key ≡ key_for coded (addition_at ps k.index).0) _ _ moved c.in_ok-order.ensures.keys)
+    (All-permutation (λ (k : Keyed). k.key ≡ key_for n (addition_at ps k.index).0) _ _ moved c.in_ok-order.ensures.keys)
     sorted
 
 pub returns-clause-keys : goal.returns-clause-keys
 returns-clause-keys c =
-    let ps = c.args.additions.now in
-    let coded = leb c.args.width (2 ^ 31) in
+    let n = c.key_length.result in
     record {
-      coded = coded;
-      keys = All-permutation (λ (k : Keyed). k.key ≡ key_for coded (addition_at ps k.index).0) _ _ c.sort_unstable_by.ensures.permutation c.in_ok-order.ensures.keys;
+      literals = n;
+      keys = All-permutation (λ (k : Keyed). k.key ≡ key_for n (addition_at c.args.additions.now k.index).0) _ _ c.sort_unstable_by.ensures.permutation c.in_ok-order.ensures.keys;
     }

@@ -5,6 +5,6 @@ use Rattle.quadratization.proofs.additions.with_keys.Given as goal
 abbrev pub invariant-loop-index : goal.invariant-loop-index
 invariant-loop-index l = record {
   within : All (λ (k : Keyed). k.index < length l.additions) l.order.items;
-  keys : All (λ (k : Keyed). k.key ≡ key_for l.coded (addition_at l.additions k.index).0) l.order.items;
+  keys : All (λ (k : Keyed). k.key ≡ key_for l.length (addition_at l.additions k.index).0) l.order.items;
   whole : additions_at l.additions l.order.items ≡ map product_term (take l.index l.additions);
 }

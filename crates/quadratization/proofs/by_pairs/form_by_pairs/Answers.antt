@@ -33,7 +33,7 @@ into_form-requires c =
     let room = c.requires.held.1 in
     let held = c.requires.held.2 in
     let run = c.in_ok-short.ensures.run t room held in
-    let number : c.len.result ≡ length c.in_ok-short.made.pairs.items = omega (arith, c.len.ensures) in
+    let number : c.len.result ≡ length c.in_ok-short.made.pairs = omega (arith, c.len.ensures) in
     let short = c.in_ok-terms.ensures.held (short_part t) (runs.short-additions t room.additions) (c.in_ok-short.ensures.short t held) in
     record {
       held = (
@@ -48,7 +48,7 @@ returns-clause-quad c t room held =
     let h = c.args.terms in
     let made = c.in_ok-short.made in
     let run = c.in_ok-short.ensures.run t room held in
-    let number : c.len.result ≡ length c.in_ok-short.made.pairs.items = omega (arith, c.len.ensures) in
+    let number : c.len.result ≡ length c.in_ok-short.made.pairs = omega (arith, c.len.ensures) in
     let short = c.in_ok-terms.ensures.held (short_part t) (runs.short-additions t room.additions) (c.in_ok-short.ensures.short t held) in
     runs.form t h room held made run c.width-width.result c.len.result c.width-width.ensures number
     c.into_quad-quad.result

@@ -1,4 +1,4 @@
-use Rattle.quadratization.proofs.Common.{◌≡◌, true, false, ◌+◌, ◌∷◌, ◌≤◌, ◌^◌, pos, ◌+ℤ◌, unsigned_abs, to_z, of_z, sym, ap, ◌∙◌, arith, w128, ints, to_z-of_z, terms_total, sums_with}
+use Rattle.quadratization.proofs.Common.{nat_tests, length, ◌<◌, ℕ, All-get_or, same_set, Keyed, key_for, addition_at, ◌≡◌, true, false, ◌+◌, ◌∷◌, ◌≤◌, ◌^◌, pos, ◌+ℤ◌, unsigned_abs, to_z, of_z, sym, ap, ◌∙◌, arith, w128, ints, to_z-of_z, terms_total, sums_with}
 use Rattle.quadratization.proofs.Neighbours as sums
 use Rattle.quadratization.proofs.Neighbours.{left, term_at}
 use Rattle.quadratization.proofs.SortedAdditions.{IsOther}
@@ -21,6 +21,17 @@ added c =
 
 pub overflow_add-sum : goal.overflow_add-sum
 overflow_add-sum c = omega (arith, ints, added (goal.at.overflow_add-sum c).After-sum)
+
+pub are_alike-requires : goal.are_alike-requires
+are_alike-requires c =
+    λ e.
+    let ps = c.args.additions.now in
+    let n = c.requires.keys.literals in
+    let none : Keyed = record { key = 0; index = 0 } in
+    let K : Keyed → Type 0 = λ k. k.key ≡ key_for n (addition_at ps k.index).0 in
+    let key = λ (i : ℕ) (in' : i < length c.args.order.now). All-get_or K c.args.order.now i none in' c.requires.keys.keys in
+    key c.args.place c.requires.within ∙ ap (key_for n) (same_set _ _ e)
+    ∙ sym (key (c.args.place + 1) (grind (arith, nat_tests)))
 
 pub returns-then-are_alike-clause-sums : goal.returns-then-are_alike-clause-sums
 returns-then-are_alike-clause-sums c =

@@ -1,4 +1,4 @@
-use Rattle.rosenberg_layer.proofs.Common.{◌≡◌, ◌+◌, ◌++◌, ℕ, List, arith, ap, get_or, drop, false, Literal, terms_total, Term, terms_total-append, rest_room, Pair, tie_terms, ties_of}
+use Rattle.rosenberg_layer.proofs.Common.{◌<◌, ◌∙◌, length, get_or_from_slice_get, ◌≡◌, ◌+◌, ◌++◌, ℕ, List, arith, ap, get_or, drop, terms_total, Term, terms_total-append, rest_room, Pair, tie_terms, ties_of}
 use Rattle.term_table.proofs.Filling.{rest_more}
 use Rattle.rosenberg_layer.proofs.Gathered.{rest-start, ties-next}
 use Rattle.rosenberg_layer.proofs.gather.add_ties.Given.{Over}
@@ -27,20 +27,19 @@ module _ (g : Over) (c : After-node g) where
   abbrev i : ℕ
   i = c.loop-index.index
 
-  abbrev none : Literal
-  none = record { variable = 0; negated = false }
-
   abbrev first : List Term
-  first = tie_terms (get_or pairs i (none, none)) c.node.result (get_or ms i 0)
+  first = tie_terms c.at.result c.node.result (get_or ms i 0)
 
   abbrev rest : List Term
   rest = ties_of (c.args.start + (i + 1)) (drop (i + 1) pairs) (drop (i + 1) ms)
 
   next : ties_of (c.args.start + i) (drop i pairs) (drop i ms) ≡ first ++ rest
   next =
-      let inside = c.loop-index-test.true in
-      ties-next c.args.start i pairs ms (none, none) 0 c.node.result inside
+      let inside : i < length pairs = omega (arith, c.loop-index-test.true, c.len-index-end.ensures) in
+      let same = get_or_from_slice_get pairs i c.at.result c.at.result c.at.ensures in
+      ties-next c.args.start i pairs ms c.at.result 0 c.node.result inside
       (omega (arith, inside, c.requires.each)) c.node.ensures
+      ∙ ap (λ (p : Pair). tie_terms p c.node.result (get_or ms i 0) ++ rest) same
 
 pub add_tie-requires-clause-room : goal.add_tie-requires-clause-room
 add_tie-requires-clause-room g c =

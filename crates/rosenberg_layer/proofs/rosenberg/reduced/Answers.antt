@@ -8,7 +8,9 @@ run_of-requires-clause-turns c = omega (arith, c.excess.ensures)
 
 pub gathered-requires-clause-narrow : goal.gathered-requires-clause-narrow
 gathered-requires-clause-narrow c =
-    omega (arith, width-pairs, ap length c.in_ok-made.ensures.pairs, width-le, excess-size)
+    let t = c.args.table.now.content in
+    let k = c.excess.result in
+    omega (arith, width-pairs k t, ap length c.in_ok-made.ensures.pairs, width-le k t, excess-size t.terms)
 
 pub gathered-requires-clause-additions : goal.gathered-requires-clause-additions
 gathered-requires-clause-additions c =
@@ -25,7 +27,7 @@ returns-clause-made c =
     let t = c.args.table.now.content in
     let made = c.in_ok-made.made in
     let adds : List Term =
-    made.low.items ++ ties_of c.width-width.result made.pairs.items made.weights.items in
+    made.low.items ++ ties_of c.width-width.result made.pairs made.weights.items in
     let base = filter is_short t.terms in
     let count : c.len.result ≡ length (pairs_of c.excess.result t) =
     omega (arith, c.len.ensures, ap length c.in_ok-made.ensures.pairs) in

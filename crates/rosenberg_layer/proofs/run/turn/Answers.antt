@@ -1,6 +1,8 @@
-use Rattle.rosenberg_layer.proofs.Common.{◌∷◌, ◌≡◌, ◌+◌, ◌<◌, ◌∙◌, [], List, inl, inr, rules, arith, refl, ap, sym, subst, length, length-append, Some, filter, AllByRecursion, cases_lt, drop_all, IfOk-from_err, Term, IsTermSet, is_long, node, Pair, Waiting, IsStep, first_pair, keys_left, AreWaiting}
+use Rattle.rosenberg_layer.proofs.Common.{IsPair, ◌∷◌, ◌≡◌, ◌+◌, ◌<◌, ◌∙◌, [], List, inl, inr, rules, arith, refl, ap, sym, subst, length, length-append, Some, filter, AllByRecursion, cases_lt, drop_all, Term, IsTermSet, is_long, node, Pair, Waiting, IsStep, first_pair, keys_left, AreWaiting}
 use Rattle.rosenberg_layer.proofs.PartlyTerms.{first_none, none-long}
 use Rattle.rosenberg_layer.proofs.WaitingTerms.{wait_end}
+use Rattle.rosenberg_layer.proofs.Turns.{step-pair}
+use Rattle.rosenberg_layer.proofs.run.turn.Goals.{In_ok-weight-in-Some}
 use Rattle.rosenberg_layer.proofs.run.turn.Goals as goal
 
 -- where there is a pair, a key is left
@@ -16,7 +18,7 @@ some_left ts w pair is = elim (cases_lt w.at (length w.keys.items)) [
 
 pub overflow_add-number : goal.overflow_add-number
 overflow_add-number c =
-    omega (arith, c.requires.narrow, c.len.ensures, c.args.made.now.pairs.ok.0)
+    omega (arith, c.requires.narrow, c.len.ensures)
 
 pub substitute-requires-clause-wait : goal.substitute-requires-clause-wait
 substitute-requires-clause-wait c = c.in_ok-next_pair.ensures.wait
@@ -28,16 +30,33 @@ substitute-requires-clause-some c =
 
 pub substitute-requires-clause-lists : goal.substitute-requires-clause-lists
 substitute-requires-clause-lists c =
-    omega (arith, c.in_ok-next_pair.ensures.lists, c.requires.lists, c.args.made.now.pairs.ok.0)
+    omega (arith, c.in_ok-next_pair.ensures.lists, c.requires.lists, c.len.ensures)
+
+-- the pair is of two variables below the new node
+pair_within : (c : In_ok-weight-in-Some) → IsPair (c.args.width + length c.args.made.now.pairs) c.in-Some.pair
+pair_within c =
+    let ts = filter is_long c.args.long.now in
+    let is = sym c.in_ok-next_pair.ensures.pair ∙ c.in-Some.is in
+    step-pair _ c.in-Some.pair _ ts _ _ _ _ (c.in_ok-weight-in-Some.ensures.step c.in-Some.pair is) c.requires.sets
+
+pub push-requires-clause-first : goal.push-requires-clause-first
+push-requires-clause-first c =
+    let pair = pair_within (goal.at.push-requires-clause-first c).In_ok-weight-in-Some in
+    omega (arith, pair.order, pair.within, c.requires.narrow)
+
+pub push-requires-clause-second : goal.push-requires-clause-second
+push-requires-clause-second c =
+    let pair = pair_within (goal.at.push-requires-clause-second c).In_ok-weight-in-Some in
+    omega (arith, pair.within, c.requires.narrow)
 
 pub substitute-requires-clause-narrow : goal.substitute-requires-clause-narrow
 substitute-requires-clause-narrow c =
-    omega (arith, c.requires.narrow, c.len.ensures, c.args.made.now.pairs.ok.0)
+    omega (arith, c.requires.narrow, c.len.ensures)
 
 pub substitute-requires-clause-sets : goal.substitute-requires-clause-sets
 substitute-requires-clause-sets c =
-    let number : c.args.width + length c.args.made.now.pairs.items ≡ c.args.width + c.len.result =
-    omega (arith, c.len.ensures, c.args.made.now.pairs.ok.0) in
+    let number : c.args.width + length c.args.made.now.pairs ≡ c.args.width + c.len.result =
+    omega (arith, c.len.ensures) in
     subst (λ n. AllByRecursion (λ (t : Term). IsTermSet n t.0) (filter is_long c.args.long.now)) number
     c.requires.sets
 
@@ -53,60 +72,12 @@ returns-in_ok-push-in-Some-2-clause-wait c = c.in_ok-weight-in-Some.ensures.wait
 pub returns-in_ok-push-in-Some-2-clause-lists : goal.returns-in_ok-push-in-Some-2-clause-lists
 returns-in_ok-push-in-Some-2-clause-lists c =
     let pairs = c.args.made.now.pairs in
-    let more = length-append pairs.items (c.in-Some.pair ∷ []) in
+    let more = length-append pairs (c.in-Some.pair ∷ []) in
     let lists = c.in_ok-weight-in-Some.ensures.lists in
-    omega (arith, lists, c.len.ensures, pairs.ok.0, ap length c.in_ok-push-in-Some.ensures.items, more)
+    omega (arith, lists, c.len.ensures, ap length c.in_ok-push-in-Some.ensures, more)
 
 pub returns-in_ok-push-in-Some-2-clause-few : goal.returns-in_ok-push-in-Some-2-clause-few
 returns-in_ok-push-in-Some-2-clause-few c = c.in_ok-weight-in-Some.ensures.count
-
-pub returns-in_err-next_pair-clause-wait : goal.returns-in_err-next_pair-clause-wait
-returns-in_err-next_pair-clause-wait c = IfOk-from_err _ _ c.from_residual.ensures.0
-
-pub returns-in_err-next_pair-clause-lists : goal.returns-in_err-next_pair-clause-lists
-returns-in_err-next_pair-clause-lists c = IfOk-from_err _ _ c.from_residual.ensures.0
-
-pub returns-in_err-next_pair-clause-few : goal.returns-in_err-next_pair-clause-few
-returns-in_err-next_pair-clause-few c = IfOk-from_err _ _ c.from_residual.ensures.0
-
-pub returns-in_err-next_pair-clause-turn : goal.returns-in_err-next_pair-clause-turn
-returns-in_err-next_pair-clause-turn c = IfOk-from_err _ _ c.from_residual.ensures.0
-
-pub returns-in_err-weight-in-Some-clause-wait : goal.returns-in_err-weight-in-Some-clause-wait
-returns-in_err-weight-in-Some-clause-wait c = IfOk-from_err _ _ c.from_residual-in_err-weight-in-Some.ensures.0
-
-pub returns-in_err-weight-in-Some-clause-lists : goal.returns-in_err-weight-in-Some-clause-lists
-returns-in_err-weight-in-Some-clause-lists c = IfOk-from_err _ _ c.from_residual-in_err-weight-in-Some.ensures.0
-
-pub returns-in_err-weight-in-Some-clause-few : goal.returns-in_err-weight-in-Some-clause-few
-returns-in_err-weight-in-Some-clause-few c = IfOk-from_err _ _ c.from_residual-in_err-weight-in-Some.ensures.0
-
-pub returns-in_err-weight-in-Some-clause-turn : goal.returns-in_err-weight-in-Some-clause-turn
-returns-in_err-weight-in-Some-clause-turn c = IfOk-from_err _ _ c.from_residual-in_err-weight-in-Some.ensures.0
-
-pub returns-in_err-push-in-Some-clause-wait : goal.returns-in_err-push-in-Some-clause-wait
-returns-in_err-push-in-Some-clause-wait c = IfOk-from_err _ _ c.from_residual-in_err-push-in-Some.ensures.0
-
-pub returns-in_err-push-in-Some-clause-lists : goal.returns-in_err-push-in-Some-clause-lists
-returns-in_err-push-in-Some-clause-lists c = IfOk-from_err _ _ c.from_residual-in_err-push-in-Some.ensures.0
-
-pub returns-in_err-push-in-Some-clause-few : goal.returns-in_err-push-in-Some-clause-few
-returns-in_err-push-in-Some-clause-few c = IfOk-from_err _ _ c.from_residual-in_err-push-in-Some.ensures.0
-
-pub returns-in_err-push-in-Some-clause-turn : goal.returns-in_err-push-in-Some-clause-turn
-returns-in_err-push-in-Some-clause-turn c = IfOk-from_err _ _ c.from_residual-in_err-push-in-Some.ensures.0
-
-pub returns-in_err-push-in-Some-2-clause-wait : goal.returns-in_err-push-in-Some-2-clause-wait
-returns-in_err-push-in-Some-2-clause-wait c = IfOk-from_err _ _ c.from_residual-in_err-push-in-Some-2.ensures.0
-
-pub returns-in_err-push-in-Some-2-clause-lists : goal.returns-in_err-push-in-Some-2-clause-lists
-returns-in_err-push-in-Some-2-clause-lists c = IfOk-from_err _ _ c.from_residual-in_err-push-in-Some-2.ensures.0
-
-pub returns-in_err-push-in-Some-2-clause-few : goal.returns-in_err-push-in-Some-2-clause-few
-returns-in_err-push-in-Some-2-clause-few c = IfOk-from_err _ _ c.from_residual-in_err-push-in-Some-2.ensures.0
-
-pub returns-in_err-push-in-Some-2-clause-turn : goal.returns-in_err-push-in-Some-2-clause-turn
-returns-in_err-push-in-Some-2-clause-turn c = IfOk-from_err _ _ c.from_residual-in_err-push-in-Some-2.ensures.0
 
 pub returns-in-None-clause-turn : goal.returns-in-None-clause-turn
 returns-in-None-clause-turn c =
@@ -120,7 +91,7 @@ returns-in-None-clause-turn c =
 pub returns-in_ok-push-in-Some-2-clause-turn : goal.returns-in_ok-push-in-Some-2-clause-turn
 returns-in_ok-push-in-Some-2-clause-turn c =
     let ts = c.args.long.now in
-    let n = c.args.width + length c.args.made.now.pairs.items in
+    let n = c.args.width + length c.args.made.now.pairs in
     let w = c.next_pair.new.self in
     let pair = c.in-Some.pair in
     let is : first_pair ts (keys_left w) ≡ Some pair = sym c.in_ok-next_pair.ensures.pair ∙ c.in-Some.is in
@@ -129,4 +100,4 @@ returns-in_ok-push-in-Some-2-clause-turn c =
     subst (λ k. IsStep pair (node k) (filter is_long ts) c.args.made.now.low.items
     (filter is_long c.substitute.new.long) c.substitute.new.low.items c.in_ok-weight-in-Some.weight) number
     (c.in_ok-weight-in-Some.ensures.step pair is) in
-    (c.in_ok-weight-in-Some.weight, step, c.in_ok-push-in-Some.ensures.items, c.in_ok-push-in-Some-2.ensures.items)
+    (c.in_ok-weight-in-Some.weight, step, c.in_ok-push-in-Some.ensures, c.in_ok-push-in-Some-2.ensures.items)

@@ -21,14 +21,14 @@ loop-done-init c =
     record {
       runs = λ t table width e.
           run_begins t c.args.width (filter is_long ts) _ _ _ table (own ∙ sym e) c.new-2.ensures.items
-          c.new-3.ensures.items c.new-4.ensures.items;
+          c.empty.ensures c.new-3.ensures.items;
       wait = c.in_ok-waiting.ensures.wait;
       lists =
           let count = c.in_ok-waiting.ensures.lists in
-          omega (arith, count, ap length c.new-3.ensures.items);
+          omega (arith, count, ap length c.empty.ensures);
       few = omega (arith, ap length own, ap length c.new-2.ensures.items);
       count = refl;
-      made = omega (arith, ap length c.new-3.ensures.items);
+      made = omega (arith, ap length c.empty.ensures);
     }
 
 pub turn-requires-clause-narrow : goal.turn-requires-clause-narrow
@@ -59,7 +59,7 @@ turn-requires-clause-small c =
 
 pub loop-done-preserved : goal.loop-done-preserved
 loop-done-preserved c =
-    let n = c.args.width + length c.loop-done.made.pairs.items in
+    let n = c.args.width + length c.loop-done.made.pairs in
     let old = c.loop-done.invariant in
     let turn = c.in_ok-turn.ensures in
     record {
@@ -84,7 +84,7 @@ returns-clause-parts c = λ t table width e.
     let done : c.loop-done._done ≡ c.args.turns = let past = c.loop-done-test.false in omega (arith, past) in
     let adds =
     filter is_short t.terms
-    ++ (made.low.items ++ ties_of c.args.width made.pairs.items made.weights.items) in
+    ++ (made.low.items ++ ties_of c.args.width made.pairs made.weights.items) in
     subst (λ k. AreParts (run k t) adds (filter is_long (run k t).terms) (weights t.terms)) done
     so_far.held.parts
 

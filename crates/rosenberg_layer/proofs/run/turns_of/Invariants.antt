@@ -8,10 +8,10 @@ abbrev pub invariant-loop-done : goal.invariant-loop-done
 invariant-loop-done l = record {
   runs : (t : TableContent) → IsTable t → t.width ≡ l.width → filter is_long t.terms ≡ l.fn.long
       → IsRun t l._done l.width (filter is_short t.terms) l.made.low.items (filter is_long l.long)
-      l.made.pairs.items l.made.weights.items (weights t.terms);
+      l.made.pairs l.made.weights.items (weights t.terms);
   wait : Wait l.long l.waiting;
-  lists : length l.waiting.buckets.lists ≡ 2 * (l.width + length l.made.pairs.items);
+  lists : length l.waiting.buckets.lists ≡ 2 * (l.width + length l.made.pairs);
   few : length l.made.low.items + length (filter is_long l.long) ≤ length l.fn.long;
   count : length l.long ≡ length l.fn.long;
-  made : length l.made.pairs.items ≤ l._done;
+  made : length l.made.pairs ≤ l._done;
 }

@@ -1,5 +1,5 @@
 use Rattle.rosenberg_layer.proofs.Common.{◌≡◌, ◌++◌, ℕ, List, [], length, map, ap, ◌∙◌, subst, arith, length-set, IsNonDecreasingBy-from_sort, list_at, key_of, keys_left, AreWaiting}
-use Rattle.rosenberg_layer.proofs.WaitingTerms.{listed_within, wait_collected}
+use Rattle.rosenberg_layer.proofs.WaitingTerms.{listed_within, wait_collected, wait_skipped}
 use Rattle.rosenberg_layer.proofs.waiting.Waiting.collect.Goals as goal
 
 pub add_seconds-requires-clause-terms : goal.add_seconds-requires-clause-terms
@@ -31,6 +31,19 @@ returns-clause-wait c =
       room = c.in_ok-take.ensures.room ∙ wait.room;
       narrow = wait.narrow;
       place = omega arith;
+    }
+
+pub returns-then-is_empty-clause-wait : goal.returns-then-is_empty-clause-wait
+returns-then-is_empty-clause-wait c =
+    let old = c.args.self.now in
+    let wait = c.requires.wait in
+    record {
+      all =
+          wait_skipped c.args.terms.now old.buckets.lists old.cursor (keys_left old) c.requires.none wait.all
+          wait.narrow c.requires.more (c.is_empty.ensures.0 c.if-is_empty.true);
+      room = wait.room;
+      narrow = wait.narrow;
+      place = wait.place;
     }
 
 pub returns-clause-lists : goal.returns-clause-lists
