@@ -8,6 +8,7 @@ use crate::layout::{Counts, Layout};
 use whole_text::{TextFault, TextKind, Words, fault, natural_word, next_word};
 
 /// This word.
+#[inline(always)]
 #[tactic(auto, using(whole_text::proofs::Lengths::next_less), unfolding(crate::specs::Entries::wanted_at))]
 fn wanted(words: &mut Words<'_>, end: u64, bytes: &[u8]) -> Result<(), TextFault>
     ensures read { GivesAlways (λ _. words.new) result (wanted_at end bytes.now words.old) }
@@ -32,6 +33,7 @@ fn name_of(layout: Layout) -> &'static [u8]
 }
 
 /// `0` or `unconstrained`.
+#[inline(always)]
 #[tactic(auto, using(whole_text::proofs::Lengths::next_less), unfolding(crate::specs::Entries::topology_at))]
 fn topology(words: &mut Words<'_>, end: u64) -> Result<(), TextFault>
     ensures read { GivesAlways (λ _. words.new) result (topology_at end words.old) }
@@ -46,6 +48,7 @@ fn topology(words: &mut Words<'_>, end: u64) -> Result<(), TextFault>
 }
 
 /// The topology, which a QUBO alone has.
+#[inline(always)]
 #[tactic(auto, unfolding(crate::specs::Entries::topology_of))]
 fn topology_of(words: &mut Words<'_>, layout: Layout, end: u64) -> Result<(), TextFault>
     ensures read { GivesAlways (λ _. words.new) result (topology_of layout end words.old) }
@@ -58,6 +61,7 @@ fn topology_of(words: &mut Words<'_>, layout: Layout, end: u64) -> Result<(), Te
 }
 
 /// A number.
+#[inline(always)]
 #[tactic(auto, using(whole_text::proofs::Lengths::next_less), unfolding(crate::specs::Entries::count_at))]
 fn count(words: &mut Words<'_>, end: u64) -> Result<u64, TextFault>
     ensures read { GivesAlways (λ n. (n, words.new)) result (count_at end words.old) }
@@ -68,6 +72,7 @@ fn count(words: &mut Words<'_>, end: u64) -> Result<u64, TextFault>
 }
 
 /// The header.
+#[inline(always)]
 #[tactic(auto, unfolding(crate::specs::Entries::header_at))]
 pub(crate) fn header(words: &mut Words<'_>, layout: Layout, end: u64) -> Result<Counts, TextFault>
     ensures read { GivesAlways (λ counts. (counts, words.new)) result

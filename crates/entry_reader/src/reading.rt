@@ -15,6 +15,7 @@ use std::alloc::Global;
 use whole_text::{Lexer, Style, TextAnswer, TokenText, Words};
 
 /// Adds the entries up to the end of the words to a problem that has their nodes alone.
+#[inline(always)]
 fn entries(
     literals: &mut Vec<Literal>,
     problem: &mut Problem,

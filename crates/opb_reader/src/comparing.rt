@@ -13,6 +13,7 @@ use problem_form::Constraint;
 use whole_text::{TextFault, TextKind, WordRef, Words, fault, integer_word, next_word};
 
 /// A `;`.
+#[inline(always)]
 #[tactic(auto, using(whole_text::proofs::Lengths::next_less), unfolding(crate::specs::Opb::closed_at))]
 pub fn closed(words: &mut Words<'_>, end: u64) -> Result<(), TextFault>
     ensures read { GivesAlways (λ _. words.new) result (closed_at end words.old) }
@@ -27,6 +28,7 @@ pub fn closed(words: &mut Words<'_>, end: u64) -> Result<(), TextFault>
 }
 
 /// The word that was taken, if one was left.
+#[inline(always)]
 fn taken<'a>(next: Option<WordRef<'a>>, end: u64) -> Result<WordRef<'a>, TextFault>
     ensures { (ws : List Word) → GivesAlways (λ w. (word_of w, ws)) result
         (next_of end (left next.entry ws)) }
@@ -38,6 +40,7 @@ fn taken<'a>(next: Option<WordRef<'a>>, end: u64) -> Result<WordRef<'a>, TextFau
 }
 
 /// The operator and the bound of a constraint, and its `;`.
+#[inline(always)]
 #[tactic(auto, using(whole_text::proofs::Lengths::next_less), unfolding(crate::specs::Opb::comparison_at))]
 pub fn comparison<'a>(
     next: Option<WordRef<'a>>,
@@ -58,6 +61,7 @@ pub fn comparison<'a>(
 }
 
 /// Gives a sum its comparison.
+#[inline(always)]
 pub fn compare(constraint: &mut Constraint, operator: Operator, bound: i128)
     requires terms { All (λ t. unsigned_abs t.coefficient < 2 ^ 127) constraint.old.products }
     requires bound { nat_abs bound < 2 ^ 64 }

@@ -69,6 +69,7 @@ pub(crate) fn coefficient(word: WordRef<'_>) -> Result<i128, TextFault>
 }
 
 /// One of the three operators.
+#[inline(always)]
 #[tactic(auto, unfolding(crate::specs::Opb::operator_at))]
 pub(crate) fn operator(word: WordRef<'_>) -> Result<Operator, TextFault>
     ensures { result ≡ operator_at (word_of word.entry) }

@@ -15,6 +15,7 @@ use std::alloc::Global;
 use whole_text::{Lexer, Style, TextAnswer, TokenText, WordRef, Words};
 
 /// Adds the objective to a problem, where there is one.
+#[inline(always)]
 fn head(
     problem: &mut Problem,
     words: &mut Words<'_>,
@@ -40,6 +41,7 @@ fn head(
 
 /// Adds the constraint that begins with this word to a problem. It is written down first, in place
 /// of what was written before.
+#[inline(always)]
 fn constraint<'a>(
     first: WordRef<'a>,
     problem: &mut Problem,
@@ -76,6 +78,7 @@ fn constraint<'a>(
 }
 
 /// Adds the constraints up to the end. Each is written down in place of the one before.
+#[inline(always)]
 fn constraints(
     problem: &mut Problem,
     written: &mut Constraint,

@@ -97,6 +97,7 @@ fn term<'a>(
 
 /// Puts the terms up to an operator into a list that is empty. The operator is taken, and is the
 /// answer; `None` where the words end before it. No index is above the limit.
+#[inline(always)]
 pub fn sum<'a>(
     first: WordRef<'a>,
     words: &mut Words<'a>,
@@ -129,6 +130,7 @@ pub fn sum<'a>(
 }
 
 /// Adds the terms of an objective to a problem, up to its `;`, which is taken.
+#[inline(always)]
 pub(crate) fn objective(
     problem: &mut Problem,
     words: &mut Words<'_>,

@@ -129,6 +129,7 @@ impl ConstraintList {
 
     /// Appends a constraint as written in normal form. Where memory is refused the list stays as it
     /// was.
+    #[inline(always)]
     pub fn push_normal(&mut self, constraint: &Constraint) -> Result<(), NoMemory>
         requires { constraint_total constraint.now < 2 ^ 100 }
         ensures pushed { OnOk result

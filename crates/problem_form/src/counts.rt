@@ -51,6 +51,19 @@ pub(crate) fn degree_of(problem: &Problem) -> usize
 
 // ---- sizes
 
+/// The product of two numbers, or the greatest number of 128 bits. Where both have 64 bits, as most
+/// do, it is one multiplication.
+#[inline(always)]
+pub(crate) fn times(a: u128, b: u128) -> u128
+    ensures { result ≡ answered_number (a * b) }
+{
+    if a <= u128::from(u64::MAX) && b <= u128::from(u64::MAX) {
+        u128::from(a as u64) * u128::from(b as u64)
+    } else {
+        a.saturating_mul(b)
+    }
+}
+
 pub(crate) fn size_of_products(products: Products<'_>) -> u128
     requires { products_total products < 2 ^ 100 }
     ensures { result ≡ products_total products.entry }
@@ -137,8 +150,8 @@ fn squares(penalty: u128, constraints: &ConstraintList) -> u128
     let mut total: u128 = 0;
     for constraint in constraints.iter() {
         let reach = reach_of(&constraint);
-        let square = reach.saturating_mul(reach);
-        total = total.saturating_add(penalty.saturating_mul(square));
+        let square = times(reach, reach);
+        total = total.saturating_add(times(penalty, square));
     }
     total
 }

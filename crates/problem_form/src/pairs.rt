@@ -6,7 +6,7 @@ ghost use Rattle.problem_form.specs.Limits.{answered_number, binary_digits, clau
 
 use crate::clause_list::{ClauseList, ClauseRef};
 use crate::constraint_list::{ConstraintList, ConstraintRef};
-use crate::counts::{products_degree, slack_range_of};
+use crate::counts::{products_degree, slack_range_of, times};
 use crate::limits::Normal;
 use crate::problem::Problem;
 use crate::product_list::{ProductList, ProductRef, Products};
@@ -136,7 +136,7 @@ fn summands_of(constraint: &ConstraintRef<'_>, normal: Normal) -> u128
 {
     let slack = binary_digits_of(slack_range_of(constraint));
     let listed = constraint.products.len() as u128 + u128::from(slack) + 1;
-    factor_of(normal, most_complements_of(constraint)).saturating_mul(listed)
+    times(factor_of(normal, most_complements_of(constraint)), listed)
 }
 
 /// The largest degree of a product of a constraint.
@@ -151,12 +151,12 @@ fn constraint_pairs_of(constraint: &ConstraintRef<'_>, normal: Normal) -> u128
     ensures { result ≡ answered_number (constraint_pairs normal constraint.now) }
 {
     let summands = summands_of(constraint, normal);
-    let squared = summands.saturating_mul(summands);
+    let squared = times(summands, summands);
     let degree = constraint_degree_of(constraint);
     if degree <= 1 {
         squared
     } else {
-        squared.saturating_mul(square(degree).saturating_mul(4))
+        times(squared, times(square(degree), 4))
     }
 }
 

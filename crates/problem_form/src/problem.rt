@@ -108,6 +108,7 @@ impl Problem {
 
     /// Adds the clause of literals as written, in normal form. The literals are put in order in
     /// their own list, which is left empty. Where memory is refused the problem stays as it was.
+    #[inline(always)]
     pub fn add_literals(
         &mut self,
         literals: &mut Vec<Literal>,
@@ -155,6 +156,7 @@ impl Problem {
     /// Adds a constraint as written, in normal form. Its products are copied, so that one list of
     /// products serves for one constraint after another. Where memory is refused the problem stays
     /// as it was.
+    #[inline(always)]
     pub fn add_constraint(&mut self, constraint: &Constraint) -> Result<(), NoMemory>
         requires within { All (λ t. All (λ l. l.variable < self.old.variables) t.literals)
             constraint.now.products }

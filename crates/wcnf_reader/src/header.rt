@@ -16,6 +16,7 @@ pub(crate) struct Start {
 }
 
 /// These bytes, on this line.
+#[inline(always)]
 #[tactic(auto, unfolding(crate::specs::Wcnf::wanted_word))]
 fn wanted_word(word: WordRef<'_>, line: u64, bytes: &[u8]) -> Result<u64, TextFault>
     ensures { result ≡ wanted_word line bytes.now (word_of word.entry) }
@@ -28,6 +29,7 @@ fn wanted_word(word: WordRef<'_>, line: u64, bytes: &[u8]) -> Result<u64, TextFa
 }
 
 /// A number on this line.
+#[inline(always)]
 #[tactic(auto, unfolding(crate::specs::Wcnf::header_number))]
 fn header_number(word: WordRef<'_>, line: u64) -> Result<u64, TextFault>
     ensures { result ≡ header_number line (word_of word.entry) }
@@ -40,6 +42,7 @@ fn header_number(word: WordRef<'_>, line: u64) -> Result<u64, TextFault>
 }
 
 /// The last number of the header, if anything more stands on its line.
+#[inline(always)]
 #[tactic(auto, unfolding(crate::specs::Wcnf::top_at, crate::specs::Wcnf::at_line_end))]
 fn top(words: &mut Words<'_>, line: u64) -> Result<Option<u64>, TextFault>
     ensures read { GivesAlways (λ top. (top, words.new)) result (top_at line words.old) }
@@ -59,6 +62,7 @@ fn top(words: &mut Words<'_>, line: u64) -> Result<Option<u64>, TextFault>
 }
 
 /// The header, and what is left.
+#[inline(always)]
 #[tactic(auto, using(whole_text::proofs::Lengths::next_less), unfolding(crate::specs::Wcnf::header_at))]
 pub(crate) fn header(words: &mut Words<'_>, line: u64, end: u64) -> Result<Start, TextFault>
     ensures read { GivesAlways (λ start. (header_of start, words.new)) result

@@ -14,6 +14,7 @@ use std::alloc::Global;
 use whole_text::{Lexer, Style, TextAnswer, TextKind, TokenText, Words, fault, next_word};
 
 /// The clauses that the header counts.
+#[inline(always)]
 fn counted(
     alloc: Global,
     problem: &mut Problem,
@@ -44,6 +45,7 @@ fn counted(
 }
 
 /// A text of the older layout, after a `p` on this line.
+#[inline(always)]
 fn older(
     alloc: Global,
     problem: &mut Problem,

@@ -10,7 +10,7 @@ reach_of-reach-requires c =
 pub loop-constraint-preserved : goal.loop-constraint-preserved
 loop-constraint-preserved c =
     let part = answered_square c.args.penalty (reach c.in-Some.constraint) _ _ _
-    c.reach_of-reach.ensures c.saturating_mul-square.ensures c.saturating_mul.ensures in
+    c.reach_of-reach.ensures c.times-square.ensures c.times.ensures in
     let square : Constraint → ℕ = λ k. c.args.penalty * reach k ^ 2 in
     record {
       counted = answered_left square c.loop-constraint.constraint-iterator c.next.new.self
