@@ -4,7 +4,7 @@ pub use Rattle.std.proofs.lemmas.Bool.{ne_eqb, eqb-true, cases_eq}
 pub use Rattle.bits_model.specs.Walks.{is_in}
 pub use Rattle.bits_model.specs.Output.{Written, bit_at, entry_energy, is_node, times_spin, weight_total, IsPlaced, form_of, spins_energy}
 pub use Rattle.basic_solve.specs.Widths.{coupled, without, after, is_neighbour, names_both, AreNeighbourhoods, width, IsNeighbourhood, AreLowerNeighbours, AreHandedOn, IsFirstWider, couples}
-pub use Rattle.basic_solve.specs.Tables.{is_part, value_at, doubled, sum_where, base_of, step_of, step_at, AreOf, most, TableOver, AllBelow, AreHeld, AreEntriesOf, IsChoiceOf, IsHandedOn, IsPassedTo, IsSettled, IsTableOfBit, LeadTo, own_size, table_energy, held_energy, waiting_energy, AreWaiting, index_of, places, own_energy, stepped, AreChoices}
+pub use Rattle.basic_solve.specs.Tables.{is_part, value_at, doubled, powers, sum_where, base_of, step_of, step_at, AreOf, most, TableOver, AllBelow, AreHeld, AreEntriesOf, IsChoiceOf, IsHandedOn, IsPassedTo, IsSettled, IsTableOfBit, LeadTo, own_size, table_energy, held_energy, waiting_energy, AreWaiting, index_of, places, own_energy, stepped, AreChoices}
 pub use Rattle.std.specs.List.{count_by, range_with_len, sum_by, All, AllByRecursion, list_any, Contains, dedup}
 pub use Rattle.std.specs.List.Sorted.{IsStrictlyIncreasing, IsPermutation}
 pub use Rattle.std.proofs.lemmas.List.Sums.{sum_by-cons}

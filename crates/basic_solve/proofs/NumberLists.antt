@@ -1,5 +1,5 @@
 -- Tables of numbers that are seen as their values.
-use Rattle.basic_solve.proofs.Common.{nat_tests, ints, elements, ◌≡◌, ℕ, ◌+◌, ◌-◌, ◌<◌, ◌≤◌, ◌^◌, ℤ, pos, ◌+ℤ◌, List, [], ◌∷◌, ◌++◌, length, map, take, get_or, set, refl, sym, arith, ap, ◌∙◌, length-map, get_or-map, map-set, take_more, take_all, sum_by, doubled}
+use Rattle.basic_solve.proofs.Common.{nat_tests, ints, elements, ◌≡◌, ℕ, ◌+◌, ◌-◌, ◌*◌, ◌<◌, ◌≤◌, ◌^◌, ℤ, pos, ◌+ℤ◌, List, [], ◌∷◌, ◌++◌, length, map, take, get_or, set, length-set, refl, sym, arith, ap, ◌∙◌, length-map, get_or-map, map-set, take_more, take_all, sum_by, doubled}
 use Rattle.basic_solve.proofs.TableSizes.{written_more}
 use Rattle.basic_solve.proofs.ListSums.{sum-push}
 
@@ -18,6 +18,27 @@ pub value_more : {X : Type 0} (f : X → ℤ) (vs us : List X) (to : ℕ → ℤ
     → get_or (map f (set us at v)) x (pos 0) ≡ get_or (map f vs) x (pos 0))
 value_more f vs us to at v long h is so_far =
     grind (arith, nat_tests, ints, elements, written_more, length-map, map-set)
+
+-- a number that is written leaves the next one
+pub set-next : {X : Type 0} (f : X → ℤ) (us : List X) (at : ℕ) (v : X)
+    → get_or (map f (set us at v)) (at + 1) (pos 0) ≡ get_or (map f us) (at + 1) (pos 0)
+set-next f us at v = grind (arith, nat_tests, ints, elements, map-set)
+
+-- two numbers that are written, side by side
+pub pair_more : {X : Type 0} (f : X → ℤ) (vs us : List X) (to : ℕ → ℤ) (at : ℕ) (v w : X)
+    → length us ≡ length vs → 2 * at + 1 < length vs → f v ≡ to (2 * at) → f w ≡ to (2 * at + 1)
+    → ((x : ℕ) → x < 2 * at → get_or (map f us) x (pos 0) ≡ to x)
+    × ((x : ℕ) → 2 * at ≤ x → get_or (map f us) x (pos 0) ≡ get_or (map f vs) x (pos 0))
+    → ((x : ℕ) → x < 2 * (at + 1)
+    → get_or (map f (set (set us (2 * at) v) (2 * at + 1) w)) x (pos 0) ≡ to x)
+    × ((x : ℕ) → 2 * (at + 1) ≤ x
+    → get_or (map f (set (set us (2 * at) v) (2 * at + 1) w)) x (pos 0)
+    ≡ get_or (map f vs) x (pos 0))
+pair_more f vs us to at v w long lt one two so_far =
+    let first = value_more f vs us to (2 * at) v long (omega arith) one so_far in
+    let both = value_more f vs (set us (2 * at) v) to (2 * at + 1) w
+    (length-set us (2 * at) v ∙ long) lt two first in
+    (λ x l. both.0 x (omega (arith, l)), λ x l. both.1 x (omega (arith, l)))
 
 -- the last step doubles what the others made
 pub doubled-last : {A : Type 0} (plus : A → A → A) (vs steps : List A) (s : A)

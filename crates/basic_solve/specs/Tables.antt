@@ -1,5 +1,5 @@
 -- Tables of least energies: a number for each choice of the bits of some nodes.
-use Rattle.std.specs.Prelude.{◌≡◌, ℕ, suc, ◌+◌, ◌*◌, ◌^◌, ◌<◌, ◌≤◌, ℤ, pos, ◌+ℤ◌, ◌*ℤ◌, neg_ℤ, int_lt, unsigned_abs, max, ◌&&◌, ◌==◌, Bool, true, false, cond, List, [], ◌∷◌, ◌++◌, length, map, set}
+use Rattle.std.specs.Prelude.{◌≡◌, ℕ, zero, suc, ◌+◌, ◌*◌, ◌^◌, ◌<◌, ◌≤◌, ℤ, pos, ◌+ℤ◌, ◌*ℤ◌, neg_ℤ, int_lt, unsigned_abs, max, ◌&&◌, ◌==◌, Bool, true, false, cond, List, [], ◌∷◌, ◌++◌, length, map, set}
 use Rattle.std.specs.Int.{int_min}
 use Rattle.basic_solve.specs.FirstLeast.{chosen}
 use Rattle.std.specs.List.{slice_index_or, All, AllByRecursion, sum_by}
@@ -61,6 +61,11 @@ abbrev pub places : ℕ → List ℕ → List ℕ → List ℕ
 places p [] ks = []
 places p (u ∷ us) [] = 0 ∷ places p us []
 places p (u ∷ us) (k ∷ ks) = cond (u == k) (p ∷ places (p + p) us ks) (0 ∷ places p us (k ∷ ks))
+
+-- so many digits, the first of which is p, and each other twice the one before it
+abbrev pub powers : ℕ → ℕ → List ℕ
+powers p zero = []
+powers p (suc n) = p ∷ powers (p + p) n
 
 -- each of these nodes is below n
 abbrev pub AllBelow : ℕ → List ℕ → Type 0

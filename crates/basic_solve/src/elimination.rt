@@ -12,7 +12,7 @@ ghost use Rattle.basic_solve.specs.Widths.{AreNeighbourhoods};
 use crate::buckets::Buckets;
 use crate::energies::{base, entries_of_nodes, step_of};
 use crate::numbers::Number;
-use crate::passed::{Places, Table, add_table, pass_table};
+use crate::passed::{Places, Table, add_table, pass_table, taken_values};
 use crate::steps::add_for;
 use crate::tables::{take_lesser, write_choices, write_doubled};
 use base::Lists;
@@ -78,7 +78,7 @@ fn write_table<T: Number>(
     bit: bool,
     nodes: &[u32],
     entries: &[Entry],
-    tables: &[Table<T>],
+    tables: &[Table<'_, T>],
 ) -> Result<(), NoMemory>
     requires own { AreOf node entries.now }
     requires members { LeadTo nodes.now entries.now }
@@ -109,7 +109,7 @@ fn settle<T: Number>(
     node: usize,
     nodes: &[u32],
     entries: &[Entry],
-    tables: &[Table<T>],
+    tables: &[Table<'_, T>],
 ) -> Result<(), NoMemory>
     requires own { AreOf node entries.now }
     requires members { LeadTo nodes.now entries.now }
@@ -129,16 +129,16 @@ fn settle<T: Number>(
 
 /// What is taken up for one node at a time: its entries and the tables that were passed to it, its
 /// own tables and bytes, and memory that is used again.
-struct Scratch<T: Number> {
+struct Scratch<'a, T: Number> {
     room: Room,
     entries: Vec<Entry>,
-    tables: Vec<Table<T>>,
+    tables: Vec<Table<'a, T>>,
     values: Vec<T>,
     ones: Vec<T>,
     bytes: Vec<u8>,
 }
 
-impl<T: Number> Drop for Scratch<T> {
+impl<'a, T: Number> Drop for Scratch<'a, T> {
     fn drop(self) {
         let Scratch {
             room: _room,
@@ -151,9 +151,9 @@ impl<T: Number> Drop for Scratch<T> {
     }
 }
 
-impl<T: Number> Scratch<T> {
+impl<'a, T: Number> Scratch<'a, T> {
     /// Takes no memory.
-    fn empty(alloc: Global) -> Scratch<T> {
+    fn empty(alloc: Global) -> Scratch<'a, T> {
         Scratch {
             room: Room {
                 steps: Vec::new(alloc),
@@ -170,13 +170,13 @@ impl<T: Number> Scratch<T> {
 
 /// Appends the bits that each node chooses, from the last node to node 0, which gives its table to
 /// the highest of its neighbours.
-fn choose_all<T: Number>(
+fn choose_all<'a, T: Number>(
     alloc: Global,
-    scratch: &mut Scratch<T>,
+    scratch: &mut Scratch<'a, T>,
     model: &OutputModel,
-    sets: &ChainList,
+    sets: &'a ChainList,
     held: &mut Buckets<Entry>,
-    waiting: &mut Buckets<Table<T>>,
+    waiting: &mut Buckets<Table<'a, T>>,
     choices: &mut Lists<u8>,
 ) -> Result<(), NoMemory>
     requires sets { AreNeighbourhoods 16 model.now sets.now }
@@ -205,7 +205,8 @@ fn choose_all<T: Number>(
             &scratch.tables,
         )?;
         choices.push(&scratch.bytes)?;
-        let values = mem::replace(&mut scratch.values, Vec::new(alloc));
+        let spare = taken_values(alloc, &mut scratch.tables);
+        let values = mem::replace(&mut scratch.values, spare);
         pass_table(alloc, waiting, set, values)?;
     }
     Ok(())
@@ -224,7 +225,7 @@ pub(crate) fn all_choices<T: Number>(
 {
     let nodes = model.nodes as usize;
     let mut held = entries_of_nodes(alloc, nodes, &model.entries)?;
-    let mut waiting: Buckets<Table<T>> = Buckets::empty(alloc, nodes)?;
+    let mut waiting: Buckets<Table<'_, T>> = Buckets::empty(alloc, nodes, 1)?;
     let mut scratch = Scratch::empty(alloc);
     let mut choices = Lists::empty(alloc);
     choose_all(

@@ -51,6 +51,15 @@ pub(crate) fn base(kind: Kind, bit: bool, entries: &[Entry]) -> i128
     sum
 }
 
+/// Room for the entries of most nodes: its own, and one coupler where there are many.
+fn usual_room(nodes: usize, entries: &EntryList) -> usize {
+    if entries.counts().couplers >= nodes / 2 {
+        2
+    } else {
+        1
+    }
+}
+
 /// The entries of each node: those of which it is the second one.
 pub(crate) fn entries_of_nodes(
     alloc: Global,
@@ -60,7 +69,7 @@ pub(crate) fn entries_of_nodes(
     requires { All (IsPlaced nodes) entries.now }
     ensures { IfOk result (λ held. AreEntriesOf nodes entries.now held) }
 {
-    let mut held = Buckets::empty(alloc, nodes)?;
+    let mut held = Buckets::empty(alloc, nodes, usual_room(nodes, entries))?;
     for entry in entries.iter() {
         held.push(entry.second as usize, entry)?;
     }

@@ -3,7 +3,7 @@
 -- A placed coupling has its ends in the two chains of its nodes, a tie in one chain, and a qubit is in
 -- one chain at most. So only two ties of one chain could have one pair. Then each of two qubits would
 -- be the parent of the other, and steps to the parent would never lead to the chain's first qubit.
-use Rattle.chain_layer.proofs.Common.{◌≡◌, ◌≢◌, ◌⊎◌, inl, inr, ℕ, zero, suc, ◌+◌, ◌*◌, ◌<◌, ◌≤◌, ◌^◌, Bool, true, false, cond, ◌&&◌, ◌||◌, List, [], ◌∷◌, ◌++◌, length, drop, ℤ, pos, neg_ℤ, refl, sym, ap, subst, ◌∙◌, arith, All, ◌==◌, nat_lt, count_by, ⊤, AllByRecursion, AllZip, range_with_len, flat_map, ints, nat_tests, IsPermutation, IsNonDecreasingBy, All-permutation, sum_by-IsPermutation, total_by-IsPermutation, cases_eq, ltb-true, ltb-false, recursion_from_All, All-from_recursion, length_all_zip, length-map-range_with_len, sum_by-cons, Entry, IsCoupler, pair_number, IsPair, weight_for, ArePairs, Before, Rises, same_pair, ordered_from_rising, rising_from_ordered, Before-further, same_entries, all_append, total_by-in_order, IsIsing, ising_total, is_in, first_of, Embedding, IsEmbedding, IsTie, parent_in, climbed, IsBetween, chain_of, strength, coupling_entry, ties, all_shares, all_ties, placed, field_at, inserted, in_order, image, in_first, in_rest, node_at, each_of_range, chain_within, one_chain, each_at, rest_in, Once, chain_once, AreOwn, apart_qubits, own_parents}
+use Rattle.chain_layer.proofs.Common.{◌≡◌, ◌≢◌, ◌⊎◌, inl, inr, ℕ, zero, suc, ◌+◌, ◌*◌, ◌<◌, ◌≤◌, ◌^◌, Bool, true, false, cond, ◌&&◌, ◌||◌, List, [], ◌∷◌, ◌++◌, length, drop, ℤ, pos, neg_ℤ, refl, sym, ap, subst, ◌∙◌, arith, All, ◌==◌, nat_lt, count_by, ⊤, AllByRecursion, AllZip, range_with_len, flat_map, ints, nat_tests, IsPermutation, IsNonDecreasingBy, All-permutation, sum_by-IsPermutation, IsPermutation-append_comm, IsPermutation-trans, total_by-IsPermutation, cases_eq, ltb-true, ltb-false, recursion_from_All, All-from_recursion, length_all_zip, length-map-range_with_len, sum_by-cons, Entry, IsCoupler, pair_number, IsPair, weight_for, ArePairs, Before, Rises, same_pair, ordered_from_rising, rising_from_ordered, Before-further, same_entries, all_append, total_by-in_order, IsIsing, ising_total, is_in, first_of, Embedding, IsEmbedding, IsTie, parent_in, climbed, IsBetween, chain_of, strength, coupling_entry, ties, all_shares, all_ties, placed, field_at, inserted, in_order, image, in_first, in_rest, node_at, each_of_range, chain_within, one_chain, each_at, rest_in, Once, chain_once, AreOwn, apart_qubits, own_parents}
 use Rattle.chain_layer.proofs.Sizes.{total_grows}
 
 -- ---- entries of different pairs, in order
@@ -480,9 +480,11 @@ sorted_is_in_order n from to few all apart moved sorted =
 
 -- sorted, they are those of the image
 pub sorted_is_image : (e : Embedding) → IsEmbedding e → (from to : List Entry)
-    → from ≡ placed e.ising.couplings e.places ++ all_ties e → IsPermutation from to
+    → from ≡ all_ties e ++ placed e.ising.couplings e.places → IsPermutation from to
     → IsNonDecreasingBy pair_number to → to ≡ (image e).couplings
 sorted_is_image e kept from to listed moved sorted =
-    sorted_is_in_order e.qubits from to kept.few
-    (subst (AllByRecursion (IsCoupler e.qubits)) (sym listed) (all_couplers e kept))
-    (subst AreApart (sym listed) (couplings_apart e kept)) moved sorted ∙ ap in_order listed
+    let places = placed e.ising.couplings e.places in
+    let swapped = IsPermutation-trans (places ++ all_ties e) (all_ties e ++ places) to
+    (IsPermutation-append_comm places (all_ties e)) (subst (λ l. IsPermutation l to) listed moved) in
+    sorted_is_in_order e.qubits (places ++ all_ties e) to kept.few (all_couplers e kept)
+    (couplings_apart e kept) swapped sorted

@@ -1,5 +1,5 @@
 //! The couplings of qubits: those that are placed, and ties.
-ghost use Rattle.std.specs.Prelude.{◌≡◌, ◌+◌, ◌<◌, ◌≤◌, ◌^◌, ◌++◌, IfOk, OnOk, drop, length, map};
+ghost use Rattle.std.specs.Prelude.{◌≡◌, ◌+◌, ◌<◌, ◌≤◌, ◌^◌, ◌++◌, [], IfOk, OnOk, drop, length, map};
 ghost use Rattle.embedding_check.specs.Embeddings.{IsEmbedding};
 ghost use Rattle.chain_layer.specs.Image.{
   all_ties,
@@ -36,18 +36,15 @@ pub fn coupling(p: u32, q: u32, weight: i128) -> Entry
     }
 }
 
-/// Each coupling on its pair of qubits, of so many qubits, with room for a tie of each.
-pub fn placed(
-    alloc: Global,
+/// Appends each coupling on its pair of qubits.
+fn add_placed(
+    made: &mut Pairs,
     couplings: &CouplerList,
     places: &[(u32, u32)],
-    qubits: u32,
-) -> Result<Pairs, NoMemory>
+) -> Result<(), NoMemory>
     requires { length places.now ≡ length couplings.now }
-    ensures { IfOk result (λ v. v ≡ placed couplings.now places.now) }
+    ensures { OnOk result (made.new ≡ made.old ++ placed couplings.now places.now) }
 {
-    let qubits = qubits as usize;
-    let mut made = Pairs::with_room(alloc, qubits, places.len().saturating_add(qubits))?;
     let mut at = 0;
     for coupling in couplings.iter() {
         let (first, second) = places[at];
@@ -58,6 +55,29 @@ pub fn placed(
         })?;
         at += 1;
     }
+    Ok(())
+}
+
+/// No couplings yet, with room for so many and a tie of each of so many qubits.
+fn with_room(alloc: Global, couplings: usize, qubits: u32) -> Result<Pairs, NoMemory>
+    ensures { IfOk result (λ v. v ≡ []) }
+{
+    let qubits = qubits as usize;
+    Pairs::with_room(alloc, qubits, couplings.saturating_add(qubits))
+}
+
+/// Each coupling on its pair of qubits, of so many qubits, with room for a tie of each.
+pub fn placed(
+    alloc: Global,
+    couplings: &CouplerList,
+    places: &[(u32, u32)],
+    qubits: u32,
+) -> Result<Pairs, NoMemory>
+    requires { length places.now ≡ length couplings.now }
+    ensures { IfOk result (λ v. v ≡ placed couplings.now places.now) }
+{
+    let mut made = with_room(alloc, places.len(), qubits)?;
+    add_placed(&mut made, couplings, places)?;
     Ok(made)
 }
 
@@ -79,27 +99,38 @@ fn push_ties(
     Ok(())
 }
 
-/// The placed couplings, and the ties of all chains.
-pub fn couplings_of(alloc: Global, source: &Embedded, strengths: &[u128]) -> Result<Pairs, NoMemory>
+/// Appends the ties of all chains.
+fn add_ties(made: &mut Pairs, source: &Embedded, strengths: &[u128]) -> Result<(), NoMemory>
     requires kept { IsEmbedding source.now }
     requires strengths { strengths.now ≡ map (strength source.now) (nodes_of source.now) }
-    ensures { IfOk result (λ v. v
-        ≡ placed source.now.ising.couplings source.now.places ++ all_ties source.now) }
+    ensures { OnOk result (made.new ≡ made.old ++ all_ties source.now) }
 {
-    let mut made = placed(
-        alloc,
-        &source.ising().couplings,
-        source.places().as_slice(),
-        source.qubits(),
-    )?;
     for i in 0..strengths.len() {
         push_ties(
-            &mut made,
+            made,
             source.chains().list(i),
             source.parents().list(i),
             strengths[i],
         )?;
     }
+    Ok(())
+}
+
+/// The ties of all chains, and the placed couplings. Ties come first, since their weights are the
+/// greatest: how weights are held is known before most of them come.
+pub fn couplings_of(alloc: Global, source: &Embedded, strengths: &[u128]) -> Result<Pairs, NoMemory>
+    requires kept { IsEmbedding source.now }
+    requires strengths { strengths.now ≡ map (strength source.now) (nodes_of source.now) }
+    ensures { IfOk result (λ v. v
+        ≡ all_ties source.now ++ placed source.now.ising.couplings source.now.places) }
+{
+    let mut made = with_room(alloc, source.ising().couplings.len(), source.qubits())?;
+    add_ties(&mut made, source, strengths)?;
+    add_placed(
+        &mut made,
+        &source.ising().couplings,
+        source.places().as_slice(),
+    )?;
     Ok(made)
 }
 

@@ -1,5 +1,5 @@
 -- The entries of nodes on chains, beside those of all nodes.
-use Rattle.ising_form.proofs.Common.{cases_lt, cases_Bool, nat_tests, ◌≡◌, inl, inr, ℕ, suc, ◌+◌, ◌<◌, ◌≤◌, ◌==◌, Bool, true, false, cond, ◌&&◌, ◌||◌, ℤ, pos, unsigned_abs, List, [], ◌∷◌, ◌++◌, length, take, get_or, All, refl, ap, ◌∙◌, arith, AllByRecursion, filter, list_any, slice_index_or, IsStrictlySortedBy, eqb_tells, ints, append-nil, sum_by-cons, recursion_from_All, total_by, Entry, spins_energy, entry_cmp, has_node, is_chained, weight_total, listed_entries, node_entries, IsCoupler, node_entries_more, is_marked, is_on_chain, energy_of_node}
+use Rattle.ising_form.proofs.Common.{cases_lt, cases_Bool, nat_tests, ◌≡◌, inl, inr, ℕ, suc, ◌+◌, ◌<◌, ◌≤◌, ◌==◌, Bool, false, cond, ◌&&◌, ◌||◌, ℤ, pos, unsigned_abs, List, [], ◌∷◌, ◌++◌, length, take, get_or, All, refl, ap, ◌∙◌, arith, AllByRecursion, filter, list_any, slice_index_or, IsStrictlySortedBy, ints, sum_by-cons, recursion_from_All, total_by, Entry, spins_energy, entry_cmp, has_node, is_chained, weight_total, listed_entries, node_entries, IsCoupler, node_entries_more, is_marked, is_on_chain, energy_of_node, cases_eq, leb, ltb}
 use Rattle.std.specs.declared.cmp.Ordering.TheVariants.{Less}
 
 -- ---- some of a list, and then another list
@@ -33,29 +33,15 @@ no_coupler_is_node : (q : ℕ) (n : ℕ) (cs : List Entry) → AllByRecursion (I
 no_coupler_is_node q n [] all = refl
 no_coupler_is_node q n (c ∷ cs) all = grind (arith, nat_tests, no_coupler_is_node q n cs all.1)
 
--- the nodes from n on do not have an entry of one before
-none_before : (chains : List (List ℕ)) (q n : ℕ) (ws : List ℤ) → q < n
-    → list_any (is_of q) (filter (is_on_chain chains) (node_entries n ws)) ≡ false
-none_before chains q n [] low = refl
-none_before chains q n (w ∷ ws) low =
-    grind (arith, nat_tests, ints, none_before chains q (suc n) ws (omega arith))
-
--- those from n on have the entries of chained nodes
-chained_from : (chains : List (List ℕ)) (q n : ℕ) (ws : List ℤ) → n ≤ q → q < n + length ws
-    → list_any (is_of q) (filter (is_on_chain chains) (node_entries n ws)) ≡ is_chained chains q
-chained_from chains q n [] low high = absurd (omega arith)
-chained_from chains q n (w ∷ ws) low high =
-    let later : suc n ≤ q → list_any (is_of q) (filter (is_on_chain chains) (node_entries (suc n) ws)) ≡ is_chained chains q =
-    λ less. chained_from chains q (suc n) ws less (omega arith) in
-    let none = none_before chains q (suc n) ws in
-    grind (arith, nat_tests, eqb_tells n q, later, none)
-
--- none is past the last
-none_after : (chains : List (List ℕ)) (q n : ℕ) (ws : List ℤ) → n + length ws ≤ q
-    → list_any (is_of q) (filter (is_on_chain chains) (node_entries n ws)) ≡ false
-none_after chains q n [] high = refl
-none_after chains q n (w ∷ ws) high =
-    grind (arith, nat_tests, ints, none_after chains q (suc n) ws (omega arith))
+-- nodes from n on that are on chains have entries, and no others
+chained_from : (chains : List (List ℕ)) (q n : ℕ) (ws : List ℤ)
+    → list_any (is_of q) (filter (is_on_chain chains) (node_entries n ws))
+    ≡ (is_chained chains q && (leb n q && ltb q (n + length ws)))
+chained_from chains q n [] = grind (arith, nat_tests)
+chained_from chains q n (w ∷ ws) =
+    let cases = cases_eq n q in
+    let rest = chained_from chains q (suc n) ws in
+    grind (arith, nat_tests)
 
 not_in_chain : (n q : ℕ) (chain : List ℕ) → n ≤ q → AllByRecursion (λ p. p < n) chain
     → list_any (λ p. p == q) chain ≡ false
@@ -77,12 +63,12 @@ chained_listed chains ws cs placed couplers q =
     let nodes = filter (is_on_chain chains) (node_entries 0 ws) in
     let both = any-append (is_of q) nodes cs in
     let none = no_coupler_is_node q (length ws) cs (recursion_from_All _ cs couplers) in
+    let own = chained_from chains q 0 ws in
     elim (cases_lt q (length ws)) [
-      | inl low ↦ let own = chained_from chains q 0 ws (omega arith) (omega arith) in grind (arith, both, none, own)
+      | inl low ↦ grind (arith, nat_tests)
       | inr high ↦
-          let own = none_after chains q 0 ws (omega arith) in
           let out = not_chained (length ws) q chains high (recursion_from_All _ chains placed) in
-          grind (arith, both, none, own, out)
+          grind (arith, nat_tests)
     ]
 
 -- ---- what the others add
@@ -94,15 +80,11 @@ AreUnchained chains n ws =
 
 unchained-rest : (chains : List (List ℕ)) (n : ℕ) (w : ℤ) (ws : List ℤ)
     → AreUnchained chains n (w ∷ ws) → AreUnchained chains (suc n) ws
-unchained-rest chains n w ws none k not =
-    let same : n + suc k ≡ suc n + k = omega arith in
-    none (suc k) (ap (is_chained chains) same ∙ not)
+unchained-rest chains n w ws none k not = let later = none (suc k) in grind (arith, nat_tests)
 
 unchained-first : (chains : List (List ℕ)) (n : ℕ) (w : ℤ) (ws : List ℤ)
     → AreUnchained chains n (w ∷ ws) → is_chained chains n ≡ false → w ≡ pos 0
-unchained-first chains n w ws none not =
-    let same : n + 0 ≡ n = omega arith in
-    none 0 (ap (is_chained chains) same ∙ not)
+unchained-first chains n w ws none not = let first = none 0 in grind (arith, nat_tests)
 
 pub chained_energy : (y : List Bool) (chains : List (List ℕ)) (n : ℕ) (ws : List ℤ)
     → AreUnchained chains n ws
@@ -144,7 +126,8 @@ filter_push : (p : Entry → Bool) (xs : List Entry) (x : Entry)
 filter_push p [] x = refl
 filter_push p (y ∷ ys) x = grind (arith, nat_tests, filter_push p ys x)
 
-marked_more : (marks : List Bool) (ws : List ℤ) (i : ℕ) (d : ℤ) → i < length ws
+-- a node that is marked has an entry, and one that is not marked has none
+pub marked_more : (marks : List Bool) (ws : List ℤ) (i : ℕ) (d : ℤ) → i < length ws
     → filter (is_marked marks) (node_entries 0 (take (i + 1) ws))
     ≡ filter (is_marked marks) (node_entries 0 (take i ws))
     ++ cond (slice_index_or marks i false) (record { first = i; second = i; weight = get_or ws i d } ∷ []) []
@@ -152,22 +135,6 @@ marked_more marks ws i d h =
     ap (filter (is_marked marks)) (node_entries_more ws i d h)
     ∙ filter_push (is_marked marks) (node_entries 0 (take i ws))
     (record { first = i; second = i; weight = get_or ws i d })
-
--- a node that is marked has an entry
-pub marked_more_yes : (marks : List Bool) (ws : List ℤ) (i : ℕ) (d : ℤ) → i < length ws
-    → slice_index_or marks i false ≡ true
-    → filter (is_marked marks) (node_entries 0 (take (i + 1) ws))
-    ≡ filter (is_marked marks) (node_entries 0 (take i ws))
-    ++ record { first = i; second = i; weight = get_or ws i d } ∷ []
-marked_more_yes marks ws i d h is = marked_more marks ws i d h ∙ rw is refl
-
--- one that is not marked has none
-pub marked_more_no : (marks : List Bool) (ws : List ℤ) (i : ℕ) (d : ℤ) → i < length ws
-    → slice_index_or marks i false ≡ false
-    → filter (is_marked marks) (node_entries 0 (take (i + 1) ws))
-    ≡ filter (is_marked marks) (node_entries 0 (take i ws))
-marked_more_no marks ws i d h is =
-    marked_more marks ws i d h ∙ rw is (append-nil (filter (is_marked marks) (node_entries 0 (take i ws))))
 
 pub filter-same : (p q : Entry → Bool) (xs : List Entry) → ((e : Entry) → p e ≡ q e)
     → filter p xs ≡ filter q xs

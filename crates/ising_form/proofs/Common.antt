@@ -1,10 +1,10 @@
 -- What the proofs of this crate stand on, of std and of the crates below.
-pub use Rattle.std.proofs.Common.{◌≡◌, ◌⊎◌, inl, inr, ℕ, suc, ◌+◌, ◌<◌, ◌≤◌, ◌==◌, Bool, true, false, cond, ◌&&◌, ◌||◌, ℤ, pos, ◌+ℤ◌, unsigned_abs, List, [], ◌∷◌, ◌++◌, length, take, get_or, All, refl, sym, ap, ◌∙◌, subst, arith, ◌-◌, drop, zero, ◌*◌, ◌*ℤ◌, ◌^◌, if◌then◌else◌, neg_ℤ, ◌≤ℤ◌, map, length-append, to_z, of_z, rules, ◌-ℤ◌, slice_set}
+pub use Rattle.std.proofs.Common.{◌≡◌, ◌⊎◌, inl, inr, ℕ, suc, ◌+◌, ◌<◌, ◌≤◌, ◌==◌, Bool, true, false, cond, ◌&&◌, ◌||◌, ℤ, pos, ◌+ℤ◌, unsigned_abs, List, [], ◌∷◌, ◌++◌, length, take, get_or, All, refl, sym, ap, ◌∙◌, subst, arith, ◌-◌, drop, zero, ◌*◌, ◌*ℤ◌, ◌^◌, if◌then◌else◌, neg_ℤ, ◌≤ℤ◌, map, length-append, to_z, of_z, rules, ◌-ℤ◌, slice_set, append_assoc, leb, ltb}
 pub use Rattle.std.specs.List.{AllByRecursion, filter, list_any, slice_index_or, sum_by}
 unfoldable pub use Rattle.std.specs.List.Sorted.{IsStrictlySortedBy}
-pub use Rattle.std.proofs.lemmas.Bool.Decides.{nat_tests, eqb_tells}
+pub use Rattle.std.proofs.lemmas.Bool.Decides.{nat_tests}
 pub use Rattle.std.proofs.lemmas.Int.{ints, to_z-of_z}
-pub use Rattle.std.proofs.lemmas.List.{append-nil, drop_more, length-drop, take_all, take_more}
+pub use Rattle.std.proofs.lemmas.List.{append-nil, length-take-le, drop_more, length-drop, take_all, take_more}
 pub use Rattle.std.proofs.lemmas.List.Sums.{sum_by-cons, sum_by-append}
 pub use Rattle.std.proofs.lemmas.List.Elements.{recursion_from_All, All-from_recursion, All-get_or}
 pub use Rattle.base.specs.Sums.{total_by, if_so}
@@ -15,7 +15,7 @@ pub use Rattle.quad_form.specs.Quads.{node_entries, IsCoupler, QuadContent, IsQu
 pub use Rattle.quad_form.proofs.NodeEntries.{node_entries_more, nodes_ordered, couplers_up, all_placed, has_each_node, all_nonzero, all_upward}
 pub use Rattle.ising_form.specs.Outputs.{is_marked, is_on_chain, FitsOutput, AreNodes, written_nodes, written_entries, written_of}
 pub use Rattle.ising_form.specs.laws.Spun.{energy_of_node, length-fields, spins_keeps, spins_reaches}
-pub use Rattle.std.proofs.lemmas.Bool.{cases_lt, cases_Bool, eq-eqb}
+pub use Rattle.std.proofs.lemmas.Bool.{cases_eq, cases_lt, cases_Bool, eq-eqb}
 pub use Rattle.base.proofs.Totals.{total_by_push, size-plus, total_by_more, size-total_by, total_by-append}
 pub use Rattle.bits_model.proofs.Energies.{size-times_spin, weights-append, size-energy, weight_within}
 pub use Rattle.quad_form.proofs.NodeEnergies.{weights_more, weights_within}
@@ -37,3 +37,4 @@ pub use Rattle.quad_form.proofs.WrittenModels.{moved_relaxes}
 pub use Rattle.bits_model.specs.Walks.{is_in}
 pub use Rattle.std.specs.Int.{w128}
 pub use Rattle.base.specs.Figures.{figures_moved}
+pub use Rattle.std.proofs.Math.Seq.{get_or-append_seam, set-append_seam}

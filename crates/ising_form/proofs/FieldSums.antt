@@ -1,5 +1,5 @@
 -- The constant and the fields of an image: how large they are, and what one more coupler makes of them.
-use Rattle.ising_form.proofs.Common.{nat_tests, ◌≡◌, ℕ, zero, suc, ◌+◌, ◌*◌, ◌<◌, ◌≤◌, ◌==◌, ℤ, pos, ◌+ℤ◌, ◌*ℤ◌, unsigned_abs, List, [], ◌∷◌, ◌++◌, length, take, get_or, refl, ap, ◌∙◌, arith, eqb_tells, ints, take_more, sum_by-cons, total_by, if_so, total_by_more, size-plus, size-total_by, Entry, weight_total, node_entries, end_weight, coupled, fields_from, spins_fields, spins_constant, raised}
+use Rattle.ising_form.proofs.Common.{nat_tests, ◌≡◌, ℕ, zero, suc, ◌+◌, ◌*◌, ◌<◌, ◌≤◌, ◌==◌, ℤ, pos, ◌+ℤ◌, ◌*ℤ◌, unsigned_abs, List, [], ◌∷◌, ◌++◌, length, take, drop, get_or, slice_set, refl, sym, ap, ◌∙◌, arith, append_assoc, length-take-le, drop_more, get_or-append_seam, set-append_seam, length-fields, ints, take_more, sum_by-cons, total_by, if_so, total_by_more, size-plus, size-total_by, Entry, weight_total, node_entries, end_weight, coupled, fields_from, spins_fields, spins_constant, raised, cases_eq, cond, leb}
 
 abbrev size : Entry → ℕ
 size e = unsigned_abs e.weight
@@ -33,18 +33,14 @@ unfolding added_size
 added_size-plus f g n [] = omega arith
 added_size-plus f g n (w ∷ ws) = omega (arith, size-plus (f n) (g n), added_size-plus f g (suc n) ws)
 
-size-before : (j n : ℕ) (c : ℤ) (ws : List ℤ) → j < n → added_size (λ i. if_so (j == i) c) n ws ≡ 0
-unfolding added_size
-size-before j n c [] low = refl
-size-before j n c (w ∷ ws) low =
-    grind (arith, nat_tests, ints, size-before j (suc n) c ws (omega arith))
-
 size-one : (j n : ℕ) (c : ℤ) (ws : List ℤ)
-    → added_size (λ i. if_so (j == i) c) n ws ≤ unsigned_abs c
+    → added_size (λ i. if_so (j == i) c) n ws ≤ cond (leb n j) (unsigned_abs c) 0
 unfolding added_size
 size-one j n c [] = omega arith
 size-one j n c (w ∷ ws) =
-    grind (arith, nat_tests, ints, size-one j (suc n) c ws, eqb_tells, size-before)
+    let cases = cases_eq j n in
+    let rest = size-one j (suc n) c ws in
+    grind (arith, nat_tests, ints)
 
 size-nothing : (n : ℕ) (ws : List ℤ) → added_size (λ i. pos 0) n ws ≡ 0
 unfolding added_size
@@ -59,7 +55,9 @@ size-coupled (e ∷ cs) n ws =
     let ends = added_size-plus (λ i. if_so (e.first == i) e.weight) (λ i. if_so (e.second == i) e.weight) n ws in
     let first = size-one e.first n e.weight ws in
     let second = size-one e.second n e.weight ws in
-    omega (arith, both, ends, first, second, size-coupled cs n ws, sum_by-cons size e cs)
+    let rest = size-coupled cs n ws in
+    let whole = sum_by-cons size e cs in
+    grind (arith, nat_tests)
 
 -- the fields are at most twice the weights, in size
 pub size-fields : (ws : List ℤ) (cs : List Entry)
@@ -106,6 +104,30 @@ pub constant_more : (c : ℤ) (ws : List ℤ) (i : ℕ) (d : ℤ) → i < length
     → spins_constant c (take (i + 1) ws) []
     ≡ spins_constant c (take i ws) [] +ℤ pos 2 *ℤ get_or ws i d
 constant_more c ws i d h = omega (arith, ints, total_by_more (λ (w : ℤ). w) ws i d h)
+
+-- fields before weights: the weight that is next, and the field in its place
+module _ (ws : List ℤ) (i : ℕ) (h : i < length ws) where
+  fields_long : length (spins_fields (take i ws) []) ≡ i
+  fields_long = length-fields (coupled []) 0 (take i ws) ∙ length-take-le i ws (omega (arith, h))
+
+  pub next_field : (d : ℤ) → get_or (spins_fields (take i ws) [] ++ drop i ws) i d ≡ get_or ws i d
+  next_field d =
+      let xs = spins_fields (take i ws) [] in
+      let w = get_or ws i d in
+      let rest = drop (i + 1) ws in
+      ap (λ zs. get_or (xs ++ zs) i d) (drop_more ws i d h)
+      ∙ ap (λ n. get_or (xs ++ w ∷ rest) n d) (sym fields_long)
+      ∙ get_or-append_seam xs w rest d
+
+  pub field_written : (v : ℤ) → slice_set (spins_fields (take i ws) [] ++ drop i ws) i v
+      ≡ (spins_fields (take i ws) [] ++ v ∷ []) ++ drop (i + 1) ws
+  field_written v =
+      let xs = spins_fields (take i ws) [] in
+      let w = get_or ws i (pos 0) in
+      let rest = drop (i + 1) ws in
+      ap (λ zs. slice_set (xs ++ zs) i v) (drop_more ws i (pos 0) h)
+      ∙ ap (λ n. slice_set (xs ++ w ∷ rest) n v) (sym fields_long)
+      ∙ set-append_seam xs w rest v ∙ sym (append_assoc xs (v ∷ []) rest)
 
 -- ---- one more coupler
 

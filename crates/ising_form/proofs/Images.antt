@@ -1,5 +1,5 @@
 -- The image of a quadratic form: what it keeps, and how much greater it is.
-use Rattle.ising_form.proofs.Common.{inr, inl, cases_lt, nat_tests, ◌≡◌, ℕ, suc, ◌+◌, ◌*◌, ◌≤◌, ◌^◌, ℤ, pos, ◌+ℤ◌, List, [], ◌∷◌, length, All, if◌then◌else◌, refl, sym, ap, subst, arith, sum_by, int_eq, eq-eqb, ints, sum_by-cons, sum_by-append, total_by, BitsLink, Entry, Keeps, entry_size, QuadContent, IsQuad, IsCoupler, node_entries, quad_total, quad_size, same_bits, weights-append, IsingContent, IsIsing, ising_total, ising_size, form_of, coupled, image, Fits, length-fields, spins_keeps}
+use Rattle.ising_form.proofs.Common.{inr, inl, cases_lt, nat_tests, ◌≡◌, ℕ, suc, ◌+◌, ◌*◌, ◌≤◌, ◌^◌, ℤ, pos, ◌+ℤ◌, List, [], ◌∷◌, length, All, if◌then◌else◌, refl, sym, ap, subst, arith, sum_by, int_eq, eq-eqb, ints, sum_by-cons, sum_by-append, total_by, BitsLink, Entry, Keeps, entry_size, QuadContent, IsQuad, IsCoupler, node_entries, quad_total, quad_size, same_bits, weights-append, IsingContent, IsIsing, IsStrictlySortedBy, All-from_recursion, unsigned_abs, ising_total, ising_size, form_of, coupled, image, Fits, length-fields, spins_keeps}
 use Rattle.quad_form.specs.Quads as quads
 use Rattle.ising_form.proofs.FieldSums.{size-fields, size-constant}
 
@@ -29,9 +29,6 @@ counts z = if int_eq z (pos 0) then 0 else 1
 
 counts_at_most_one : (z : ℤ) → counts z ≤ 1
 counts_at_most_one z = grind (arith, nat_tests, ints)
-
-counts_none : (z : ℤ) → z ≡ pos 0 → counts z ≡ 0
-counts_none z is = ap counts is
 
 none_counted : (z : ℤ) → counts z ≡ 0 → z ≡ pos 0
 none_counted z h = grind (arith, nat_tests, ints)
@@ -69,7 +66,8 @@ size-image_constant q =
           let own = none_counted q.constant (omega (arith, none)) in
           let left = none_in_sum nodes (omega (arith, none)) in
           let right = none_in_sum q.couplers (omega (arith, none)) in
-          omega (arith, counts_none (image q).constant (omega (arith, ints, own, left, sum, right)))
+          let none : (image q).constant ≡ pos 0 = omega (arith, ints, own, left, sum, right) in
+          omega (arith, ap counts none)
     ]
 
 pub size-image : (q : QuadContent) → ising_size (image q) ≤ quad_size q * 2 ^ 1
@@ -81,3 +79,17 @@ size-image q =
 pub made_keeps : (link : BitsLink) (q : QuadContent) (f : IsingContent) → Fits link q → f ≡ image q
     → Keeps (quads.form_of q) (form_of f) (same_bits link) (pos 4) (pos 0)
 made_keeps link q f fits is = rw is (spins_keeps link q fits)
+
+-- a constant without nodes
+pub empty_is_quad : (k : ℤ) (nodes : List ℤ) (couplers : List Entry) → nodes ≡ [] → couplers ≡ []
+    → unsigned_abs k ≤ 2 ^ 124
+    → IsQuad (record { constant = k; diagonal = nodes; couplers = couplers })
+unfolding IsStrictlySortedBy
+empty_is_quad k [] [] none free small = record {
+  ordered = tt;
+  couplers = All-from_recursion (IsCoupler 0) [] tt;
+  narrow = omega arith;
+  small = omega (arith, small);
+}
+empty_is_quad k (w ∷ ws) couplers none free small = absurd cc
+empty_is_quad k [] (e ∷ es) none free small = absurd cc

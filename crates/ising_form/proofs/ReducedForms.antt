@@ -18,20 +18,11 @@ one_le_ising_unit f = one_le_quad_unit (weights f)
 -- ---- what it keeps
 
 pub reduced_is_ising : (f : IsingContent) → IsIsing f → IsIsing (reduced f)
-reduced_is_ising f ising = record {
-  ordered = kept.ordered;
-  couplings = kept.couplers;
-  narrow = kept.narrow;
-  small = kept.small;
-}
-  where
-    kept : IsQuad (units.reduced (weights f))
-    kept = reduced_is_quad (weights f) (record {
-      ordered = ising.ordered;
-      couplers = ising.couplings;
-      narrow = ising.narrow;
-      small = ising.small;
-    })
+reduced_is_ising f ising =
+    let quad : IsQuad (weights f) =
+    record { ordered = ising.ordered; couplers = ising.couplings; narrow = ising.narrow; small = ising.small } in
+    let kept = reduced_is_quad (weights f) quad in
+    record { ordered = kept.ordered; couplings = kept.couplers; narrow = kept.narrow; small = kept.small }
 
 -- ---- its energies
 

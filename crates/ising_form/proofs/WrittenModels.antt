@@ -1,5 +1,5 @@
 -- The models of an Ising form: they are well formed, and have the form's energies but for the constant.
-use Rattle.ising_form.proofs.Common.{nat_tests, ◌≡◌, ◌⊎◌, ℕ, ◌+◌, ◌<◌, ◌≤◌, Bool, ℤ, pos, ◌≤ℤ◌, List, ◌++◌, length, All, refl, sym, subst, arith, ints, recursion_from_All, All-from_recursion, total_by, total_by-append, Figures, Entry, Kind, Form, Decoding, Relaxes, IsMultiple, IsWellFormed, IsPlaced, decoding_of, entry_energy, spins_energy, read_off, weight_total, node_entries, RelaxesAsWritten, nodes_ordered, couplers_up, all_placed, has_each_node, all_nonzero, moved_relaxes, counted_coprime, IsingContent, IsIsing, entries_of, form_of, FitsOutput, AreNodes, is_on_chain, written_nodes, written_entries, written_of, ising_unit, reduced, IsReducedAsWritten}
+use Rattle.ising_form.proofs.Common.{nat_tests, ◌≡◌, ◌⊎◌, ℕ, ◌<◌, ◌≤◌, Bool, ℤ, pos, ◌≤ℤ◌, List, ◌++◌, length, All, refl, sym, subst, arith, ints, recursion_from_All, All-from_recursion, total_by, total_by-append, Figures, Entry, Kind, Form, Decoding, Relaxes, IsMultiple, IsWellFormed, IsPlaced, decoding_of, entry_energy, spins_energy, read_off, weight_total, node_entries, RelaxesAsWritten, nodes_ordered, couplers_up, all_placed, has_each_node, all_nonzero, moved_relaxes, counted_coprime, IsingContent, IsIsing, entries_of, form_of, FitsOutput, AreNodes, is_on_chain, written_nodes, written_entries, written_of, ising_unit, reduced, IsReducedAsWritten}
 use Rattle.bits_model.specs.declared.output.Kind.TheVariants.{Qubo, Ising, Chimera}
 use Rattle.ising_form.proofs.ChainedNodes.{AreUnchained, AllRec-filter, sorted-filter, chained_listed, chained_energy, all_from_chained, chained_total}
 use Rattle.ising_form.proofs.ReducedForms.{weights}

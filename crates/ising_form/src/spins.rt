@@ -1,15 +1,12 @@
 //! The constant and the fields of a quadratic form's image, which are summed in one pass over its
 //! nodes and one over its couplers.
-ghost use Rattle.std.specs.Prelude.{◌≡◌, ◌+◌, ◌*◌, ◌<◌, ◌≤◌, ◌^◌, ◌+ℤ◌, [], IfOk, length, unsigned_abs};
+ghost use Rattle.std.specs.Prelude.{◌≡◌, ◌+◌, ◌*◌, ◌<◌, ◌≤◌, ◌^◌, ◌+ℤ◌, [], length, unsigned_abs};
 ghost use Rattle.std.specs.List.{slice_index_or};
 ghost use Rattle.bits_model.specs.Output.{weight_total};
-ghost use Rattle.quad_form.specs.Quads.{QuadContent, IsQuad, node_entries, quad_total};
+ghost use Rattle.quad_form.specs.Quads.{IsQuad, node_entries, quad_total};
 ghost use Rattle.ising_form.specs.Spins.{spins_constant, spins_fields, raised};
 
-use base::NoMemory;
-use bits_model::Entry;
-use quad_form::Quad;
-use std::alloc::Global;
+use bits_model::{CouplerList, Entry};
 
 /// A constant, and a field for each node.
 #[derive(Drop)]
@@ -18,23 +15,31 @@ pub struct Spins {
     pub fields: Vec<i128>,
 }
 
-/// The constant and the fields of nodes without couplers.
-fn spins_of_nodes(alloc: Global, constant: i128, nodes: &[i128]) -> Result<Spins, NoMemory>
-    requires { unsigned_abs constant + weight_total (node_entries 0 nodes.now) ≤ 2 ^ 122 }
-    ensures constant { IfOk result (λ s. s.constant ≡ spins_constant constant nodes.now []) }
-    ensures fields { IfOk result (λ s. s.fields.items ≡ spins_fields nodes.now []) }
+/// Doubles the weights of nodes, which makes them the fields of nodes without couplers, and says the
+/// constant of these.
+fn double_all(weights: &mut [i128], constant: i128) -> i128
+    requires { unsigned_abs constant + weight_total (node_entries 0 weights.old) ≤ 2 ^ 122 }
+    ensures constant { result ≡ spins_constant constant weights.old [] }
+    ensures fields { weights.new ≡ spins_fields weights.old [] }
 {
     let mut sum = 4 * constant;
-    let mut fields = Vec::with_capacity(alloc, nodes.len())?;
-    for weight in nodes {
-        let doubled = 2 * *weight;
+    for at in 0..weights.len() {
+        let doubled = 2 * weights[at];
         sum += doubled;
-        fields.push(doubled)?;
+        weights[at] = doubled;
     }
-    Ok(Spins {
-        constant: sum,
-        fields,
-    })
+    sum
+}
+
+/// The constant and the fields of nodes without couplers. The fields take the place of the weights.
+fn spins_of_nodes(constant: i128, nodes: Vec<i128>) -> Spins
+    requires { unsigned_abs constant + weight_total (node_entries 0 nodes.items) ≤ 2 ^ 122 }
+    ensures constant { result.constant ≡ spins_constant constant nodes.items [] }
+    ensures fields { result.fields.items ≡ spins_fields nodes.items [] }
+{
+    let mut fields = nodes;
+    let constant = double_all(&mut fields, constant);
+    Spins { constant, fields }
 }
 
 /// Adds to the field of a node.
@@ -78,20 +83,25 @@ impl Spins {
     }
 }
 
-/// The constant and the fields of a form's image.
-pub fn spins_of(alloc: Global, source: &Quad) -> Result<Spins, NoMemory>
-    requires { (quad_total source.now + 1) * 2 ^ 2 ≤ 2 ^ 124 }
-    ensures constant { IfOk result (λ s. s.constant
-        ≡ spins_constant source.now.constant source.now.diagonal source.now.couplers) }
-    ensures fields { IfOk result (λ s. s.fields.items
-        ≡ spins_fields source.now.diagonal source.now.couplers) }
-
-    // What the laws of the layer rest on.
-    ensures kept { IsQuad source.now }
+/// The constant and the fields of the image of a form of these. The fields take the place of the
+/// weights.
+pub fn spins_of(constant: i128, nodes: Vec<i128>, couplers: &CouplerList) -> Spins
+    requires quad { IsQuad (record {
+      constant = constant;
+      diagonal = nodes.items;
+      couplers = couplers.now;
+    }) }
+    requires small { (quad_total (record {
+      constant = constant;
+      diagonal = nodes.items;
+      couplers = couplers.now;
+    }) + 1) * 2 ^ 2 ≤ 2 ^ 124 }
+    ensures constant { result.constant ≡ spins_constant constant nodes.items couplers.now }
+    ensures fields { result.fields.items ≡ spins_fields nodes.items couplers.now }
 {
-    let mut spins = spins_of_nodes(alloc, source.constant, source.diagonal.as_slice())?;
-    for coupler in source.couplers.iter() {
+    let mut spins = spins_of_nodes(constant, nodes);
+    for coupler in couplers.iter() {
         spins.add(&coupler);
     }
-    Ok(spins)
+    spins
 }

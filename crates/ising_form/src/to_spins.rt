@@ -10,9 +10,11 @@ ghost use Rattle.ising_form.specs.Spins.{image};
 use crate::ising::Ising;
 use crate::spins::spins_of;
 use base::{Costed, NoMemory};
+use bits_model::CouplerList;
 use form_steps::{BitsLink, Layer, Lowered};
 use quad_form::{NumberList, Quad};
 use std::alloc::Global;
+use std::mem;
 
 /// The layer from bits to spins. It adds no nodes, and states are assignments.
 #[derive(Drop)]
@@ -68,7 +70,8 @@ impl Layer for ToSpins {
 
     fn lower(&self, alloc: Global, source: &Quad) -> Result<Lowered<Ising, BitsLink>, NoMemory> {
         let width = source.width();
-        let spins = spins_of(alloc, source)?;
+        let nodes = source.diagonal.as_slice().to_vec(alloc)?;
+        let spins = spins_of(source.constant, nodes, &source.couplers);
         let couplings = source.couplers.copied(alloc)?;
         Ok(Lowered {
             target: Ising {
@@ -101,20 +104,22 @@ impl Layer for ToSpins {
 }
 
 impl Ising {
-    /// The Ising form of a quadratic form that is given up: its couplers become the couplings, where
-    /// they lie. `ToSpins` makes the same of a form that stays.
-    pub fn from_quad(alloc: Global, quad: Quad) -> Result<Ising, NoMemory>
+    /// The Ising form of a quadratic form that is given up: its couplers become the couplings and its
+    /// weights the fields, where they lie. `ToSpins` makes the same of a form that stays.
+    pub fn from_quad(alloc: Global, mut quad: Quad) -> Result<Ising, NoMemory>
         requires { (quad_total quad + 1) * 2 ^ 2 ≤ 2 ^ 124 }
         ensures image { IfOk result (λ made. made ≡ image quad) }
 
         // What the laws of the layer rest on.
         ensures kept { IsQuad quad }
     {
-        let spins = spins_of(alloc, &quad)?;
+        let couplers = mem::replace(&mut quad.couplers, CouplerList::empty(alloc));
+        let nodes = mem::replace(&mut quad.diagonal, NumberList::new(Vec::new(alloc)));
+        let spins = spins_of(quad.constant, nodes.into_vec(), &couplers);
         Ok(Ising {
             constant: spins.constant,
             fields: NumberList::new(spins.fields),
-            couplings: quad.into_couplers(),
+            couplings: couplers,
         })
     }
 }

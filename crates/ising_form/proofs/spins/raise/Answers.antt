@@ -7,9 +7,8 @@ overflow_add-fields c =
 
 pub returns : goal.returns
 returns c =
-    let fields = c.args.fields.now in
-    let i = c.args.node in
-    let h = get_or fields i (pos 0) in
+    let h = get_or c.args.fields.now c.args.node (pos 0) in
+    let within = weights_within c.args.fields.now c.args.node (pos 0) c.requires.within in
     let sum : to_z w128 (of_z w128 (to_z w128 (of_z w128 h) +ℤ to_z w128 (of_z w128 c.args.weight))) ≡ h +ℤ c.args.weight =
-    omega (arith, ints, weights_within fields i (pos 0) c.requires.within, c.requires.small) in
-    ap (slice_set fields i) sum
+    omega (arith, ints, within, c.requires.small) in
+    ap (slice_set c.args.fields.now c.args.node) sum

@@ -1,4 +1,4 @@
-use Rattle.ising_form.proofs.Common.{nat_tests, ℕ, ◌<◌, pos, ◌+ℤ◌, unsigned_abs, take, get_or, length, subst, sym, ap, ◌∙◌, arith, All-get_or, Entry, weight_within, weights-append, QuadContent, IsQuad, IsCoupler, node_entries, spins_constant, spins_fields, raised, length-fields}
+use Rattle.ising_form.proofs.Common.{nat_tests, ◌≡◌, ℕ, ◌<◌, pos, to_z, of_z, w128, rules, ints, to_z-of_z, ◌+ℤ◌, unsigned_abs, take, get_or, length, sym, ap, ◌∙◌, arith, All-get_or, Entry, weight_within, weights-append, QuadContent, IsQuad, IsCoupler, node_entries, spins_constant, spins_fields, raised, length-fields}
 use Rattle.ising_form.proofs.CouplerSteps.{taken, next_taken, all_taken}
 use Rattle.ising_form.proofs.FieldSums.{node_total, size-fields, size-constant, constant_coupled, fields_coupled}
 use Rattle.ising_form.proofs.spins.spins_of.Goals as goal
@@ -10,20 +10,20 @@ place q i quad h = All-get_or (IsCoupler (length q.diagonal)) q.couplers i _ h q
 
 pub add-requires-clause-second : goal.add-requires-clause-second
 add-requires-clause-second c =
-    let q = c.args.source.now in
+    let q : QuadContent = record { constant = c.args.constant; diagonal = c.args.nodes.items; couplers = c.args.couplers.now } in
     let d : Entry = record { first = 0; second = 0; weight = pos 0 } in
     let step = next_taken q.couplers _ _ c.in-Some.coupler d c.loop-coupler.invariant.here c.in-Some.ensures.steps in
-    let quad : IsQuad q = subst IsQuad c.source.view_is c.source.invariant in
+    let quad : IsQuad q = c.requires.quad in
     let width = ap length c.loop-coupler.invariant.fields ∙ length-fields _ 0 q.diagonal in
     let second = ap (λ (e : Entry). e.second) step.item in
     omega (arith, (place q (taken q.couplers c.loop-coupler.coupler-iterator) quad step.below).within, width, second)
 
 pub add-requires-clause-first : goal.add-requires-clause-first
 add-requires-clause-first c =
-    let q = c.args.source.now in
+    let q : QuadContent = record { constant = c.args.constant; diagonal = c.args.nodes.items; couplers = c.args.couplers.now } in
     let d : Entry = record { first = 0; second = 0; weight = pos 0 } in
     let step = next_taken q.couplers _ _ c.in-Some.coupler d c.loop-coupler.invariant.here c.in-Some.ensures.steps in
-    let quad : IsQuad q = subst IsQuad c.source.view_is c.source.invariant in
+    let quad : IsQuad q = c.requires.quad in
     let width = ap length c.loop-coupler.invariant.fields ∙ length-fields _ 0 q.diagonal in
     let is = place q (taken q.couplers c.loop-coupler.coupler-iterator) quad step.below in
     let first = ap (λ (e : Entry). e.first) step.item in
@@ -31,19 +31,20 @@ add-requires-clause-first c =
 
 pub add-requires-clause-constant : goal.add-requires-clause-constant
 add-requires-clause-constant c =
-    let q = c.args.source.now in
+    let q : QuadContent = record { constant = c.args.constant; diagonal = c.args.nodes.items; couplers = c.args.couplers.now } in
     let d : Entry = record { first = 0; second = 0; weight = pos 0 } in
     let i = taken q.couplers c.loop-coupler.coupler-iterator in
     let step = next_taken q.couplers _ _ c.in-Some.coupler d c.loop-coupler.invariant.here c.in-Some.ensures.steps in
-    let so_far = ap unsigned_abs c.loop-coupler.invariant.constant in
+    let back : to_z w128 (of_z w128 c.args.constant) ≡ c.args.constant = to_z-of_z w128 c.args.constant (search rules) in
+    let so_far = ap unsigned_abs (c.loop-coupler.invariant.constant ∙ ap (λ z. spins_constant z q.diagonal (take i q.couplers)) back) in
     let most = size-constant q.constant q.diagonal (take i q.couplers) in
     let own = ap (λ (e : Entry). unsigned_abs e.weight) step.item in
     let both = weights-append (node_entries 0 q.diagonal) q.couplers in
-    omega (arith, so_far, most, weight_within q.couplers i d step.below, own, both, c.requires)
+    omega (arith, so_far, most, weight_within q.couplers i d step.below, own, both, c.requires.small)
 
 pub add-requires-clause-fields : goal.add-requires-clause-fields
 add-requires-clause-fields c =
-    let q = c.args.source.now in
+    let q : QuadContent = record { constant = c.args.constant; diagonal = c.args.nodes.items; couplers = c.args.couplers.now } in
     let d : Entry = record { first = 0; second = 0; weight = pos 0 } in
     let i = taken q.couplers c.loop-coupler.coupler-iterator in
     let step = next_taken q.couplers _ _ c.in-Some.coupler d c.loop-coupler.invariant.here c.in-Some.ensures.steps in
@@ -51,26 +52,27 @@ add-requires-clause-fields c =
     let most = size-fields q.diagonal (take i q.couplers) in
     let own = ap (λ (e : Entry). unsigned_abs e.weight) step.item in
     let both = weights-append (node_entries 0 q.diagonal) q.couplers in
-    omega (arith, so_far, most, weight_within q.couplers i d step.below, own, both, c.requires)
+    omega (arith, so_far, most, weight_within q.couplers i d step.below, own, both, c.requires.small)
 
 pub loop-coupler-preserved : goal.loop-coupler-preserved
 loop-coupler-preserved c =
-    let q = c.args.source.now in
+    let k = to_z w128 (of_z w128 c.args.constant) in
+    let q : QuadContent = record { constant = c.args.constant; diagonal = c.args.nodes.items; couplers = c.args.couplers.now } in
     let es = q.couplers in
     let d : Entry = record { first = 0; second = 0; weight = pos 0 } in
     let e = c.in-Some.coupler in
     let i = taken es c.loop-coupler.coupler-iterator in
     let step = next_taken es _ _ e d c.loop-coupler.invariant.here c.in-Some.ensures.steps in
-    let quad : IsQuad q = subst IsQuad c.source.view_is c.source.invariant in
+    let quad : IsQuad q = c.requires.quad in
     let is = place q i quad step.below in
     let first : (get_or es i d).first < length q.diagonal = omega (arith, is.upward, is.within) in
     record {
       here = step.here;
       constant = c.add.ensures.constant
           ∙ ap (λ z. z +ℤ e.weight) c.loop-coupler.invariant.constant
-          ∙ ap (λ (x : Entry). spins_constant q.constant q.diagonal (take i es) +ℤ x.weight) step.item
-          ∙ sym (constant_coupled q.constant q.diagonal es i d step.below)
-          ∙ ap (λ n. spins_constant q.constant q.diagonal (take n es)) (sym step.next);
+          ∙ ap (λ (x : Entry). spins_constant k q.diagonal (take i es) +ℤ x.weight) step.item
+          ∙ sym (constant_coupled k q.diagonal es i d step.below)
+          ∙ ap (λ n. spins_constant k q.diagonal (take n es)) (sym step.next);
       fields = c.add.ensures.fields
           ∙ ap (λ hs. raised (raised hs e.first e.weight) e.second e.weight) c.loop-coupler.invariant.fields
           ∙ ap (λ (x : Entry). raised (raised (spins_fields q.diagonal (take i es)) x.first x.weight) x.second x.weight) step.item
@@ -79,7 +81,7 @@ loop-coupler-preserved c =
     }
 
 pub returns-clause-constant : goal.returns-clause-constant
-returns-clause-constant c = grind (arith, nat_tests, all_taken)
+returns-clause-constant c = grind (arith, nat_tests, ints, to_z-of_z, all_taken)
 
 pub returns-clause-fields : goal.returns-clause-fields
 returns-clause-fields c = grind (arith, nat_tests, all_taken)

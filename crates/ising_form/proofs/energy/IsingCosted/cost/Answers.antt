@@ -5,21 +5,17 @@ use Rattle.ising_form.proofs.energy.IsingCosted.cost.Goals as goal
 
 pub overflow_add-result : goal.overflow_add-result
 overflow_add-result c =
-    let y = c.args.y.now in
-    let nodes = node_entries 0 c.self.inside.fields in
-    let couplings = c.self.inside.couplings in
-    let first = c.fields_energy-nodes.ensures ∙ ap (λ (ws : List ℤ). total_by (spins_energy y) (node_entries 0 ws)) c.as_slice.ensures in
-    let second = c.couplers_energy-couplings.ensures in
-    omega (arith, ints, first, second, size-energy Ising y nodes, size-energy Ising y couplings, weights-append nodes couplings, c.self.invariant.small)
+    let nodes = rw c.as_slice.ensures at c.fields_energy-nodes.ensures in
+    let fields_size = size-energy Ising c.args.y.now (node_entries 0 c.self.inside.fields) in
+    let couplings_size = size-energy Ising c.args.y.now c.self.inside.couplings in
+    omega (arith, ints, c.couplers_energy-couplings.ensures, weights-append, c.self.invariant.small)
 
 pub overflow_add-result-2 : goal.overflow_add-result-2
 overflow_add-result-2 c =
-    let y = c.args.y.now in
-    let nodes = node_entries 0 c.self.inside.fields in
-    let couplings = c.self.inside.couplings in
-    let first = c.fields_energy-nodes.ensures ∙ ap (λ (ws : List ℤ). total_by (spins_energy y) (node_entries 0 ws)) c.as_slice.ensures in
-    let second = c.couplers_energy-couplings.ensures in
-    omega (arith, ints, first, second, size-energy Ising y nodes, size-energy Ising y couplings, weights-append nodes couplings, c.self.invariant.small)
+    let nodes = rw c.as_slice.ensures at c.fields_energy-nodes.ensures in
+    let fields_size = size-energy Ising c.args.y.now (node_entries 0 c.self.inside.fields) in
+    let couplings_size = size-energy Ising c.args.y.now c.self.inside.couplings in
+    omega (arith, ints, c.couplers_energy-couplings.ensures, weights-append, c.self.invariant.small)
 
 pub returns : goal.returns
 returns c =

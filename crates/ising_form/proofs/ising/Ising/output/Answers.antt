@@ -29,15 +29,7 @@ made_is c =
     let unit = to_z-of_z w128 c.args.unit (search rules) in
     let nodes = ap length c.as_slice.ensures in
     let entries = ap (λ es. es ++ f.couplings) c.in_ok-weights.ensures ∙ nodes_and_couplings c.args.kind c.args.chains f in
-    let whole : made c ≡ written_of f c.args.variables c.args.figures c.args.unit c.args.kind c.args.chains = λ i. record {
-      kind = c.args.kind;
-      variables = c.args.variables;
-      figures = figures i;
-      unit = unit i;
-      nodes = nodes i;
-      entries = entries i;
-      chains = c.args.chains;
-    } in
+    let whole : made c ≡ written_of f c.args.variables c.args.figures c.args.unit c.args.kind c.args.chains = cc in
     whole
     ∙ ap (λ (g : IsingContent). written_of g c.args.variables c.args.figures c.args.unit c.args.kind c.args.chains) c.self.view_is
 

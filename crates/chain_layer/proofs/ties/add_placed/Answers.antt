@@ -1,6 +1,6 @@
 use Rattle.chain_layer.proofs.Common.{◌≡◌, ◌+◌, ◌++◌, [], ◌∷◌, length, drop, get_or, refl, ap, sym, ◌∙◌, arith, rules, Entry, placed}
 use Rattle.chain_layer.proofs.Added.{placed_more}
-use Rattle.chain_layer.proofs.ties.placed.Goals as goal
+use Rattle.chain_layer.proofs.ties.add_placed.Goals as goal
 
 pub loop-coupling-preserved : goal.loop-coupling-preserved
 loop-coupling-preserved c =
@@ -17,7 +17,7 @@ loop-coupling-preserved c =
       here = omega (arith, so_far.here, ap length steps);
       made =
           ap (λ es. es ++ placed c.next.new.self (drop (at + 1) places)) pushed
-          ∙ placed_more made (placed c.args.couplings.now places) e _ places at place (0, 0)
+          ∙ placed_more made (c.args.made.now ++ placed c.args.couplings.now places) e _ places at place (0, 0)
           (omega (arith, so_far.here, ap length steps)) refl
           (ap (λ es. made ++ placed es (drop at places)) (sym steps) ∙ so_far.made);
     }

@@ -1,8 +1,8 @@
 use Rattle.basic_solve.proofs.Common.{◌≡◌, ℕ, ◌+◌, ◌<◌, ◌==◌, Bool, ◌∙◌, sym, ap, arith, pos, int_lt, map, get_or, length, w8, bit_at_set_same, bit_at_set_other, is_one}
 use Rattle.basic_solve.proofs.BitPlaces.{marks_more}
 use Rattle.basic_solve.proofs.NumberLists.{value-at}
-use Rattle.basic_solve.proofs.tables.lesser_byte.Goals as goal
-use Rattle.basic_solve.proofs.tables.lesser_byte.Goals.{then-is_less, else-is_less}
+use Rattle.basic_solve.proofs.tables.lesser_bits.Goals as goal
+use Rattle.basic_solve.proofs.tables.lesser_bits.Goals.{then-is_less, else-is_less}
 
 pub loop-k-preserved : goal.loop-k-preserved
 loop-k-preserved g c =
@@ -12,8 +12,8 @@ loop-k-preserved g c =
     let start = c.args.start in
     let k = c.loop-k.k in
     let byte = c.loop-k.byte in
-    let lt : k < 8 = omega (arith, c.loop-k-test.true, c.min-count.ensures) in
-    let there : start + k < length vs = omega (arith, c.loop-k-test.true, c.min-count.ensures) in
+    let lt : k < 8 = omega (arith, c.loop-k-test.true, c.requires.few) in
+    let there : start + k < length vs = omega (arith, c.loop-k-test.true, c.requires.within) in
     let one = value-at value others (start + k) c.index-others-start.result
     (omega (arith, there, c.requires.count)) c.index-others-start.is in
     let two = value-at value vs (start + k) c.index-values-start.result there c.index-values-start.is in

@@ -1,5 +1,5 @@
 use Rattle.basic_solve.proofs.Common.{◌≡◌, ℕ, ◌+◌, ◌<◌, ◌≤◌, pos, false, int_lt, map, get_or, is_one}
-use Rattle.basic_solve.proofs.tables.lesser_byte.Given as goal
+use Rattle.basic_solve.proofs.tables.lesser_bits.Given as goal
 
 -- the bits up to an index say which number is the lesser, and the others are 0
 abbrev pub invariant-loop-k : goal.invariant-loop-k
