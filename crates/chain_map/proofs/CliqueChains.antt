@@ -3,7 +3,7 @@
 -- Whose a qubit is can be read off its place: on side 0 by its column, on side 1 by its row. So no
 -- qubit is listed twice. A chain is a path, whose neighbours are joined. And the part of a later node
 -- that goes down its column meets the part of an earlier one that goes along its row in a cell.
-use Rattle.chain_map.proofs.Common.{◌≡◌, ◌≢◌, ℕ, zero, suc, ◌+◌, ◌-◌, ◌*◌, ◌/◌, ◌%◌, ◌<◌, ◌≤◌, ◌==◌, inl, inr, true, List, [], length, map, get_or, All, if◌then◌else◌, refl, sym, ap, subst, ◌∙◌, arith, mod-lt, count_by, sum_by, range_with_len, cases_eq, cases_lt, nat_tests, length-append, get_or_append_left, get_or-append_right, length-map-range_with_len, get_or-map-range_with_len, sum_by-append, sum_by-cons, div-add-mod', div-mul-add, mod-mul-add, div-lt_iff_lt-mul, mul_comm, min-le_left, min-le_right, div-mul-le_self, le-div_iff_mul-le, Chimera, Place, IsPlaceIn, qubits_of, index_of, place_of, are_joined, index_below, Entry, IsConnected, IsCoupler, occurrences, IsCrossing, IsCoupled, diagonal_of, clique_places, down_qubit, along_qubit, path_of, clique_chain, clique_of, IsForClique}
+use Rattle.chain_map.proofs.Common.{◌≡◌, ◌≢◌, ℕ, zero, suc, ◌+◌, ◌-◌, ◌*◌, ◌/◌, ◌%◌, ◌<◌, ◌≤◌, ◌==◌, inl, inr, true, List, [], length, map, get_or, All, if◌then◌else◌, refl, sym, ap, ◌∙◌, arith, mod-lt, count_by, sum_by, range_with_len, cases_eq, cases_lt, nat_tests, length-append, get_or_append_left, get_or-append_right, length-map-range_with_len, get_or-map-range_with_len, sum_by-append, sum_by-cons, div-add-mod', div-mul-add, mod-mul-add, div-lt_iff_lt-mul, mul_comm, min-le_left, min-le_right, div-mul-le_self, le-div_iff_mul-le, Chimera, Place, IsPlaceIn, qubits_of, index_of, place_of, are_joined, index_below, Entry, IsConnected, IsCoupler, occurrences, IsCrossing, IsCoupled, diagonal_of, clique_places, down_qubit, along_qubit, path_of, clique_chain, clique_of, IsForClique}
 use Rattle.chain_map.proofs.Occurrences.{occurrences-sum}
 use Rattle.chain_map.proofs.Rows.{default_free}
 use Rattle.chain_map.proofs.Paths.{is_in_at, path_connected}
@@ -30,21 +30,11 @@ place_again graph p inside =
 
 pub down_in : (graph : Chimera) (i k row : ℕ) → i < diagonal_of graph → k < graph.shore → row ≤ i
     → IsPlaceIn graph (down_place i k row)
-down_in graph i k row cell at low = record {
-  row_below = omega (arith, cell, low, min-le_left graph.rows graph.cols);
-  col_below = omega (arith, cell, min-le_right graph.rows graph.cols);
-  side_below = omega arith;
-  at_below = at;
-}
+down_in graph i k row cell at low = grind (arith, min-le_left, min-le_right)
 
 pub along_in : (graph : Chimera) (i k col : ℕ) → i < diagonal_of graph → k < graph.shore
     → col < diagonal_of graph → IsPlaceIn graph (along_place i k col)
-along_in graph i k col cell at high = record {
-  row_below = omega (arith, cell, min-le_left graph.rows graph.cols);
-  col_below = omega (arith, high, min-le_right graph.rows graph.cols);
-  side_below = omega arith;
-  at_below = at;
-}
+along_in graph i k col cell at high = grind (arith, min-le_left, min-le_right)
 
 -- ---- one path
 
@@ -59,8 +49,8 @@ pub path_down : (graph : Chimera) (i k j : ℕ) → j ≤ i → get_or (path_of 
 path_down graph i k j low =
     let downs = map (down_qubit graph i k) (range_with_len 0 (i + 1)) in
     let len = length-map-range_with_len (down_qubit graph i k) 0 (i + 1) in
-    get_or_append_left downs _ 0 j (omega (arith, low, len))
-    ∙ get_or-map-range_with_len (down_qubit graph i k) 0 (i + 1) j j 0 (omega (arith, low)) (omega arith)
+    rw (get_or_append_left downs _ 0 j (omega (arith, low, len)))
+    (get_or-map-range_with_len (down_qubit graph i k) 0 (i + 1) j j 0 (omega arith) (omega arith))
 
 pub path_along : (graph : Chimera) (i k col : ℕ) → i ≤ col → col < diagonal_of graph
     → get_or (path_of graph i k) (col + 1) 0 ≡ along_qubit graph i k col
@@ -82,9 +72,8 @@ path_within graph i k cell at = λ j d below.
     let along = path_along graph i k (j - 1) in
     let back : i < j → j - 1 + 1 ≡ j = λ h. omega (arith, h) in
     let low = λ (h : j ≤ i). index_below graph (down_place i k j) (down_in graph i k j cell at h) in
-    let high =
-    λ (h : j - 1 < diagonal_of graph). index_below graph (along_place i k (j - 1))
-    (along_in graph i k (j - 1) cell at h) in
+    let high = λ (h : j - 1 < diagonal_of graph).
+    index_below graph (along_place i k (j - 1)) (along_in graph i k (j - 1) cell at h) in
     grind (arith, nat_tests)
 
 joined_places : (graph : Chimera) (p q : Place) → IsPlaceIn graph p → IsPlaceIn graph q
@@ -122,19 +111,15 @@ path_joined graph i k cell at =
     let along = λ (m : ℕ) (high : i ≤ m) (less : m < diagonal_of graph). place_along graph i k m _ cell at less
     (sym (path_along graph i k m high less)) in
     elim (cases_lt j i) [
-      | inl low ↦
-          let on = down_joined i k j in
-          cc (down j (omega (arith, low)), down (j + 1) (omega (arith, low)))
+      | inl low ↦ cc (down j (omega (arith, low)), down (j + 1) (omega (arith, low)), down_joined i k j)
       | inr high ↦
           let next = along j high (omega (arith, below, len)) in
           elim (cases_eq j i) [
-            | inl e ↦
-                let on = cell_joined i i k k in
-                cc (down j (omega (arith, e)), e)
+            | inl e ↦ cc (down j (omega (arith, e)), e, cell_joined i i k k)
             | inr e ↦
                 let before : j - 1 + 1 ≡ j = omega (arith, high, e) in
-                let on = along_joined i k (j - 1) in
-                cc (along (j - 1) (omega (arith, high, e)) (omega (arith, below, len)))
+                let last = along (j - 1) (omega (arith, high, e)) (omega (arith, below, len)) in
+                cc (along_joined i k (j - 1))
           ]
     ])
 
@@ -148,25 +133,23 @@ sum_none h F a (suc n) none =
     omega (arith, sum_by-cons, none a (omega arith) (omega arith))
 
 sum_once : {X : Type 0} (h : X → ℕ) (F : ℕ → X) (w a n : ℕ)
-    → ((v : ℕ) → a ≤ v → v < a + n → v ≢ w → h (F v) ≡ 0)
-    → ((v : ℕ) → a ≤ v → v < a + n → h (F v) ≤ 1) → sum_by h (map F (range_with_len a n)) ≤ 1
-sum_once h F w a zero none once = omega arith
-sum_once h F w a (suc n) none once =
+    → ((v : ℕ) → a ≤ v → v < a + n → h (F v) ≤ 1) → ((v : ℕ) → a ≤ v → v < a + n → v ≢ w → h (F v) ≡ 0)
+    → sum_by h (map F (range_with_len a n)) ≤ 1
+sum_once h F w a zero once none = omega arith
+sum_once h F w a (suc n) once none =
     let more = sum_by-cons h (F a) (map F (range_with_len (a + 1) n)) in
     let ones = λ (v : ℕ) (low : a + 1 ≤ v) (high : v < a + 1 + n). once v (omega (arith, low)) (omega (arith, high)) in
     let nones = λ (v : ℕ) (low : a + 1 ≤ v) (high : v < a + 1 + n). none v (omega (arith, low)) (omega (arith, high)) in
+    let first = once a (omega arith) (omega arith) in
     elim (cases_eq a w) [
       | inl e ↦
           let rest = sum_none h F (a + 1) n (λ v low high. nones v low high (λ same. omega (arith, low, same, e))) in
-          omega (arith, once a (omega arith) (omega arith))
-      | inr e ↦ omega (arith, none a (omega arith) (omega arith) e, sum_once h F w (a + 1) n nones ones)
+          omega arith
+      | inr e ↦ omega (arith, none a (omega arith) (omega arith) e, sum_once h F w (a + 1) n ones nones)
     ]
 
 is_other : (a b : ℕ) → a ≢ b → ◌≡◌ {A = ℕ} (if a == b then 1 else 0) 0
 is_other a b e = grind (arith, nat_tests)
-
-is_once : (a b : ℕ) → (if a == b then 1 else 0) ≤ 1
-is_once a b = grind (arith, nat_tests)
 
 count_path : (graph : Chimera) (i k q : ℕ)
     → count_by (λ p. p == q) (path_of graph i k)
@@ -181,6 +164,7 @@ path_once : (graph : Chimera) (i k q : ℕ) → i < diagonal_of graph → k < gr
     → count_by (λ p. p == q) (path_of graph i k) ≤ 1
 path_once graph i k q cell at =
     let h : ℕ → ℕ = λ p. if p == q then 1 else 0 in
+    let once : (p : ℕ) → h p ≤ 1 = λ p. grind (arith, nat_tests) in
     let place = place_of graph q in
     let all = count_path graph i k q in
     let down = λ (v : ℕ) (low : v ≤ i). place_down graph i k v q cell at low in
@@ -189,14 +173,15 @@ path_once graph i k q cell at =
     let alongs = sum_none h (along_qubit graph i k) i (diagonal_of graph - i) in
     elim (cases_eq place.side 0) [
       | inl zero_side ↦
-          let one = sum_once h (down_qubit graph i k) place.row 0 (i + 1)
-          (λ v low high other. is_other _ _ (λ e. let is = down v (omega (arith, high)) e in other (cc)))
-          (λ v low high. is_once _ _) in
+          let one = sum_once h (down_qubit graph i k) place.row 0 (i + 1) (λ v low high. once _)
+          (λ v low high other. is_other _ _ (λ e.
+          let is = down v (omega (arith, high)) e in other (cc))) in
           omega (arith, alongs (λ v low high. is_other _ _ (λ e. let is = along v (omega (arith, low, high, cell)) e in absurd (cc))))
       | inr one_side ↦
           let one = sum_once h (along_qubit graph i k) place.col i (diagonal_of graph - i)
-          (λ v low high other. is_other _ _ (λ e. let is = along v (omega (arith, low, high, cell)) e in other (cc)))
-          (λ v low high. is_once _ _) in
+          (λ v low high. once _)
+          (λ v low high other. is_other _ _ (λ e.
+          let is = along v (omega (arith, low, high, cell)) e in other (cc))) in
           omega (arith, downs (λ v low high. is_other _ _ (λ e. let is = down v (omega (arith, high)) e in one_side (cc))))
     ]
 
@@ -220,8 +205,7 @@ path_none graph i k q cell at other =
 
 pub cell_of : (graph : Chimera) (v : ℕ) → v < clique_places graph → v / graph.shore < diagonal_of graph
 cell_of graph v low =
-    (div-lt_iff_lt-mul graph.shape.some_shore).1
-    (subst (λ n. v < n) (mul_comm graph.shore (diagonal_of graph)) low)
+    (div-lt_iff_lt-mul graph.shape.some_shore).1 (rw (mul_comm (diagonal_of graph) graph.shore) low)
 
 -- a later node has no earlier cell
 pub cells_rise : (graph : Chimera) (u v : ℕ) → u ≤ v → u / graph.shore ≤ v / graph.shore
@@ -235,9 +219,10 @@ clique_once graph nodes q fits =
     let cell = λ (v : ℕ) (high : v < nodes). cell_of graph v (omega (arith, high, fits)) in
     let all = sum_once (λ chain. count_by (λ p. p == q) chain) (clique_chain graph)
     (owner_at graph (place_of graph q)) 0 nodes
+    (λ v low high. path_once graph (v / T) (v % T) q (cell v (omega (arith, high)))
+    (mod-lt v graph.shape.some_shore))
     (λ v low high other. path_none graph (v / T) (v % T) q (cell v (omega (arith, high)))
-    (mod-lt v graph.shape.some_shore) (λ e. other (sym (e ∙ div-add-mod' v T))))
-    (λ v low high. path_once graph (v / T) (v % T) q (cell v (omega (arith, high))) (mod-lt v graph.shape.some_shore)) in
+    (mod-lt v graph.shape.some_shore) (λ e. other (sym (e ∙ div-add-mod' v T)))) in
     omega (arith, occurrences-sum q (clique_of graph nodes), all)
 
 pub chain_at_node : (graph : Chimera) (nodes v : ℕ) (d : List ℕ) → v < nodes

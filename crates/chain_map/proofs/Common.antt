@@ -1,5 +1,5 @@
 -- What the proofs of this crate stand on, of std and of the crates below.
-pub use Rattle.std.proofs.Common.{◌≡◌, ◌≢◌, ℕ, zero, suc, ◌+◌, ◌-◌, ◌*◌, ◌/◌, ◌%◌, ◌<◌, ◌≤◌, ◌==◌, inl, inr, true, false, List, [], length, map, get_or, All, if◌then◌else◌, refl, sym, ap, subst, ◌∙◌, arith, mod-lt, ◌^◌, not, eqb, ◌∷◌, take, drop, Ok, Some, ◌++◌, Err, rules}
+pub use Rattle.std.proofs.Common.{◌≡◌, ◌≢◌, ℕ, zero, suc, ◌+◌, ◌-◌, ◌*◌, ◌/◌, ◌%◌, ◌<◌, ◌≤◌, ◌==◌, inl, inr, true, false, List, [], length, map, get_or, All, if◌then◌else◌, refl, sym, ap, ◌∙◌, arith, mod-lt, ◌^◌, not, eqb, ◌∷◌, take, drop, Ok, Some, ◌++◌, Err, rules}
 pub use Rattle.std.specs.List.{count_by, sum_by, range_with_len, slice_range, position_or_len, list_all, concat}
 pub use Rattle.std.proofs.lemmas.Bool.{cases_eq, cases_lt, ne_eqb}
 pub use Rattle.std.proofs.lemmas.Bool.Decides.{nat_tests}
@@ -40,3 +40,4 @@ pub use Rattle.std.proofs.lemmas.Result.{err_from_is_err_and}
 pub use Rattle.whole_text.proofs.Lines.{lines_from, line_cut, line_last}
 pub use Rattle.chain_map.specs.declared.spot.Spot.{Spot}
 pub use Rattle.std.proofs.lemmas.Grind.{elements}
+pub use Rattle.whole_text.specs.declared.token.Style.TheVariants.{Plain}

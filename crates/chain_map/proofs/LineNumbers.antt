@@ -1,6 +1,5 @@
 -- The words of a line from a place on, and the number that digits are.
-use Rattle.chain_map.proofs.Common.{◌≡◌, ℕ, zero, suc, ◌+◌, ◌<◌, ◌≤◌, ◌^◌, true, false, not, eqb, List, [], ◌∷◌, length, map, take, drop, get_or, Ok, Some, refl, sym, ap, ◌∙◌, arith, pos, nat_le, is_ascii_digit, slice_range, position_or_len, list_all, digits_value, drop-cons, ne_eqb, nat_tests, number_of, size_of, word, words, is_blank, is_comment, tokens_of_line, integer_at, natural_at, size_plain, value_is, words_blank, words_none, taken, skipped, comment_from_byte, comment_none, comment_line, other_plain, slice_length, slice_at, slice_dropped, slice_taken, slice_none}
-use Rattle.whole_text.specs.declared.token.Style.TheVariants.{Plain}
+use Rattle.chain_map.proofs.Common.{◌≡◌, ℕ, zero, suc, ◌+◌, ◌<◌, ◌≤◌, ◌^◌, true, false, not, eqb, List, [], ◌∷◌, length, map, take, drop, get_or, Ok, Some, refl, sym, ap, ◌∙◌, arith, pos, nat_le, is_ascii_digit, slice_range, position_or_len, list_all, digits_value, drop-cons, ne_eqb, nat_tests, number_of, size_of, word, words, is_blank, is_comment, tokens_of_line, integer_at, natural_at, size_plain, value_is, words_blank, words_none, taken, skipped, comment_from_byte, comment_none, comment_line, other_plain, slice_length, slice_at, slice_dropped, slice_taken, slice_none, Plain}
 use Rattle.chain_map.proofs.Rows.{default_free}
 
 -- ---- digits

@@ -1,20 +1,18 @@
 -- The words of a text by lines, and what their readings are made of.
-use Rattle.chain_map.proofs.Common.{elements, nat_tests, ◌≡◌, ℕ, ◌+◌, ◌<◌, List, [], ◌∷◌, ◌++◌, length, get_or, Ok, Err, refl, sym, ap, arith, Result, TextFault, Word, tokens_of_line, ◌>>=◌, natural_at, Fails, TextAnswer, append_assoc, append-nil, length-append, rows_from, node_at, qubits_at, chain_at, chains_at, after_front}
-use Rattle.whole_text.specs.declared.token.Style.TheVariants.{Plain}
+use Rattle.chain_map.proofs.Common.{elements, nat_tests, ◌≡◌, ℕ, ◌+◌, ◌<◌, List, [], ◌∷◌, ◌++◌, length, get_or, Ok, Err, refl, ap, arith, Result, TextFault, Word, tokens_of_line, ◌>>=◌, natural_at, Fails, TextAnswer, append_assoc, append-nil, length-append, rows_from, node_at, qubits_at, chain_at, chains_at, after_front, Plain}
 use Rattle.whole_text.specs.declared.faults.TextAnswer.TheVariants.{Bad, NoMemory}
 
 -- ---- readings
 
-qubits_go : (front : List ℕ) (q : ℕ) (rest : Result (List ℕ) TextFault)
-    → after_front front (rest >>= (λ others. Ok (q ∷ others))) ≡ after_front (front ++ q ∷ []) rest
-qubits_go front q (Ok xs) = ap Ok (sym (append_assoc front (q ∷ []) xs))
-qubits_go front q (Err f) = refl
+joined_go : {X : Type 0} (front more : List X) (rest : Result (List X) TextFault)
+    → after_front front (rest >>= (λ others. Ok (more ++ others))) ≡ after_front (front ++ more) rest
+joined_go front more rest = grind (arith, nat_tests, append_assoc)
 
 -- one qubit more
 pub qubits_more : (front : List ℕ) (w : Word) (ws : List Word) (q : ℕ) → natural_at 0 w ≡ Ok q
     → after_front front (qubits_at (w ∷ ws)) ≡ after_front (front ++ q ∷ []) (qubits_at ws)
 unfolding qubits_at
-qubits_more front w ws q read = rw read (qubits_go front q (qubits_at ws))
+qubits_more front w ws q read = rw read (joined_go front (q ∷ []) (qubits_at ws))
 
 pub qubits_fail : (front : List ℕ) (w : Word) (ws : List Word) (f : TextFault) → natural_at 0 w ≡ Err f
     → after_front front (qubits_at (w ∷ ws)) ≡ Err f
@@ -56,16 +54,6 @@ default_free xs i d e below = grind (arith, nat_tests, elements)
 
 -- ---- lines
 
-abbrev said_of : Result (List (List ℕ)) TextFault → List (List ℕ)
-said_of (Ok xs) = xs
-said_of (Err f) = []
-
-joined_go : (front chain : List (List ℕ)) (rest : Result (List (List ℕ)) TextFault)
-    → after_front front (rest >>= (λ others. Ok (chain ++ others)))
-    ≡ after_front (front ++ chain) rest
-joined_go front chain (Ok xs) = ap Ok (sym (append_assoc front chain xs))
-joined_go front chain (Err f) = refl
-
 -- what one line says, and then the others
 pub row_more : (front next : List (List ℕ)) (row : List Word) (rows : List (List Word))
     → after_front front (chain_at (length front) row) ≡ Ok next
@@ -77,7 +65,7 @@ row_more front next row rows read = go (chain_at (length front) row) read
         → after_front front (said >>= (λ chain. chains_at (length front + length chain) rows >>= (λ others. Ok (chain ++ others))))
         ≡ after_front next (chains_at (length next) rows)
     go (Ok chain) read =
-        let same : front ++ chain ≡ next = ap said_of read in
+        let same : front ++ chain ≡ next = cc read in
         let len = length-append front chain in
         cc (joined_go front chain (chains_at (length front + length chain) rows))
     go (Err f) read = absurd cc
@@ -106,5 +94,4 @@ unfolding rows_from
 rows_last n line before cut = ap (rows_from n) cut
 
 pub front_none : {X : Type 0} (rest : Result (List X) TextFault) → after_front [] rest ≡ rest
-front_none (Ok xs) = refl
-front_none (Err f) = refl
+front_none rest = grind (arith, nat_tests)

@@ -1,8 +1,5 @@
 -- Hard clauses that are added to a problem one after another.
-use Rattle.conflict_clauses.proofs.Common.{nat_tests, ◌≡◌, ℕ, zero, ◌+◌, ◌<◌, refl, sym, ap, ◌∙◌, arith, List, [], ◌∷◌, ◌++◌, length, map, take, drop, get_or, suc, add-one, append-nil, append_assoc, drop-cons, map-append, take_more, flat_map-append, Literal, ProblemContent, hard_clauses, pairs_of, alone, with_hard}
-
-pub with_hard-nil : (p : ProblemContent) → with_hard p [] ≡ p
-with_hard-nil p = λ i. record p { clauses = append-nil p.clauses i }
+use Rattle.conflict_clauses.proofs.Common.{elements, nat_tests, ◌≡◌, ℕ, ◌+◌, ◌<◌, sym, ap, ◌∙◌, arith, List, [], ◌∷◌, ◌++◌, length, map, take, drop, get_or, suc, add-one, append_assoc, drop-cons, map-append, take_more, flat_map-append, Literal, ProblemContent, hard_clauses, pairs_of, alone, with_hard}
 
 hard_clauses-append : (as' bs : List (List Literal))
     → hard_clauses (as' ++ bs) ≡ hard_clauses as' ++ hard_clauses bs
@@ -20,9 +17,7 @@ with_hard-append p as' bs =
 
 -- what is read there does not depend on what stands for none
 pub here_again : (ls : List Literal) (i : ℕ) (d : Literal) → i < length ls → get_or ls i d ≡ get_or ls i (get_or ls i d)
-here_again [] i d inside = absurd (omega (arith, inside))
-here_again (l ∷ ls) zero d inside = refl
-here_again (l ∷ ls) (suc i) d inside = here_again ls i d (omega (arith, inside))
+here_again ls i d inside = grind (arith, nat_tests, elements)
 
 pub each-step : (p q q' : ProblemContent) (ls : List Literal) (i : ℕ) (l : Literal)
     → i < length ls → l ≡ get_or ls i l → q' ≡ with_hard q ((l ∷ []) ∷ [])

@@ -1,5 +1,5 @@
 -- Whether a constraint is replaced, seen by its parts: those first that take the least to see.
-use Rattle.conflict_clauses.proofs.Common.{◌≡◌, ℕ, ◌+◌, ◌<◌, ◌≤◌, Bool, true, false, cond, not, ◌&&◌, leb, refl, sym, ap, ◌∙◌, arith, Some, None, count_by, list_all, and_from, le-leb, nat_tests, length-filter, Constraint, are_apart, each_two, is_conflict, is_needed, is_replaced, is_single, most_pairs, pair_count, pairs, room, IsFound, may_conflict}
+use Rattle.conflict_clauses.proofs.Common.{◌≡◌, ℕ, ◌+◌, ◌<◌, ◌≤◌, Bool, true, false, cond, not, ◌&&◌, arith, Some, None, count_by, list_all, nat_tests, length-filter, Constraint, are_apart, each_two, is_conflict, is_needed, is_replaced, is_single, most_pairs, pair_count, pairs, room, IsFound, may_conflict}
 
 -- no two products of one literal each may miss
 abbrev conflicting : ℕ → Constraint → Bool
@@ -7,10 +7,6 @@ conflicting r k = list_all is_single k.products && each_two (are_apart r) k.prod
 
 conflict-parts : (k : Constraint) → is_conflict k ≡ (may_conflict k && conflicting (room k) k)
 conflict-parts k = grind (arith, nat_tests)
-
-and-false : (a : Bool) → (a && false) ≡ false
-and-false true = refl
-and-false false = refl
 
 -- ---- what is seen
 
@@ -28,23 +24,11 @@ seen k r m n some counted paired = grind (arith, nat_tests, length-filter)
 
 pub stays_beyond : (spent : ℕ) (k : Constraint) (r n : ℕ) → IsSeen k r n → most_pairs < spent + n
     → is_replaced spent k ≡ false
-stays_beyond spent k r n s over =
-    let same = s.pairs in
-    let beyond : leb (spent + pairs k) most_pairs ≡ false = grind (arith, nat_tests) in
-    (λ i. is_conflict k && beyond i) ∙ and-false (is_conflict k)
+stays_beyond spent k r n s over = let same = s.pairs in grind (arith, nat_tests)
 
 -- ---- what is replaced
 
 pub is_found : (spent : ℕ) (k : Constraint) (r n : ℕ) → IsSeen k r n → spent + n ≤ most_pairs
     → conflicting r k ≡ true → IsFound spent k (record { room = r; pairs = n })
 is_found spent k r n s within apart =
-    let conflict : is_conflict k ≡ true =
-    conflict-parts k ∙ and_from (may_conflict k) (conflicting (room k) k) s.may
-    (ap (λ m. conflicting m k) (sym s.room) ∙ apart) in
-    let same = s.pairs in
-    record {
-      replaced = and_from (is_conflict k) (leb (spent + pairs k) most_pairs) conflict
-          (le-leb (spent + pairs k) most_pairs (omega arith));
-      room = s.room;
-      pairs = s.pairs;
-    }
+    grind (arith, nat_tests, conflict-parts)

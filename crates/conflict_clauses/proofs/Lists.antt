@@ -1,27 +1,10 @@
 -- Tests of each two elements of a list, and numbers of which each two are more than a limit.
-use Rattle.conflict_clauses.proofs.Common.{nat_tests, elements, ◌≡◌, ℕ, ◌+◌, ◌<◌, ◌≤◌, Bool, true, false, cond, not, ◌&&◌, ◌||◌, ltb, refl, sym, ap, ◌∙◌, arith, List, [], ◌∷◌, ◌++◌, map, filter, list_all, list_any, sum_by, and_parts, false≢true, le-ltb, lt-ltb, ltb-false, ltb-true, list_any-append, sum_by-cons, each_two, pairs_of}
+use Rattle.conflict_clauses.proofs.Common.{size, others, and-false, nat_tests, elements, ◌≡◌, ℕ, ◌+◌, ◌≤◌, Bool, true, false, cond, not, ◌&&◌, ◌||◌, ltb, refl, sym, ap, ◌∙◌, arith, List, [], ◌∷◌, ◌++◌, map, filter, list_all, list_any, sum_by, and_parts, le-ltb, lt-ltb, ltb-false, ltb-true, list_any-append, sum_by-cons, each_two, pairs_of}
 
 -- ---- tests
 
-and-false : (a : Bool) → (a && false) ≡ false
-and-false true = refl
-and-false false = refl
-
-pub or-false : (a : Bool) → (a || false) ≡ a
-or-false true = refl
-or-false false = refl
-
-and-or : (a b c : Bool) → ((a && b) || (a && c)) ≡ (a && (b || c))
-and-or true b c = refl
-and-or false b c = refl
-
 not-or : (a b : Bool) → not (a || b) ≡ (not a && not b)
-not-or true b = refl
-not-or false b = refl
-
-pub or-assoc : (a b c : Bool) → ((a || b) || c) ≡ (a || (b || c))
-or-assoc true b c = refl
-or-assoc false b c = refl
+not-or a b = grind (arith, nat_tests)
 
 pub or-swap : (a b c : Bool) → (a || (b || c)) ≡ (b || (a || c))
 or-swap a b c = grind (arith, nat_tests, elements)
@@ -46,12 +29,7 @@ two_pass-map p f (x ∷ xs) = λ i. (p (f x) && list_any-map p f xs i) || two_pa
 two_pass-none : {A : Type 0} (p : A → Bool) (xs : List A) → list_any p xs ≡ false
     → two_pass p xs ≡ false
 two_pass-none p [] none = refl
-two_pass-none p (x ∷ xs) none = go (p x) none (λ e. two_pass-none p xs e)
-  where
-    go : (b : Bool) → (b || list_any p xs) ≡ false → (list_any p xs ≡ false → two_pass p xs ≡ false)
-        → ((b && list_any p xs) || two_pass p xs) ≡ false
-    go true e others = absurd (false≢true (sym e))
-    go false e others = others e
+two_pass-none p (x ∷ xs) none = grind (arith, nat_tests, two_pass-none p xs)
 
 -- no element of a list passes the test
 abbrev pub none_of : {A : Type 0} → (A → Bool) → List A → Bool
@@ -66,36 +44,24 @@ joined : {A : Type 0} (p : A → Bool) (first : List A) (others : List (List A))
     ≡ (none_of p first && list_any (none_of p) others)
 joined p first [] = sym (and-false (none_of p first))
 joined p first (second ∷ others) =
-    (λ i. none_of-append p first second i || joined p first others i)
-    ∙ and-or (none_of p first) (none_of p second) (list_any (none_of p) others)
+    grind (arith, nat_tests, none_of-append p first second, joined p first others)
 
 -- of some pair no element passes where two lists have none
 pub pairs_of-none : {A : Type 0} (p : A → Bool) (lists : List (List A))
     → list_any (none_of p) (pairs_of lists) ≡ two_pass (none_of p) lists
 pairs_of-none p [] = refl
 pairs_of-none p (first ∷ others) =
-    list_any-append (none_of p) (map (λ bs. first ++ bs) others) (pairs_of others)
-    ∙ (λ i. joined p first others i || pairs_of-none p others i)
+    grind (arith, nat_tests, list_any-append, joined p first others, pairs_of-none p others)
 
 -- ---- a filter, one element at a time
 
 any-filter : {A : Type 0} (p q : A → Bool) (x : A) (xs : List A)
     → list_any p (filter q (x ∷ xs)) ≡ ((q x && p x) || list_any p (filter q xs))
-any-filter {A = A} p q x xs = go (q x)
-  where
-    go : (b : Bool) → list_any p (cond b (x ∷ filter q xs) (filter q xs))
-        ≡ ((b && p x) || list_any p (filter q xs))
-    go true = refl
-    go false = refl
+any-filter p q x xs = grind (arith, nat_tests)
 
 two-filter : {A : Type 0} (p q : A → Bool) (x : A) (xs : List A) → two_pass p (filter q (x ∷ xs))
     ≡ ((q x && (p x && list_any p (filter q xs))) || two_pass p (filter q xs))
-two-filter {A = A} p q x xs = go (q x)
-  where
-    go : (b : Bool) → two_pass p (cond b (x ∷ filter q xs) (filter q xs))
-        ≡ ((b && (p x && list_any p (filter q xs))) || two_pass p (filter q xs))
-    go true = refl
-    go false = refl
+two-filter p q x xs = grind (arith, nat_tests)
 
 -- what passes is among what a second test keeps, or among what it leaves out
 any-parts : {A : Type 0} (p q : A → Bool) (xs : List A)
@@ -115,21 +81,11 @@ beside : {A : Type 0} (p : A → Bool) (size : A → ℕ) (most n : ℕ) (xs : L
     → ltb most (n + sum_by (lost p size) xs) ≡ list_any p xs
 beside p size most n [] small apart = le-ltb most (n + 0) (omega arith)
 beside p size most n (x ∷ xs) small apart =
-    let parts = and_parts (ltb most (n + size x)) (list_all (λ y. ltb most (n + size y)) xs) apart in
-    let here : most < n + size x = ltb-true most (n + size x) parts.0 in
-    let rest = beside p size most n xs small parts.1 in
-    ap (λ s. ltb most (n + s)) (sum_by-cons (lost p size) x xs) ∙ go (p x) here rest
-  where
-    go : (b : Bool) → most < n + size x → ltb most (n + sum_by (lost p size) xs) ≡ list_any p xs
-        → ltb most (n + (cond b (size x) 0 + sum_by (lost p size) xs)) ≡ (b || list_any p xs)
-    go true here rest = lt-ltb most (n + (size x + sum_by (lost p size) xs)) (omega arith)
-    go false here rest =
-        let same : n + (0 + sum_by (lost p size) xs) ≡ n + sum_by (lost p size) xs = omega arith in
-        ap (ltb most) same ∙ rest
+    let rest = beside p size most n xs small in
+    simp sum_by-cons (grind (arith, nat_tests))
 
-finish : (most n l : ℕ) (p c f s q : Bool) → ltb most l ≡ (f || q)
-    → (c ≡ false → ltb most (n + l) ≡ (f || s)) → (c ≡ true → ltb most (n + l) ≡ true)
-    → (s ≡ false → q ≡ false)
+finish : (most n l : ℕ) (p c f s q : Bool) → ltb most l ≡ (f || q) → (c ≡ false → ltb most (n + l)
+    ≡ (f || s)) → (c ≡ true → ltb most (n + l) ≡ true) → (s ≡ false → q ≡ false)
     → ltb most (cond p n 0 + l) ≡ (((c && p) || f) || ((not c && (p && s)) || q))
 finish most n l p c f s q rest alone great few = grind (arith, nat_tests)
 
@@ -142,14 +98,12 @@ sum_lost p size most [] apart = le-ltb most 0 (omega arith)
 sum_lost {A = A} p size most (x ∷ xs) apart =
     let is_great = λ (y : A). ltb most (size y) in
     let is_small = λ (y : A). not (ltb most (size y)) in
-    let great = filter is_great xs in
-    let small = filter is_small xs in
     let parts = and_parts (list_all (λ y. ltb most (size x + size y)) xs)
     (each_two (λ y z. ltb most (size y + size z)) xs) apart in
     ap (ltb most) (sum_by-cons (lost p size) x xs)
-    ∙ finish most (size x) (sum_by (lost p size) xs) (p x) (ltb most (size x)) (list_any p great)
-    (list_any p small) (two_pass p small) (sum_lost p size most xs parts.1)
+    ∙ finish most (size x) (sum_by (lost p size) xs) (p x) (ltb most (size x)) (list_any p _)
+    (list_any p _) (two_pass p _) (sum_lost p size most xs parts.1)
     (λ e. beside p size most (size x) xs (ltb-false most (size x) e) parts.0 ∙ any-parts p is_great xs)
     (λ e. lt-ltb most (size x + sum_by (lost p size) xs) (omega (arith, ltb-true most (size x) e)))
-    (two_pass-none p small)
+    (two_pass-none p _)
     ∙ (λ i. sym (any-filter p is_great x xs) i || sym (two-filter p is_small x xs) i)

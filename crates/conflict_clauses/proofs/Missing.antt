@@ -2,7 +2,7 @@
 --
 -- The sum of a constraint and the sizes of the products that miss are its greatest sum. So it fails
 -- where those sizes sum to more than the room.
-use Rattle.conflict_clauses.proofs.Common.{nat_tests, ◌≡◌, ℕ, ◌+◌, ◌≤◌, Bool, true, false, cond, not, ◌&&◌, ◌||◌, eqb, leb, ltb, refl, sym, ap, ◌∙◌, arith, List, [], ◌∷◌, length, map, None, Some, ℤ, pos, negsuc, ◌+ℤ◌, ◌-ℤ◌, ◌<ℤ◌, ◌≤ℤ◌, unsigned_abs, int_lt, list_all, list_any, sum_by, int_eq, and_parts, eqb-true, false≢true, leb-true, not-true, ints, list_any-append, sum_by-append, sum_by-cons, if_so, positive_part, total_by, total_by-append, Literal, all_hold, holds, some_holds, Product, Constraint, positive_total, kept_clause, fails, fails_hard, product_value, soft_cost, soft_weight, sum_of, list_any-kept, are_apart, each_two, hard, hard_clauses, is_conflict, is_single, most_products, needed, others, room, size, wanted, wanted_lists, wanted_literal}
+use Rattle.conflict_clauses.proofs.Common.{nat_tests, ◌≡◌, ℕ, ◌+◌, ◌≤◌, Bool, true, false, cond, not, ◌&&◌, ◌||◌, eqb, ltb, refl, sym, ap, ◌∙◌, arith, List, [], ◌∷◌, length, map, None, Some, ℤ, pos, negsuc, ◌+ℤ◌, ◌-ℤ◌, ◌<ℤ◌, ◌≤ℤ◌, unsigned_abs, int_lt, list_all, list_any, sum_by, and_parts, eqb-true, false≢true, ints, list_any-append, sum_by-append, sum_by-cons, if_so, positive_part, total_by, total_by-append, Literal, all_hold, holds, some_holds, Product, Constraint, positive_total, kept_clause, fails, fails_hard, product_value, soft_cost, soft_weight, sum_of, list_any-kept, are_apart, each_two, hard, hard_clauses, is_conflict, is_single, most_products, needed, others, room, size, wanted, wanted_lists, wanted_literal}
 use Rattle.conflict_clauses.proofs.Lists.{list_any-map, lost, none_of, pairs_of-none, sum_lost, two_pass, two_pass-map}
 
 -- ---- one product
@@ -17,14 +17,11 @@ holds-turned x l = grind (arith, nat_tests)
 
 plus : (b : Bool) (n : ℕ)
     → if_so (b && true) (pos n) +ℤ pos (cond (not (b || false)) (unsigned_abs (pos n)) 0) ≡ pos n
-plus true n = omega (arith, ints)
-plus false n = omega (arith, ints)
+plus b n = grind (arith, nat_tests, ints)
 
-minus : (b : Bool) (n : ℕ)
-    → if_so (b && true) (negsuc n) +ℤ pos (cond (not (not b || false)) (unsigned_abs (negsuc n)) 0)
-    ≡ pos 0
-minus true n = omega (arith, ints)
-minus false n = omega (arith, ints)
+minus : (b : Bool) (n : ℕ) → if_so (b && true)
+    (negsuc n) +ℤ pos (cond (not (not b || false)) (unsigned_abs (negsuc n)) 0) ≡ pos 0
+minus b n = grind (arith, nat_tests, ints)
 
 -- what a product of one literal adds and what it lacks are the positive part of its coefficient
 value : (x : List Bool) (ls : List Literal) (c : ℤ) → eqb (length ls) 1 ≡ true
@@ -33,10 +30,7 @@ value : (x : List Bool) (ls : List Literal) (c : ℤ) → eqb (length ls) 1 ≡ 
     ≡ pos (positive_part c)
 value x [] c single = absurd (false≢true single)
 value x (l ∷ []) (pos n) single = plus (holds x l) n
-value x (l ∷ []) (negsuc n) single =
-    (λ i. if_so (holds x l && true) (negsuc n)
-    +ℤ pos (cond (not (holds-turned x l i || false)) (unsigned_abs (negsuc n)) 0))
-    ∙ minus (holds x l) n
+value x (l ∷ []) (negsuc n) single = rw (holds-turned x l) (minus (holds x l) n)
 value x (l ∷ m ∷ ls) c single = absurd (omega (arith, eqb-true (length (l ∷ m ∷ ls)) 1 single))
 
 add_up : (v s : ℤ) (a b p q : ℕ) → v +ℤ pos a ≡ pos p → s +ℤ pos b ≡ pos q
@@ -86,25 +80,7 @@ pub record Parts (k : Constraint) : Type 0 where
   pub apart : each_two (are_apart (room k)) k.products ≡ true
 
 pub parts_of : (k : Constraint) → is_conflict k ≡ true → Parts k
-parts_of k h =
-    let a = not k.exact in
-    let b = ltb 0 (length k.products) in
-    let c = leb (length k.products) most_products in
-    let d = list_all is_single k.products in
-    let e = not (int_lt (pos (positive_total k.products)) k.bound) in
-    let f = each_two (are_apart (room k)) k.products in
-    let last = and_parts (a && b && c && d && e) f h in
-    let fit = and_parts (a && b && c && d) e last.0 in
-    let one = and_parts (a && b && c) d fit.0 in
-    let few = and_parts (a && b) c one.0 in
-    let some = and_parts a b few.0 in
-    record {
-      exact = not-true k.exact some.0;
-      few = leb-true (length k.products) most_products few.1;
-      single = one.1;
-      fits = not-true (int_lt (pos (positive_total k.products)) k.bound) fit.1;
-      apart = last.1;
-    }
+parts_of k h = grind (arith, nat_tests)
 
 -- a hard clause of lists of literals fails where no literal of some list is true
 hard-fails : (x : List Bool) (lists : List (List Literal))
@@ -122,13 +98,11 @@ pub conflict-fails : (x : List Bool) (k : Constraint) → is_conflict k ≡ true
 conflict-fails x k conflict =
     let parts = parts_of k conflict in
     let ts = k.products in
-    let lacks : int_lt (sum_of x ts) k.bound ≡ ltb (room k) (sum_by (lost (misses x) size) ts) =
-    below (sum_of x ts) k.bound (sum_by (lost (misses x) size) ts) (positive_total ts)
+    let lacks = below (sum_of x ts) k.bound (sum_by (lost (misses x) size) ts) (positive_total ts)
     (sums x ts parts.single) parts.fits in
-    let inexact : fails x k ≡ int_lt (sum_of x ts) k.bound =
-    λ i. cond (parts.exact i) (not (int_eq (sum_of x ts) k.bound)) (int_lt (sum_of x ts) k.bound) in
-    hard-fails x (wanted_lists k) ∙ wanted-fails x k
-    ∙ sym (inexact ∙ lacks ∙ sum_lost (misses x) size (room k) ts parts.apart)
+    let lost = sum_lost (misses x) size (room k) ts parts.apart in
+    let wanted = hard-fails x (wanted_lists k) ∙ wanted-fails x k in
+    grind (arith, nat_tests, ints)
 
 -- ---- hard clauses cost nothing by themselves
 
@@ -139,8 +113,7 @@ pub hard-costs : (x : List Bool) (lists : List (List Literal))
     → total_by (soft_cost x) (hard_clauses lists) ≡ pos 0
 hard-costs x [] = refl
 hard-costs x (ls ∷ lists) =
-    total_by-append (soft_cost x) (kept_clause (hard ls)) (hard_clauses lists)
-    ∙ (λ i. hard-cost x ls i +ℤ hard-costs x lists i)
+    grind (arith, nat_tests, ints, total_by-append, hard-cost x ls, hard-costs x lists)
 
 hard-weight : (ls : List Literal) → sum_by soft_weight (kept_clause (hard ls)) ≡ 0
 hard-weight ls = grind (arith, nat_tests)
@@ -148,5 +121,4 @@ hard-weight ls = grind (arith, nat_tests)
 pub hard-weights : (lists : List (List Literal)) → sum_by soft_weight (hard_clauses lists) ≡ 0
 hard-weights [] = refl
 hard-weights (ls ∷ lists) =
-    sum_by-append soft_weight (kept_clause (hard ls)) (hard_clauses lists)
-    ∙ (λ i. hard-weight ls i + hard-weights lists i)
+    grind (arith, nat_tests, sum_by-append, hard-weight ls, hard-weights lists)

@@ -1,7 +1,7 @@
 -- The problem without its conflicts costs the same; and what the steps of the replacement make.
-use Rattle.conflict_clauses.proofs.Common.{nat_tests, ◌≡◌, ℕ, ◌+◌, ◌≤◌, Bool, true, false, cond, not, ◌||◌, leb, refl, ap, ◌∙◌, arith, List, [], ◌∷◌, ◌++◌, length, drop, append_assoc, add-one, zero, suc, ◌<◌, Some, pos, ◌+ℤ◌, list_any, slice_get, sum_by, and_parts, ints, list_any-append, sum_by-append, total_by, total_by-append, Constraint, lesser_of, own_upper, positive_total, with_marked, ProblemContent, cut_off, fails, fails_hard, products_total, soft_cost, soft_weight, sum_of, marked, CostsAlike, clauses_from, clauses_of, constraints_from, hard_clauses, is_conflict, is_replaced, most_pairs, pairs, spent_after, wanted_lists, without_conflicts, staying, with_clauses_from, with_clauses_of}
+use Rattle.conflict_clauses.proofs.Common.{or_assoc, or-false, nat_tests, ◌≡◌, ℕ, ◌+◌, Bool, true, false, cond, not, ◌||◌, leb, refl, ap, ◌∙◌, arith, List, [], ◌∷◌, ◌++◌, length, drop, append_assoc, add-one, zero, suc, ◌<◌, Some, pos, ◌+ℤ◌, list_any, slice_get, sum_by, and_parts, ints, list_any-append, sum_by-append, total_by, total_by-append, Constraint, lesser_of, own_upper, positive_total, with_marked, ProblemContent, cut_off, fails, fails_hard, products_total, soft_cost, soft_weight, sum_of, marked, CostsAlike, clauses_from, clauses_of, constraints_from, hard_clauses, is_conflict, is_replaced, most_pairs, pairs, spent_after, wanted_lists, without_conflicts, staying, with_clauses_from, with_clauses_of}
 use Rattle.base.specs.declared.costs.Cost.TheVariants.{Infinite, Whole}
-use Rattle.conflict_clauses.proofs.Lists.{or-assoc, or-false, or-swap}
+use Rattle.conflict_clauses.proofs.Lists.{or-swap}
 use Rattle.conflict_clauses.proofs.Missing.{conflict-fails, hard-costs, hard-weights}
 
 -- ---- what fails
@@ -23,7 +23,7 @@ fails-alike x spent (k ∷ ks) =
         || (list_any (fails x) (cond b [] (k ∷ [])) || d)) ≡ (fails x k || (c || d))
     go true e c d =
         let conflict = (and_parts (is_conflict k) (leb (spent + pairs k) most_pairs) e).0 in
-        (λ i. (conflict-fails x k conflict i || c) || d) ∙ or-assoc (fails x k) c d
+        (λ i. (conflict-fails x k conflict i || c) || d) ∙ or_assoc (fails x k) c d
     go false e c d = (λ i. c || (or-false (fails x k) i || d)) ∙ or-swap c (fails x k) d
 
 -- ---- what is added
@@ -32,22 +32,20 @@ from-costs : (x : List Bool) (spent : ℕ) (ks : List Constraint)
     → total_by (soft_cost x) (clauses_from spent ks) ≡ pos 0
 from-costs x spent [] = refl
 from-costs x spent (k ∷ ks) =
-    total_by-append (soft_cost x) (clauses_of spent k) (clauses_from (spent_after spent k) ks)
-    ∙ (λ i. go (is_replaced spent k) i +ℤ from-costs x (spent_after spent k) ks i)
-  where
-    go : (b : Bool) → total_by (soft_cost x) (cond b (hard_clauses (wanted_lists k)) []) ≡ pos 0
-    go true = hard-costs x (wanted_lists k)
-    go false = refl
+    let rest = from-costs x (spent_after spent k) ks in
+    let both =
+    total_by-append (soft_cost x) (clauses_of spent k) (clauses_from (spent_after spent k) ks) in
+    let here = hard-costs x (wanted_lists k) in
+    grind (arith, nat_tests, ints)
 
 from-weights : (spent : ℕ) (ks : List Constraint) → sum_by soft_weight (clauses_from spent ks) ≡ 0
 from-weights spent [] = refl
 from-weights spent (k ∷ ks) =
-    sum_by-append soft_weight (clauses_of spent k) (clauses_from (spent_after spent k) ks)
-    ∙ (λ i. go (is_replaced spent k) i + from-weights (spent_after spent k) ks i)
-  where
-    go : (b : Bool) → sum_by soft_weight (cond b (hard_clauses (wanted_lists k)) []) ≡ 0
-    go true = hard-weights (wanted_lists k)
-    go false = refl
+    let rest = from-weights (spent_after spent k) ks in
+    let both =
+    sum_by-append soft_weight (clauses_of spent k) (clauses_from (spent_after spent k) ks) in
+    let here = hard-weights (wanted_lists k) in
+    grind (arith, nat_tests)
 
 -- ---- the whole
 
@@ -83,15 +81,11 @@ without-alike p = record {
         let new = clauses_from 0 p.constraints in
         let left = constraints_from 0 p.constraints in
         (λ i. list_any-append (fails_hard x) p.clauses new i || list_any (fails x) left)
-        ∙ or-assoc (list_any (fails_hard x) p.clauses) (list_any (fails_hard x) new)
+        ∙ or_assoc (list_any (fails_hard x) p.clauses) (list_any (fails_hard x) new)
         (list_any (fails x) left)
         ∙ ap (λ b. list_any (fails_hard x) p.clauses || b) (fails-alike x 0 p.constraints)
 
 -- ---- one constraint after another
-
-pub spent_within : (spent : ℕ) (k : Constraint) → spent ≤ most_pairs
-    → spent_after spent k ≤ most_pairs
-spent_within spent k within = grind (arith, nat_tests)
 
 pub clauses_from-step : (p : ProblemContent) (spent : ℕ) (k : Constraint) (ks : List Constraint)
     → with_clauses_from (with_clauses_of p spent k) (spent_after spent k) ks
@@ -129,9 +123,8 @@ marked-staying spent [] = refl
 marked-staying spent (k ∷ ks) = grind (arith, nat_tests, marked-staying (spent_after spent k) ks)
 
 -- the constraints that stay, beside the clauses of the others
-pub marked-without : (p : ProblemContent)
-    → with_marked (with_clauses_from p 0 p.constraints) (staying 0 p.constraints)
-    ≡ without_conflicts p
+pub marked-without : (p : ProblemContent) → with_marked (with_clauses_from p 0 p.constraints)
+    (staying 0 p.constraints) ≡ without_conflicts p
 marked-without p = λ i. record p {
   clauses = p.clauses ++ clauses_from 0 p.constraints;
   constraints = marked-staying 0 p.constraints i;

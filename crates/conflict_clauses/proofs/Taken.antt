@@ -1,5 +1,5 @@
 -- A constraint that is taken to be replaced: what it wants, and of which variables.
-use Rattle.conflict_clauses.proofs.Common.{nat_tests, ◌≡◌, ℕ, zero, suc, ◌+◌, ◌<◌, ◌≤◌, Bool, true, false, cond, not, leb, refl, sym, ap, ◌∙◌, arith, subst, List, [], ◌∷◌, ◌++◌, map, Some, ℤ, pos, negsuc, All, filter, list_all, slice_get, sum_by, and_parts, All-cons, All-head, All-map, All-nil, All-tail, All-weaker, sum_by-cons, Literal, Product, Constraint, IsNormalProduct, is_conflict, is_needed, is_single, most_pairs, pairs, pairs_of, wanted, wanted_literal, Found, AreWithin, IsFound, IsTaken, alone}
+use Rattle.conflict_clauses.proofs.Common.{All-filter, nat_tests, ◌≡◌, ℕ, zero, suc, ◌+◌, ◌<◌, ◌≤◌, Bool, true, not, leb, refl, sym, ap, ◌∙◌, arith, subst, List, [], ◌∷◌, ◌++◌, map, Some, ℤ, pos, negsuc, All, filter, list_all, slice_get, sum_by, and_parts, All-cons, All-head, All-map, All-nil, All-tail, All-weaker, sum_by-cons, Literal, Product, Constraint, IsNormalProduct, is_conflict, is_needed, is_single, most_pairs, pairs, pairs_of, wanted, wanted_literal, Found, AreWithin, IsFound, IsTaken, alone}
 use Rattle.conflict_clauses.proofs.Missing.{parts_of}
 
 -- ---- an element at a place
@@ -17,14 +17,6 @@ size_at_place f (y ∷ xs) zero x at = grind (arith, nat_tests, sum_by-cons)
 size_at_place f (y ∷ xs) (suc i) x at = omega (arith, size_at_place f xs i x at, sum_by-cons f y xs)
 
 -- ---- variables
-
-All-filter : {A : Type 0} (P : A → Type 0) (q : A → Bool) (xs : List A) → All P xs → All P (filter q xs)
-All-filter P q [] h = All-nil P
-All-filter P q (x ∷ xs) h = go (q x) (All-filter P q xs (All-tail P x xs h))
-  where
-    go : (b : Bool) → All P (filter q xs) → All P (cond b (x ∷ filter q xs) (filter q xs))
-    go true rest = All-cons P x (filter q xs) (All-head P x xs h) rest
-    go false rest = rest
 
 same_variable : (c : ℤ) (l : Literal) → (wanted_literal c l).variable ≡ l.variable
 same_variable (pos n) l = refl
@@ -61,7 +53,7 @@ literals_within : (variables : ℕ) (ls : List Literal) (q : Product → Bool) (
 literals_within variables ls q ts normal same =
     let AllWithin : List (List Literal) → Type 0 = All (AreWithin variables) in
     alone_within variables ls (subst AllWithin (sym same)
-    (all_within variables (filter q ts) (All-filter (IsNormalProduct variables) q ts normal)))
+    (all_within variables (filter q ts) (All-filter q (IsNormalProduct variables) ts normal)))
 
 -- ---- the answers
 

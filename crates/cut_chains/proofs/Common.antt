@@ -7,8 +7,8 @@ pub use Rattle.std.proofs.lemmas.Int.{ints, to_z-of_z}
 pub use Rattle.std.proofs.lemmas.Bool.Decides.{nat_tests}
 pub use Rattle.std.proofs.lemmas.List.Elements.{recursion_from_All, All-from_recursion, AllZip-get_or}
 pub use Rattle.std.proofs.Math.Nat.{min-le_left, min-le_right}
-pub use Rattle.std.proofs.lemmas.Bool.{eqb-true, cases_lt, or_from, or_parts, both_ways, or_cases, or_right, or_left, cases_eq, false_from_ne_true}
-pub use Rattle.std.proofs.lemmas.List.{length-drop, drop_at, get_or_past, length-map, get_or-replicate, reverse-append, take_more, get_or-drop, get_or-set_same, get_or-set_other, take-append-le, get_or_append_left, append-nil, drop_more, get_or_default, take_all}
+pub use Rattle.std.proofs.lemmas.Bool.{eqb-true, or_cases, or_left, cases_lt, or_from, or_parts, both_ways, or_right, cases_eq, false_from_ne_true}
+pub use Rattle.std.proofs.lemmas.List.{take-take, take-append-drop, length-drop, drop_at, get_or_past, length-map, get_or-replicate, reverse-append, take_more, get_or-drop, get_or-set_same, get_or-set_other, take-append-le, get_or_append_left, append-nil, drop_more, get_or_default, take_all}
 pub use Rattle.std.proofs.lemmas.List.FromFn.{length-map-range_with_len, fill_by_all, get_or-map-range_with_len}
 pub use Rattle.std.proofs.lemmas.List.Sums.{sum_by-cons, sum_by-le-sum_by, sum_by_more}
 pub use Rattle.std.proofs.Math.Bool.{or_comm, or-false}
@@ -24,11 +24,11 @@ pub use Rattle.quad_form.specs.Quads.{IsCoupler, node_entries}
 pub use Rattle.bits_model.specs.PairNumbers.{pair_number}
 pub use Rattle.pair_sums.proofs.PairOrder.{ordered_from_rising}
 pub use Rattle.embedding_check.specs.Embeddings.{Embedding, IsEmbedding, embedding_size, IsTie, parent_in, climbed, form_of}
-pub use Rattle.chain_map.specs.Chains.{chain_of, Joins}
+pub use Rattle.chain_map.specs.Chains.{chain_of}
 pub use Rattle.chain_layer.specs.Image.{nodes_of, strength, coupling_entry, ties, all_ties, placed, couplings_at, all_shares, field_at}
 pub use Rattle.chain_layer.specs.laws.SpinSums.{all_append, range-le, range-zero, range-same, hit, marked_ends}
 pub use Rattle.chain_layer.specs.laws.Kept.{each_of_range, chain_within, shares_within, each_at, chains_sound, one_chain}
-pub use Rattle.chain_layer.proofs.Ordered.{in_order_rises, sorted_is_in_order, Apart, AreApart, ties_at, all_in_order, couplings_apart, all_couplers}
+pub use Rattle.chain_layer.proofs.Ordered.{in_order_rises, sorted_is_in_order, AreApart, ties_at, all_in_order, couplings_apart, all_couplers}
 pub use Rattle.base.specs.Sums.{total_by, if_so}
 pub use Rattle.bits_model.specs.Output.{weight_total}
 pub use Rattle.bits_model.specs.Walks.{is_in, first_of}
@@ -43,11 +43,10 @@ pub use Rattle.chain_layer.proofs.Written.{IsJoined, placed_joined, node_joined,
 pub use Rattle.chain_layer.specs.laws.Whole.{in_rest, each_in}
 pub use Rattle.chain_map.proofs.Paths.{is_in_at}
 pub use Rattle.form_steps.specs.Relations.{Extends}
-pub use Rattle.form_steps.specs.Least.{KeepsLeast}
 pub use Rattle.cut_chains.specs.Sides.{cut_strength, is_below, weight_of, side_weight}
 pub use Rattle.cut_chains.specs.CutImage.{cut_ties, cut_image, cut_cost, cut_offset}
-pub use Rattle.cut_chains.specs.laws.Mended.{node_ties, all_parts, couplers_placed, IsOnceTree, once_tree, rooted_tree}
-pub use Rattle.cut_chains.specs.CutLinks.{as_chains, decoding, Fits}
+pub use Rattle.cut_chains.specs.laws.Mended.{node_ties, couplers_placed, IsOnceTree, once_tree, rooted_tree}
+pub use Rattle.cut_chains.specs.CutLinks.{as_chains, decoding}
 pub use Rattle.cut_chains.specs.Stated.{CutFitsOutput, CutIsJoined, ReadOffTheCut}
 pub use Rattle.cut_chains.specs.Steps.{strength_in, Climbable, Sinkable, held_below}
 pub use Rattle.cut_chains.specs.laws.Trees.{IsRooted, is_below_first, not_again, parent_outside, same_side, tied_below, found_in_range}

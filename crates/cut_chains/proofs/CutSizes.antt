@@ -2,7 +2,7 @@
 --
 -- The two sides of a tie weigh no more than all qubits do, and these no more than twice the total.
 -- So the lesser one weighs at most the total.
-use Rattle.cut_chains.proofs.Common.{in_order_rises, nat_tests, ◌≡◌, ℕ, zero, suc, ◌+◌, ◌*◌, ◌<◌, ◌≤◌, ◌^◌, Bool, true, not, List, [], ◌∷◌, ◌++◌, length, drop, ℤ, pos, ◌+ℤ◌, ◌≤ℤ◌, unsigned_abs, refl, sym, ap, subst, ◌∙◌, arith, mul-le-mul_left, All, AllByRecursion, range_with_len, sum_by, min-le_left, min-le_right, ints, length-drop, drop_at, All-from_recursion, length-map-range_with_len, sum_by-cons, total_by, if_so, total_by-plus, Entry, weight_total, is_in, IsCoupler, weights-append, ordered_from_rising, IsIsing, ising_total, ising_size, Embedding, IsEmbedding, embedding_size, chain_of, nodes_of, couplings_at, all_shares, placed, field_at, range-le, range-same, marked_ends, couplers_of, node_at, filled_lengths, chain_within, shares_within, sum_is, size, weights-in_order, weights-flat_map, fields_small, weights_of_shares, weights_of_image_fields, weights_placed, sums_le, few_qubits, sizes-append, sizes-in_order, sizes-le, sizes_of_nodes, sizes_of_couplers, weights_of_ties_by, length-placed, length-ties_by, is_below, weight_of, side_weight, cut_strength, ties, cut_ties, cut_image, cut_cost, cut_offset, Once, chain_once, node_ties, couplers_placed}
+use Rattle.cut_chains.proofs.Common.{in_order_rises, nat_tests, ◌≡◌, ℕ, zero, suc, ◌+◌, ◌*◌, ◌<◌, ◌≤◌, ◌^◌, Bool, true, not, List, [], ◌∷◌, ◌++◌, length, drop, ℤ, pos, ◌+ℤ◌, ◌≤ℤ◌, unsigned_abs, refl, ap, ◌∙◌, arith, mul-le-mul_left, AllByRecursion, range_with_len, sum_by, min-le_left, min-le_right, ints, length-drop, drop_at, All-from_recursion, length-map-range_with_len, sum_by-cons, total_by, if_so, total_by-plus, Entry, weight_total, is_in, IsCoupler, weights-append, ordered_from_rising, IsIsing, ising_total, ising_size, Embedding, IsEmbedding, embedding_size, chain_of, nodes_of, couplings_at, all_shares, placed, field_at, range-le, range-same, marked_ends, couplers_of, node_at, filled_lengths, chain_within, shares_within, sum_is, size, weights-in_order, weights-flat_map, fields_small, weights_of_shares, weights_of_image_fields, weights_placed, sums_le, few_qubits, sizes-append, sizes-in_order, sizes-le, sizes_of_nodes, sizes_of_couplers, weights_of_ties_by, length-placed, length-ties_by, is_below, weight_of, side_weight, cut_strength, ties, cut_ties, cut_image, cut_cost, cut_offset, Once, chain_once, node_ties, couplers_placed}
 use Rattle.cut_chains.proofs.Subtrees.{once_spread}
 use Rattle.cut_chains.proofs.CutPairs.{cut_couplers, cut_apart}
 
@@ -88,12 +88,8 @@ cut_cost-le e kept =
     let within : i < length e.ising.fields = omega (arith, l) in
     let shorter : length (drop 1 (chain_of e.chains i)) ≤ length (chain_of e.chains i) =
     omega (arith, length-drop 1 (chain_of e.chains i)) in
-    omega (
-      arith,
-      sum_below most (cut_strength e i) (drop 1 (chain_of e.chains i))
-          (cut_strength-le e kept i within),
-      mul-le-mul_left most shorter,
-    )) in
+    let each = sum_below most _ (drop 1 (chain_of e.chains i)) (cut_strength-le e kept i within) in
+    omega (arith, mul-le-mul_left most shorter)) in
     omega (arith, mul-le-mul_left most few)
 
 -- ---- what the layer promises
@@ -111,12 +107,10 @@ cut_ties_cost : (e : Embedding) → IsEmbedding e → weight_total (cut_ties e) 
 cut_ties_cost e kept =
     let sums = sums_le (λ i. sum_by (cut_strength e i) (drop 1 (chain_of e.chains i)))
     (λ i. weight_total (node_ties e i)) 0 (length e.ising.fields)
-    (λ i l. costs_of_ties (cut_strength e i) (drop 1 (chain_of e.chains i))
-    (chain_of e.parents i) (omega (
-      arith,
-      filled_lengths e i (node_at e kept i (omega (arith, l))),
-      length-drop 1 (chain_of e.chains i),
-    ))) in
+    (λ i l.
+    let long = filled_lengths e i (node_at e kept i (omega (arith, l))) in
+    costs_of_ties (cut_strength e i) (drop 1 (chain_of e.chains i)) (chain_of e.parents i)
+    (omega (arith, length-drop 1 (chain_of e.chains i)))) in
     omega (arith, weights_of_ties_by (cut_strength e) e, weights-flat_map)
 
 -- and that of what stands behind the placed couplings
@@ -161,9 +155,7 @@ cut_is_ising e kept small =
     (cut_couplers e kept) (cut_apart e kept) in
     record {
       ordered = ordered_from_rising (cut_image e).couplings ordered.0 ordered.1;
-      couplings =
-          subst (λ n. All (IsCoupler n) (cut_image e).couplings) (sym width)
-          (All-from_recursion _ _ ordered.2);
+      couplings = rw width (All-from_recursion _ _ ordered.2);
       narrow = omega (arith, width, kept.few);
       small = omega (arith, cut_total_grows e kept, small);
     }

@@ -80,11 +80,10 @@ module _ (e : Embedding) (i : ℕ) (old chain parents : List ℕ)
         let qs = chain_of e.chains i in
         let weight : ℕ → ℕ = λ r. get_or old r 0 in
         let is_on = is_below qs (chain_of e.parents i) q in
-        let under : get_or new q 0 ≡ side_weight (weight_of e) qs is_on =
-        at_node.below q in' ∙ same_held is_on (weight_of e) weight qs next.held in
+        let under = at_node.below q in' ∙ same_held is_on (weight_of e) weight qs next.held in
+        let same = same_sums weight (weight_of e) qs next.held in
         let over : get_or new (first_of qs) 0 - get_or new q 0
         ≡ side_weight (weight_of e) qs (λ r. not (is_on r)) =
-        let same = same_sums weight (weight_of e) qs next.held in
         omega (arith, under, at_node.all, both_sides (weight_of e) qs is_on) in
         λ k. min (under k) (over k) + 1
 
@@ -92,5 +91,5 @@ module _ (e : Embedding) (i : ℕ) (old chain parents : List ℕ)
     node_made =
         (λ k. ties (strength_in new (first_of (next.chain_is k))) (drop 1 (next.chain_is k))
         (next.parents_is k))
-        ∙ same_ties (strength_in new (first_of (chain_of e.chains i))) (cut_strength e i)
-        (drop 1 (chain_of e.chains i)) (chain_of e.parents i) same_strength
+        ∙ same_ties _ (cut_strength e i) (drop 1 (chain_of e.chains i))
+        (chain_of e.parents i) same_strength

@@ -23,11 +23,9 @@ noted_more before up next chain parents i matched i_in once inside noted stored 
     let counted : length cs ≡ length parents = omega (arith, length-drop 1 chain, matched) in
     let next_is : 1 + i ≡ i + 1 = omega arith in
     let here : get_or cs i 0 ≡ at = get_or-drop 1 chain i 0 ∙ ap (λ n. get_or chain n 0) next_is in
-    let own : parent_in cs parents (get_or cs i 0) ≡ value =
-    AllZip-get_or (λ q p. parent_in cs parents q ≡ p) cs parents i 0 0
+    let own = AllZip-get_or (λ q p. parent_in cs parents q ≡ p) cs parents i 0 0
     (own_parents cs parents once counted) (omega (arith, counted, i_in)) in
-    let at_in : at < length up =
-    omega (arith, noted.sized, inside (i + 1) 0 (omega (arith, matched, i_in))) in
+    let at_in = inside (i + 1) 0 (omega (arith, matched, i_in)) in
     record {
       sized = ap length stored ∙ length-set up at value ∙ noted.sized;
       own = λ q q_in.
@@ -66,11 +64,11 @@ chain_closed [] parents t q in' = absurd (t.filled refl)
 chain_closed (first ∷ cs) parents t q in' =
     parent_in_chain (first ∷ cs) cs parents q t.tree.ties in'
 
-pub parents_within : (n : ℕ) (chain cs ps : List ℕ) → AllZip (IsTie chain) cs ps
-    → All (λ q. q < n) chain → All (λ q. q < n) ps
-parents_within n chain cs ps ties inside = λ i d within.
-    let long = zip_lengths (IsTie chain) cs ps ties in
-    let tie = AllZip-get_or (IsTie chain) cs ps i 0 d ties (omega (arith, within)) in
+pub parents_within : (n : ℕ) (chain parents : List ℕ) → IsOnceTree chain parents
+    → All (λ q. q < n) chain → All (λ q. q < n) parents
+parents_within n chain ps t inside = λ i d within.
+    let long = zip_lengths (IsTie chain) (drop 1 chain) ps t.tree.ties in
+    let tie = AllZip-get_or (IsTie chain) (drop 1 chain) ps i 0 d t.tree.ties (omega (arith, within)) in
     each_at (λ q. q < n) chain (get_or ps i d) (recursion_from_All _ chain inside) tie.inside
 
 pub tree_lengths : (chain parents : List ℕ) → IsOnceTree chain parents
@@ -121,9 +119,7 @@ sinkable up sums order chain parents tree ordered inside same own small = record
   different = chain_different chain parents tree;
   inside = chain_all (λ q. q < length sums) chain parents tree inside;
   parents = own;
-  known =
-      subst (λ n. AllByRecursion (λ q. q < n) (drop 1 chain)) (sym same)
-      (chain_all (λ q. q < length sums) chain parents tree inside).1;
+  known = rw same (chain_all (λ q. q < length sums) chain parents tree inside).1;
   small =
       subst (λ qs. sum_by (λ q. get_or sums q 0) qs < 2 ^ 127) (sym (chain_parts chain tree.filled))
       small;

@@ -1,6 +1,6 @@
 -- How an order comes about: a walk from a qubit to its parents, up to one that is listed, is
 -- appended from its end on.
-use Rattle.cut_chains.proofs.Common.{elements, ◌≡◌, inl, inr, ℕ, ◌<◌, Bool, true, false, ◌||◌, List, [], ◌∷◌, ◌++◌, length, take, get_or, refl, sym, ap, subst, ◌∙◌, arith, append_assoc, length-append, ◌==◌, reverse, All, AllByRecursion, nat_tests, cases_lt, or_parts, or_from, take-append-le, get_or_append_left, append-nil, reverse-append, get_or-set_same, get_or-set_other, set, length-set, take-append_seam, get_or-append_seam, is_in, IsClimb, Once}
+use Rattle.cut_chains.proofs.Common.{elements, ◌≡◌, ℕ, ◌<◌, Bool, true, false, ◌||◌, List, [], ◌∷◌, ◌++◌, length, take, get_or, refl, sym, ap, subst, ◌∙◌, arith, append_assoc, length-append, ◌==◌, reverse, All, AllByRecursion, nat_tests, cases_lt, or_parts, or_from, take-append-le, get_or_append_left, append-nil, reverse-append, get_or-set_same, get_or-set_other, set, length-set, take-append_seam, get_or-append_seam, is_in, IsClimb, Once}
 use Rattle.cut_chains.proofs.Members.{is_in-push, is_in-listed, once_more}
 
 -- each qubit of the list stands after its parent, or its parent is the first, and none stands twice
@@ -27,19 +27,15 @@ reached_more first up order p reached listed new = record {
         → ((j : ℕ) → j < length order → is_in (first ∷ take j order) (f (get_or order j 0)) ≡ b)
         → is_in (first ∷ order) (f p) ≡ b → (j : ℕ) → j < length (order ++ p ∷ [])
         → is_in (first ∷ take j (order ++ p ∷ [])) (f (get_or (order ++ p ∷ []) j 0)) ≡ b
-    step f b before here j in' = elim (cases_lt j (length order)) [
-      | inl less ↦
-          let fewer = take-append-le j order (p ∷ []) (omega (arith, less)) in
-          let same = get_or_append_left order (p ∷ []) 0 j less in
-          (λ k. is_in (first ∷ fewer k) (f (same k))) ∙ before j less
-      | inr more ↦
-          let last : length order ≡ j = omega (arith, length-append order (p ∷ [])) in
-          let whole = take-append_seam order (p ∷ []) in
-          let end = get_or-append_seam order p [] 0 in
-          subst
-          (λ i. is_in (first ∷ take i (order ++ p ∷ [])) (f (get_or (order ++ p ∷ []) i 0)) ≡ b)
-          last ((λ k. is_in (first ∷ whole k) (f (end k))) ∙ here)
-    ]
+    step f b before here j in' =
+        let cases = cases_lt j (length order) in
+        let long = length-append order (p ∷ []) in
+        let fewer = take-append-le j order (p ∷ []) in
+        let same = get_or_append_left order (p ∷ []) 0 j in
+        let old = before j in
+        let whole = take-append_seam order (p ∷ []) in
+        let end = get_or-append_seam order p [] 0 in
+        grind (arith, nat_tests)
 
 -- ---- a path, listed from its end on
 
@@ -60,8 +56,7 @@ reached_path first up order (p ∷ ps) from q reached climb listed new different
     let before = order ++ reverse ps in
     let rest = reached_path first up order ps (up p) q reached climb.1 listed new.1 different.1 in
     let same : order ++ reverse (p ∷ ps) ≡ before ++ p ∷ [] =
-    ap (λ rs. order ++ rs) (reverse-append (p ∷ []) ps)
-    ∙ sym (append_assoc order (reverse ps) (p ∷ [])) in
+    cc (reverse-append (p ∷ []) ps, append_assoc order (reverse ps) (p ∷ [])) in
     let parts = or_parts (first == p) (is_in order p) new.0 in
     let out : is_in (first ∷ before) p ≡ false =
     or_from (first == p) (is_in before p) parts.0

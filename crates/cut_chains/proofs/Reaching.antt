@@ -27,14 +27,14 @@ module _ (up : List ℕ) (before : List Bool) (first : ℕ) (cs : List ℕ)
   parent_same q in' = t.parents q in'
 
   -- a walk from a qubit of the chain that does not pass the first stays in the chain
-  path_inside : (path : List ℕ) (from q : ℕ) → IsClimb parent_at path from q
-      → is_in (first ∷ cs) from ≡ true → AllByRecursion (λ p. (first == p) ≡ false) path
+  path_inside : (order path : List ℕ) (from q : ℕ) → IsClimb parent_at path from q
+      → is_in (first ∷ cs) from ≡ true → AllByRecursion (λ p. is_in (first ∷ order) p ≡ false) path
       → AllByRecursion (λ p. is_in cs p ≡ true) path × (is_in (first ∷ cs) q ≡ true)
-  path_inside [] from q climb in' others = (tt, ap (is_in (first ∷ cs)) (sym climb) ∙ in')
-  path_inside (p ∷ ps) from q climb in' others =
+  path_inside order [] from q climb in' others = (tt, ap (is_in (first ∷ cs)) (sym climb) ∙ in')
+  path_inside order (p ∷ ps) from q climb in' others =
       let p_in : is_in cs p ≡ true =
       let same = climb.0 in let out = others.0 in grind (arith, nat_tests) in
-      let rest = path_inside ps (parent_at p) q climb.1
+      let rest = path_inside order ps (parent_at p) q climb.1
       (ap (is_in (first ∷ cs)) (parent_same p p_in) ∙ t.closed p p_in) others.1 in
       ((p_in, rest.0), rest.1)
 
@@ -42,9 +42,7 @@ module _ (up : List ℕ) (before : List Bool) (first : ℕ) (cs : List ℕ)
       → AllByRecursion (λ p. is_in cs p ≡ true) path → climbed cs t.ps (length path) from ≡ q
   steps_of [] from q climb all = climb
   steps_of (p ∷ ps) from q climb all =
-      ap (λ r. climbed cs t.ps (length ps) (parent_in cs t.ps r)) climb.0
-      ∙ ap (climbed cs t.ps (length ps)) (sym (parent_same p all.0))
-      ∙ steps_of ps (parent_at p) q climb.1 all.1
+      cc (climb.0, parent_same p all.0, steps_of ps (parent_at p) q climb.1 all.1)
 
   -- it does not end where it has been
   no_round : (path : List ℕ) (from q : ℕ) → IsClimb parent_at path from q
@@ -72,12 +70,6 @@ module _ (up : List ℕ) (before : List Bool) (first : ℕ) (cs : List ℕ)
       (sym (reaching.marked p within) ∙ fresh.0) in
       (parts.1, fresh_path seen order done ps reaching fresh.1)
 
-  not_first : (order path : List ℕ) → AllByRecursion (λ p. is_in (first ∷ order) p ≡ false) path
-      → AllByRecursion (λ p. (first == p) ≡ false) path
-  not_first order [] fresh = tt
-  not_first order (p ∷ ps) fresh =
-      ((or_parts (first == p) (is_in order p) fresh.0).0, not_first order ps fresh.1)
-
   pub reach_more : (seen next : List Bool) (order done path : List ℕ) (from : ℕ)
       → IsReaching seen order done → is_in cs from ≡ true → IsClimbed parent_at seen next from path
       → IsReaching next (order ++ reverse path) (done ++ from ∷ [])
@@ -86,8 +78,8 @@ module _ (up : List ℕ) (before : List Bool) (first : ℕ) (cs : List ℕ)
       let climb = walk.walk.1 in
       let fresh = fresh_path seen order done path reaching
       (recursion_from_All (λ p. get_or seen p true ≡ false) path walk.unmarked) in
-      let sides = path_inside path from q climb (or_right (first == from) (is_in cs from) from_in)
-      (not_first order path fresh) in
+      let sides = path_inside order path from q climb
+      (or_right (first == from) (is_in cs from) from_in) fresh in
       let within : q < length before = omega (arith, walk.walk.2, reaching.sized) in
       let listed : is_in (first ∷ order) q ≡ true = let found = walk.walk.3 in
       let old = reaching.marked q within in

@@ -31,8 +31,7 @@ module _ (up sums order xs : List ℕ) (t : Sinkable up sums order) where
 
     parent_inside : is_in (t.first ∷ t.cs) (parent_in t.cs t.ps (get_or order a 0)) ≡ true
     parent_inside =
-        let there = front_inside t.first t.cs t.ps order t.root t.ordered a
-        (parent_in t.cs t.ps (get_or order a 0)) (omega (arith, within))
+        let there = front_inside t.first t.cs t.ps order t.root t.ordered a _ (omega (arith, within))
         (t.ordered.after a within) in
         grind (arith, nat_tests)
 
@@ -80,11 +79,10 @@ module _ (up sums order xs : List ℕ) (t : Sinkable up sums order) where
   -- at the end
   pub ends_below : Sinks xs 0 → (q : ℕ) → is_in t.cs q ≡ true → get_or xs q 0 ≡ held_below t q
   ends_below sinking q in' =
-      let held : All (λ r. get_or xs r 0 ≡ held_below t r) order = λ j d l.
-      subst (λ r. get_or xs r 0 ≡ held_below t r) (get_or_default order j 0 d l)
-      (sinking.done j (omega arith) l) in
-      each_at (λ r. get_or xs r 0 ≡ held_below t r) order q
-      (recursion_from_All (λ r. get_or xs r 0 ≡ held_below t r) order held) (t.ordered.all q ∙ in')
+      let Held : ℕ → Type 0 = λ r. get_or xs r 0 ≡ held_below t r in
+      let held : All Held order = λ j d l.
+      subst Held (get_or_default order j 0 d l) (sinking.done j (omega arith) l) in
+      each_at Held order q (recursion_from_All Held order held) (t.ordered.all q ∙ in')
 
   pub ends_all : Sinks xs 0 → get_or xs t.first 0 ≡ held_below t t.first
   ends_all sinking = grind (arith, nat_tests)

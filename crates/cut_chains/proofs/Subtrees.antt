@@ -3,8 +3,8 @@
 --
 -- What the qubits that have not given yet hold below a qubit is always the weight below it. The
 -- next one to give has none of the others below it, so it holds the weight below it.
-use Rattle.cut_chains.proofs.Common.{◌≡◌, ◌≢◌, ◌⊎◌, inl, inr, ℕ, zero, suc, ◌+◌, ◌<◌, ◌≤◌, Bool, true, false, cond, ◌||◌, List, [], ◌∷◌, length, take, get_or, refl, sym, ap, subst, ◌∙◌, arith, ◌==◌, ℤ, pos, ◌+ℤ◌, AllByRecursion, range_with_len, ints, nat_tests, cases_eq, eqb-true, or_cases, or_left, false_from_ne_true, take_more, take-length, take-suc, sum_by-cons, sum_by_more, total_by, if_so, total_by-plus, is_in, is_in_at, parent_in, climbed, range-zero, range-same, hit, each_at, is_below, side_weight, IsOrder, IsRooted, parent_outside, same_side, tied_below, is_below_first, found_in_range, Once}
-use Rattle.cut_chains.proofs.Members.{is_in-push, once_more}
+use Rattle.cut_chains.proofs.Common.{◌≡◌, ◌≢◌, ◌⊎◌, inl, inr, ℕ, zero, suc, ◌+◌, ◌<◌, ◌≤◌, Bool, true, false, cond, ◌||◌, List, [], ◌∷◌, length, take, get_or, refl, sym, ap, subst, ◌∙◌, arith, ◌==◌, ℤ, pos, ◌+ℤ◌, AllByRecursion, range_with_len, ints, nat_tests, cases_eq, false_from_ne_true, take-length, take-suc, sum_by-cons, sum_by_more, total_by, if_so, total_by-plus, is_in, is_in_at, parent_in, climbed, range-zero, range-same, hit, each_at, is_below, side_weight, IsOrder, IsRooted, parent_outside, same_side, tied_below, is_below_first, found_in_range, Once, drop, take-append-drop, take-take, eqb-true, or_cases, or_left}
+use Rattle.cut_chains.proofs.Members.{in_more, is_in-append, is_in-push, once_more}
 
 is_in-first : (q : ℕ) (qs : List ℕ) → is_in (q ∷ qs) q ≡ true
 is_in-first q qs = grind (arith, nat_tests)
@@ -59,12 +59,6 @@ front first order i = first ∷ take i order
 
 module _ (first : ℕ) (cs ps order : List ℕ) (root : IsRooted first cs ps)
     (ordered : IsOrder first cs ps order) where
-  in_front_more : (i q : ℕ) → i < length order → is_in (front first order (i + 1)) q
-      ≡ (is_in (front first order i) q || (get_or order i 0 == q))
-  in_front_more i q within =
-      ap (λ qs. is_in (first ∷ qs) q) (take_more order i 0 within)
-      ∙ is_in-push (front first order i) (get_or order i 0) q
-
   in_front_suc : (i q : ℕ) → i < length order → is_in (front first order (suc i)) q
       ≡ (is_in (front first order i) q || (get_or order i 0 == q))
   in_front_suc i q within =
@@ -80,15 +74,14 @@ module _ (first : ℕ) (cs ps order : List ℕ) (root : IsRooted first cs ps)
       grind (arith, nat_tests)
   parent_in_front (suc i) q few in' =
       let here = in_front_suc i q few in
-      let p = parent_in cs ps q in
-      let up : is_in (front first order i) p ≡ true =
+      let up : is_in (front first order i) (parent_in cs ps q) ≡ true =
       elim (or_cases (is_in (front first order i) q) (get_or order i 0 == q) (sym here ∙ in')) [
         | inl old ↦ parent_in_front i q (omega arith) old
         | inr same ↦
             subst (λ r. is_in (front first order i) (parent_in cs ps r) ≡ true)
             (eqb-true (get_or order i 0) q same) (ordered.after i few)
       ] in
-      in_front_suc i p few ∙ or_left (is_in (front first order i) p) (get_or order i 0 == p) up
+      rw (in_front_suc i (parent_in cs ps q) few) (or_left _ _ up)
 
   climbed_in_front : (i n q : ℕ) → i ≤ length order → is_in (front first order i) q ≡ true
       → is_in (front first order i) (climbed cs ps n q) ≡ true
@@ -172,7 +165,7 @@ module _ (first : ℕ) (cs ps order : List ℕ) (root : IsRooted first cs ps)
       let below = is_below (first ∷ cs) ps p in
       let alike = below_alike i p within p_in in
       let itself = tied_below first cs ps root p in
-      let here = in_front_more i p within in
+      let here = in_more order i p within in
       let whole = sinking.left p (grind (arith, nat_tests)) in
       let more = held_more below held i within in
       let part = one_held below held p (front first order i) p_in itself in
@@ -192,7 +185,7 @@ module _ (first : ℕ) (cs ps order : List ℕ) (root : IsRooted first cs ps)
         left = λ x x_in.
             let below = is_below (first ∷ cs) ps x in
             let alike = below_alike i x within x_in in
-            let here = in_front_more i x within in
+            let here = in_more order i x within in
             let gets = more_held below held next (parent_in cs ps q) (held q) (front first order i)
             (once_front i (omega (arith, within))) p_in gives keeps in
             let whole = sinking.left x (grind (arith, nat_tests)) in
@@ -203,14 +196,12 @@ module _ (first : ℕ) (cs ps order : List ℕ) (root : IsRooted first cs ps)
               | inl same ↦
                   let below = is_below (first ∷ cs) ps q in
                   let itself = kept q (ordered.once i within) in
-                  let here = in_front_more i q within in
+                  let here = in_more order i q within in
                   let whole = sinking.left q (grind (arith, nat_tests)) in
                   let rest = held_more below held i within in
                   let none = none_held below held (front first order i) (λ r. none_below i r within) in
                   let tied = tied_below first cs ps root q in
-                  let held_here : next q ≡ below_weight weight q = grind arith in
-                  subst (λ k. next (get_or order k 0) ≡ below_weight weight (get_or order k 0))
-                  (sym same) held_here
+                  let held_here : next q ≡ below_weight weight q = grind arith in cc
               | inr other ↦
                   kept (get_or order j 0) (later_out i j (grind arith) in')
                   ∙ sinking.done j (grind arith) in'
@@ -222,16 +213,10 @@ module _ (first : ℕ) (cs ps order : List ℕ) (root : IsRooted first cs ps)
           → is_in (front first order i) (get_or order j 0) ≡ false
       later_out i j more in' =
           let out = ordered.once j in' in
-          let earlier = wider order i j (get_or order j 0) (omega (arith, more)) in
+          let earlier = take-take i j order (omega (arith, more)) in
+          let whole = take-append-drop i (take j order) in
+          let both = is_in-append (take i order) (drop i (take j order)) (get_or order j 0) in
           grind (arith, nat_tests)
-        where
-          wider : (qs : List ℕ) (i j q : ℕ) → i ≤ j → is_in (take i qs) q ≡ true
-              → is_in (take j qs) q ≡ true
-          wider qs zero j q le here = absurd cc
-          wider [] (suc i) j q le here = absurd cc
-          wider (r ∷ rs) (suc i) zero q le here = absurd (omega (arith, le))
-          wider (r ∷ rs) (suc i) (suc j) q le here =
-              let rest = wider rs i j q in grind (arith, nat_tests)
 
 -- ---- the start
 
@@ -277,12 +262,11 @@ pub starts_sinking : (first : ℕ) (cs ps order : List ℕ) (root : IsRooted fir
 starts_sinking first cs ps order root ordered weight n once within = record {
   left = λ x x_in.
       let below = is_below (first ∷ cs) ps x in
-      let whole : take (length order) order ≡ order = take-length order in
+      let whole = take-length order in
       let both = once_front first cs ps order root ordered (length order) (omega arith) in
-      let f : ℕ → ℕ = λ r. cond (below r) (weight r) 0 in
       let more = ap (λ qs. side_weight weight qs below) whole in
       let same = same_qubits below weight n order cs (subst Once whole both.1) once
       (within_alike n order cs within (λ q in'. sym (ordered.all q) ∙ in')) within ordered.all in
-      omega (arith, sum_by-cons f first (take (length order) order), sum_by-cons f first cs);
+      simp sum_by-cons (omega arith);
   done = λ j from in'. absurd (omega (arith, from, in'));
 }

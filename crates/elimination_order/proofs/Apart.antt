@@ -1,6 +1,5 @@
 -- Entries of different pairs have different pairs by new numbers.
-use Rattle.elimination_order.proofs.Common.{nat_tests, ◌≡◌, ◌≢◌, ℕ, ◌≤◌, ◌^◌, arith, List, [], ◌∷◌, ◌++◌, map, ⊤, AllByRecursion, IsStrictlySortedBy, Entry, IsPlaced, entry_cmp, pair_number, AreNumbers, renumbered}
-use Rattle.std.specs.declared.cmp.Ordering.TheVariants.{Less}
+use Rattle.elimination_order.proofs.Common.{nat_tests, ◌≡◌, ◌≢◌, ℕ, ◌≤◌, ◌^◌, arith, List, [], ◌∷◌, ◌++◌, map, ⊤, AllByRecursion, IsStrictlySortedBy, Entry, IsPlaced, entry_cmp, pair_number, AreNumbers, renumbered, Less}
 
 -- two entries are not of one pair
 abbrev pub Differ : Entry → Entry → Type 0
@@ -21,15 +20,19 @@ AreApart (e ∷ es) = AllByRecursion (λ f. pair_number e ≢ pair_number f) es 
 less_differ : (e f : Entry) → entry_cmp e f ≡ Less → Differ e f
 less_differ e f less one two = grind (arith, nat_tests)
 
-all_less_differ : (e : Entry) (fs : List Entry) → AllByRecursion (λ f. entry_cmp e f ≡ Less) fs
-    → AllByRecursion (Differ e) fs
-all_less_differ e [] all = tt
-all_less_differ e (f ∷ fs) all = (less_differ e f all.0, all_less_differ e fs all.1)
+pub all_weaker : (P Q : Entry → Type 0) → ((e : Entry) → P e → Q e) → (es : List Entry)
+    → AllByRecursion P es → AllByRecursion Q es
+all_weaker P Q from [] all = tt
+all_weaker P Q from (e ∷ es) all = (from e all.0, all_weaker P Q from es all.1)
 
 pub sorted_differ : (es : List Entry) → IsStrictlySortedBy entry_cmp es → AllDiffer es
 unfolding IsStrictlySortedBy
 sorted_differ [] sorted = tt
-sorted_differ (e ∷ es) sorted = (all_less_differ e es sorted.0, sorted_differ es sorted.1)
+sorted_differ (e ∷ es) sorted = (
+  all_weaker (λ f. entry_cmp e f ≡ Less) (Differ e)
+      (less_differ e) es sorted.0,
+  sorted_differ es sorted.1,
+)
 
 -- ---- by new numbers
 
@@ -53,20 +56,13 @@ renumbered_apart n names numbers (e ∷ es) are few all differ = (
 
 -- ---- parts of a list
 
-pub all_front : (P : Entry → Type 0) (es fs : List Entry) → AllByRecursion P (es ++ fs)
-    → AllByRecursion P es
-all_front P [] fs all = tt
-all_front P (e ∷ es) fs all = (all.0, all_front P es fs all.1)
+pub all_parts : (P : Entry → Type 0) (es fs : List Entry) → AllByRecursion P (es ++ fs)
+    → AllByRecursion P es × AllByRecursion P fs
+all_parts P [] fs all = (tt, all)
+all_parts P (e ∷ es) fs all = let rest = all_parts P es fs all.1 in ((all.0, rest.0), rest.1)
 
-pub all_rest : (P : Entry → Type 0) (es fs : List Entry) → AllByRecursion P (es ++ fs)
-    → AllByRecursion P fs
-all_rest P [] fs all = all
-all_rest P (e ∷ es) fs all = all_rest P es fs all.1
-
-pub differ_front : (es fs : List Entry) → AllDiffer (es ++ fs) → AllDiffer es
-differ_front [] fs all = tt
-differ_front (e ∷ es) fs all = (all_front (Differ e) es fs all.0, differ_front es fs all.1)
-
-pub differ_rest : (es fs : List Entry) → AllDiffer (es ++ fs) → AllDiffer fs
-differ_rest [] fs all = all
-differ_rest (e ∷ es) fs all = differ_rest es fs all.1
+pub differ_parts : (es fs : List Entry) → AllDiffer (es ++ fs) → AllDiffer es × AllDiffer fs
+differ_parts [] fs all = (tt, all)
+differ_parts (e ∷ es) fs all =
+    let rest = differ_parts es fs all.1 in
+    (((all_parts (Differ e) es fs all.0).0, rest.0), rest.1)

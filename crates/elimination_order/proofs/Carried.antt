@@ -1,37 +1,12 @@
 -- States by new numbers, and their energies.
-use Rattle.elimination_order.proofs.Common.{ints, eqb-true, nat_tests, ◌≡◌, ℕ, ◌<◌, ℤ, ◌+ℤ◌, Bool, true, false, ◌&&◌, cond, refl, sym, ap, subst, ◌∙◌, arith, List, [], ◌∷◌, length, map, cases_lt, length-map, get_or-map, ext_get_or, recursion_from_All, AllByRecursion, energy, if_so, total_by, total_by-map, total_by-IsPermutation, IsLeastState, bool_cmp, slice_cmp, Entry, Kind, Written, IsPlaced, IsWellFormed, bit_at, entry_energy, form_of, is_node, times_spin, IsFirstLeast, AreNumbers, IsRenumbered, IsFirstLeastBy, at_place, bits_by, renumbered}
-use Rattle.std.specs.declared.cmp.Ordering.TheVariants.{Greater}
-use Rattle.bits_model.specs.declared.output.Kind.TheVariants.{Qubo, Ising, Chimera}
+use Rattle.elimination_order.proofs.Common.{ints, eqb-true, nat_tests, ◌≡◌, ℕ, ◌<◌, ℤ, ◌+ℤ◌, Bool, true, false, ◌&&◌, cond, refl, sym, ap, subst, ◌∙◌, arith, List, [], ◌∷◌, length, map, cases_lt, length-map, get_or-map, ext_get_or, recursion_from_All, AllByRecursion, energy, if_so, total_by, total_by-map, total_by-IsPermutation, IsLeastState, bool_cmp, slice_cmp, Entry, Kind, Written, IsPlaced, IsWellFormed, bit_at, entry_energy, form_of, is_node, times_spin, IsFirstLeast, AreNumbers, IsRenumbered, IsFirstLeastBy, at_place, bits_by, renumbered, Greater, Qubo, Ising, Chimera}
 
--- ---- bits
-
--- a node has its bit at its new number
-pub bit-carried : (n : ℕ) (names numbers : List ℕ) (y : List Bool) (v : ℕ)
-    → AreNumbers n names numbers → v < n
-    → bit_at (bits_by names y) (at_place numbers v) ≡ bit_at y v
-bit-carried n names numbers y v are h = grind (arith, nat_tests, get_or-map)
-
-pub taken_back : (n : ℕ) (names numbers : List ℕ) (y : List Bool)
-    → AreNumbers n names numbers → length y ≡ n → bits_by numbers (bits_by names y) ≡ y
-taken_back n names numbers y are wide =
-    let long : length (bits_by numbers (bits_by names y)) ≡ length y =
-    length-map numbers (bit_at (bits_by names y)) ∙ are.counted ∙ sym wide in
-    ext_get_or false (bits_by numbers (bits_by names y)) y long (λ v h.
-    let low : v < length numbers = omega (arith, h, long, length-map numbers (bit_at (bits_by names y))) in
-    get_or-map (bit_at (bits_by names y)) numbers v 0 false low
-    ∙ bit-carried n names numbers y v are (omega (arith, low, are.counted)))
+-- ---- numbers
 
 -- new numbers for the new numbers are the nodes
 pub numbers-flip : (n : ℕ) (names numbers : List ℕ) → AreNumbers n names numbers
     → AreNumbers n numbers names
-numbers-flip n names numbers are = record {
-  count = are.counted;
-  counted = are.count;
-  below = are.within;
-  named = are.numbered;
-  within = are.below;
-  numbered = are.named;
-}
+numbers-flip n names numbers are = grind (arith, are)
 
 -- ---- energies
 
@@ -50,34 +25,40 @@ pair-turned : (kind : Kind) (node p q : Bool) (w : ℤ) → (node ≡ true → p
     → pair_energy kind node p q w ≡ pair_energy kind node q p w
 pair-turned kind node p q w same = grind (arith, nat_tests, ints)
 
--- new numbers are equal where the nodes are
-node-renumbered : (n : ℕ) (names numbers : List ℕ) (e : Entry) → AreNumbers n names numbers
-    → IsPlaced n e → is_node (renumbered numbers e) ≡ is_node e
-node-renumbered n names numbers e are placed =
-    grind (arith, nat_tests, are.named e.second placed.within)
+module _ (n : ℕ) (names numbers : List ℕ) (are : AreNumbers n names numbers) where
+  -- a node has its bit at its new number
+  bit-carried : (y : List Bool) (v : ℕ) → v < n
+      → bit_at (bits_by names y) (at_place numbers v) ≡ bit_at y v
+  bit-carried y v h = grind (arith, nat_tests, get_or-map)
 
-pub entry-carried : (kind : Kind) (n : ℕ) (names numbers : List ℕ) (y : List Bool) (e : Entry)
-    → AreNumbers n names numbers → IsPlaced n e
-    → entry_energy kind (bits_by names y) (renumbered numbers e) ≡ entry_energy kind y e
-entry-carried kind n names numbers y e are placed =
-    let z = bits_by names y in
-    let a = at_place numbers e.first in
-    let b = at_place numbers e.second in
-    let node = node-renumbered n names numbers e are placed in
-    let low : e.first < n = omega (arith, placed.upward, placed.within) in
-    let one : bit_at z a ≡ bit_at y e.first = bit-carried n names numbers y e.first are low in
-    let two : bit_at z b ≡ bit_at y e.second =
-    bit-carried n names numbers y e.second are placed.within in
-    grind (arith, nat_tests, cases_lt, entry-pair, pair-turned, eqb-true)
+  -- new numbers are equal where the nodes are
+  node-renumbered : (e : Entry) → IsPlaced n e → is_node (renumbered numbers e) ≡ is_node e
+  node-renumbered e placed = grind (arith, nat_tests, are.named e.second placed.within)
 
-entries-carried : (kind : Kind) (n : ℕ) (names numbers : List ℕ) (y : List Bool)
-    → AreNumbers n names numbers → (es : List Entry) → AllByRecursion (IsPlaced n) es
-    → total_by (λ e. entry_energy kind (bits_by names y) (renumbered numbers e)) es
-    ≡ total_by (entry_energy kind y) es
-entries-carried kind n names numbers y are [] placed = refl
-entries-carried kind n names numbers y are (e ∷ es) placed =
-    λ i. entry-carried kind n names numbers y e are placed.0 i
-    +ℤ entries-carried kind n names numbers y are es placed.1 i
+  entry-carried : (kind : Kind) (y : List Bool) (e : Entry) → IsPlaced n e
+      → entry_energy kind (bits_by names y) (renumbered numbers e) ≡ entry_energy kind y e
+  entry-carried kind y e placed =
+      let z = bits_by names y in
+      let node = node-renumbered e placed in
+      let low : e.first < n = omega (arith, placed.upward, placed.within) in
+      let one = bit-carried y e.first low in
+      let two = bit-carried y e.second placed.within in
+      grind (arith, nat_tests, cases_lt, entry-pair, pair-turned, eqb-true)
+
+  entries-carried : (kind : Kind) (y : List Bool) (es : List Entry) → AllByRecursion (IsPlaced n) es
+      → total_by (λ e. entry_energy kind (bits_by names y) (renumbered numbers e)) es
+      ≡ total_by (entry_energy kind y) es
+  entries-carried kind y [] placed = refl
+  entries-carried kind y (e ∷ es) placed =
+      λ i. entry-carried kind y e placed.0 i +ℤ entries-carried kind y es placed.1 i
+
+pub taken_back : (n : ℕ) (names numbers : List ℕ) (y : List Bool)
+    → AreNumbers n names numbers → length y ≡ n → bits_by numbers (bits_by names y) ≡ y
+taken_back n names numbers y are wide =
+    let long = length-map numbers (bit_at (bits_by names y)) in
+    ext_get_or false (bits_by numbers (bits_by names y)) y (long ∙ are.counted ∙ sym wide) (λ v h.
+    let back = bit-carried n names numbers are y v in
+    grind (arith, nat_tests, get_or-map))
 
 pub energy-carried : (names numbers : List ℕ) (m r : Written) (y : List Bool) → IsWellFormed m
     → AreNumbers m.nodes names numbers → IsRenumbered numbers m r → length y ≡ m.nodes
@@ -87,7 +68,7 @@ energy-carried names numbers m r y formed are same wide =
     (λ i. total_by (entry_energy (same.kind i) z) r.entries)
     ∙ total_by-IsPermutation (entry_energy m.kind z) (map (renumbered numbers) m.entries) r.entries
     same.entries ∙ total_by-map (entry_energy m.kind z) (renumbered numbers) m.entries
-    ∙ entries-carried m.kind m.nodes names numbers y are m.entries
+    ∙ entries-carried m.nodes names numbers are m.kind y m.entries
     (recursion_from_All _ _ formed.placed)
 
 -- ---- least states

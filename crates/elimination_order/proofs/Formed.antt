@@ -1,6 +1,5 @@
 -- A model by new numbers is well formed, and its weights have the same sizes.
-use Rattle.elimination_order.proofs.Common.{nat_tests, ◌≡◌, ◌≢◌, ℕ, ◌<◌, ◌==◌, Bool, true, false, ◌&&◌, ◌||◌, pos, refl, sym, ap, subst, ◌∙◌, arith, List, [], ◌∷◌, ◌++◌, map, ◌+◌, All, IsTrue, AllByRecursion, IsPermutation, All-from_recursion, recursion_from_All, list_any-IsPermutation, sum_by-IsPermutation, sum_by-cons, Entry, Kind, Written, FitsKind, IsPlaced, IsPlain, IsWellFormed, has_node, is_chained, is_coupler, weight_total, AreChainsOf, AreNumbers, FitChains, at_place, lone_chains, renumbered}
-use Rattle.bits_model.specs.declared.output.Kind.TheVariants.{Qubo, Ising, Chimera}
+use Rattle.elimination_order.proofs.Common.{nat_tests, ◌≡◌, ◌≢◌, ℕ, ◌<◌, ◌==◌, Bool, true, false, ◌&&◌, ◌||◌, pos, refl, sym, ap, subst, ◌∙◌, arith, List, [], ◌∷◌, ◌++◌, map, All, IsTrue, AllByRecursion, IsPermutation, All-from_recursion, recursion_from_All, list_any-IsPermutation, sum_by-IsPermutation, sum_by-cons, Entry, Kind, Written, FitsKind, IsPlaced, IsPlain, IsWellFormed, has_node, is_chained, is_coupler, weight_total, AreChainsOf, AreNumbers, FitChains, at_place, lone_chains, renumbered, Qubo, Ising, Chimera}
 use Rattle.elimination_order.proofs.Kept.{coupler_same, shuffled_kept}
 
 -- ---- sizes
@@ -118,8 +117,10 @@ kind_kept names numbers m r ns es formed are kind nodes none parts moved up chai
     go (Chimera rows cols shore) is chained = record {
       sized = nodes ∙ is.sized;
       filled = chained.filled;
-      listed = λ q. ap (λ xs. has_node xs q) parts
-          ∙ listed_before q ns es (couplers_unlisted q es (recursion_from_All (λ e. e.first < e.second) es up))
-          ∙ chained.listed q;
+      listed = λ q. cc (
+        chained.listed q,
+        listed_before q ns es (couplers_unlisted q es
+            (recursion_from_All (λ e. e.first < e.second) es up)),
+      );
       enough = omega (arith, none);
     }

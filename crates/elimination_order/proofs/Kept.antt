@@ -1,27 +1,19 @@
 -- What entries keep by new numbers: nodes are nodes, couplers are couplers, and all are placed.
-use Rattle.elimination_order.proofs.Common.{nat_tests, ◌≡◌, ℕ, ◌<◌, min, max, sym, ap, subst, arith, List, [], ◌∷◌, ◌++◌, map, All, IfOk, Result, AllByRecursion, IsPermutation, map-append, All-from_recursion, recursion_from_All, All-permutation, IsPermutation-append, Entry, IsPlaced, is_coupler, AreNumbers, at_place, renumbered}
+use Rattle.elimination_order.proofs.Common.{nat_tests, ◌≡◌, ℕ, ◌<◌, min, max, ap, arith, List, [], ◌∷◌, ◌++◌, map, All, AllByRecursion, IsPermutation, map-append, All-from_recursion, recursion_from_All, All-permutation, IsPermutation-append, Entry, IsPlaced, is_coupler, AreNumbers, at_place, renumbered, All-map, get_or}
 
 -- what each entry keeps, all keep, in whatever order they come to stand
-kept_by_all : (numbers : List ℕ) (P Q : Entry → Type 0)
-    → ((e : Entry) → P e → Q (renumbered numbers e)) → (es : List Entry) → AllByRecursion P es
-    → AllByRecursion Q (map (renumbered numbers) es)
-kept_by_all numbers P Q one [] all = tt
-kept_by_all numbers P Q one (e ∷ es) all = (one e all.0, kept_by_all numbers P Q one es all.1)
-
 pub shuffled_kept : (numbers : List ℕ) (P Q : Entry → Type 0)
     → ((e : Entry) → P e → Q (renumbered numbers e)) → (es fs : List Entry) → All P es
     → IsPermutation (map (renumbered numbers) es) fs → All Q fs
 shuffled_kept numbers P Q one es fs all moved =
     All-permutation Q (map (renumbered numbers) es) fs moved
-    (All-from_recursion Q (map (renumbered numbers) es)
-    (kept_by_all numbers P Q one es (recursion_from_All P es all)))
+    (All-map Q (renumbered numbers) es (λ k d below. one (get_or es k d) (all k d below)))
 
 pub nodes_kept : (numbers : List ℕ) (es fs : List Entry) → All (λ e. e.first ≡ e.second) es
     → IsPermutation (map (renumbered numbers) es) fs → All (λ e. e.first ≡ e.second) fs
 nodes_kept numbers es fs all moved =
-    shuffled_kept numbers (λ e. e.first ≡ e.second) (λ e. e.first ≡ e.second) (λ e same.
-    let one : at_place numbers e.first ≡ at_place numbers e.second = ap (at_place numbers) same in
-    omega (arith, one)) es fs all moved
+    shuffled_kept numbers (λ e. e.first ≡ e.second) (λ e. e.first ≡ e.second)
+    (λ e same. omega (arith, ap (at_place numbers) same)) es fs all moved
 
 -- a coupler of nodes below n
 abbrev IsCouplerBelow : ℕ → Entry → Type 0
@@ -53,7 +45,7 @@ pub all_shuffled_by : (numbers : List ℕ) (ns es ms fs : List Entry)
     → IsPermutation (map (renumbered numbers) ns) ms → IsPermutation (map (renumbered numbers) es) fs
     → IsPermutation (map (renumbered numbers) (ns ++ es)) (ms ++ fs)
 all_shuffled_by numbers ns es ms fs p q =
-    subst (λ xs. IsPermutation xs (ms ++ fs)) (sym (map-append (renumbered numbers) ns es))
+    rw (map-append (renumbered numbers) ns es)
     (IsPermutation-append (map (renumbered numbers) ns) ms (map (renumbered numbers) es) fs p q)
 
 -- a coupler is one by new numbers, and a node is none
@@ -72,7 +64,3 @@ placed_kept n names numbers es fs are placed moved =
     let one = are.below e.first low in
     let two = are.below e.second at.within in
     record { upward = omega arith; within = omega (arith, one, two) }) es fs placed moved
-
-pub ok_weaker : {T E : Type 0} (P Q : T → Type 0) (r : Result T E) → ((x : T) → P x → Q x)
-    → IfOk r P → IfOk r Q
-ok_weaker P Q r f h = grind (arith, nat_tests)

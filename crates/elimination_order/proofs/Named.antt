@@ -1,5 +1,5 @@
 -- One node after another: what the words that are left say, and the marks.
-use Rattle.elimination_order.proofs.Common.{nat_tests, ◌≡◌, ℕ, ◌<◌, Bool, true, false, not, ◌&&◌, ◌||◌, eqb, ltb, refl, ap, arith, List, [], ◌∷◌, ◌++◌, length, get_or, set, length-set, get_or-set_other, get_or-set_same, append_assoc, append-nil, Ok, Err, Result, list_any-append, is_in, TextFault, Word, ◌>>=◌, AreMarks, after_front, new_node, nodes_at}
+use Rattle.elimination_order.proofs.Common.{nat_tests, ◌≡◌, ℕ, ◌<◌, Bool, true, false, ◌||◌, eqb, refl, ap, arith, List, [], ◌∷◌, ◌++◌, length, set, length-set, get_or-set_other, get_or-set_same, append_assoc, append-nil, Ok, Err, Result, list_any-append, is_in, TextFault, Word, ◌>>=◌, AreMarks, after_front, new_node, nodes_at, or-false}
 
 -- ---- words
 
@@ -27,14 +27,6 @@ pub front_none : (r : Result (List ℕ) TextFault) → after_front [] r ≡ r
 front_none r = grind (arith, nat_tests)
 
 -- ---- marks
-
--- the test of a word by marks is the test by the nodes that were named
-pub by_marks : (marks : List Bool) (named : List ℕ) (n : ℕ) → AreMarks (length marks) marks named
-    → (ltb n (length marks) && not (get_or marks n false)) ≡ (ltb n (length marks) && not (is_in named n))
-by_marks marks named n are = grind (arith, nat_tests)
-
-or-false : (b : Bool) → (b || false) ≡ b
-or-false b = grind (arith, nat_tests)
 
 in-push : (named : List ℕ) (n m : ℕ) → is_in (named ++ n ∷ []) m ≡ (is_in named m || eqb n m)
 in-push named n m = grind (arith, nat_tests, list_any-append, or-false)

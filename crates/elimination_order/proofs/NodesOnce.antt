@@ -1,11 +1,6 @@
 -- An order that was read names each node once.
-use Rattle.elimination_order.proofs.Common.{nat_tests, ◌≡◌, ℕ, ◌<◌, Bool, true, false, ◌||◌, eqb, refl, ap, subst, ◌∙◌, arith, List, [], ◌∷◌, ◌++◌, length, reverse, append_assoc, append-nil, Ok, Err, is_ok, ◌==◌, if◌then◌else◌, Result, AllByRecursion, IsDistinct, list_any, nat_eq_equiv, eqb-true, false≢true, All-from_recursion, IsDistinct-push, IsDistinct-from_apart, IsDistinct-IsPermutation, length-reverse, IsPermutation-reverse, All-permutation, is_in, TextFault, Word, ◌>>=◌, end_line, fault, AreNodes, all_named, new_node, nodes_at, order_of}
+use Rattle.elimination_order.proofs.Common.{nat_tests, ◌≡◌, ℕ, ◌<◌, Bool, true, false, ◌||◌, eqb, refl, ap, subst, ◌∙◌, arith, List, [], ◌∷◌, ◌++◌, length, reverse, append_assoc, append-nil, Ok, Err, is_ok, ◌==◌, if◌then◌else◌, Result, AllByRecursion, IsDistinct, list_any, nat_eq_equiv, eqb-true, false≢true, All-from_recursion, IsDistinct-push, IsDistinct-from_apart, IsDistinct-IsPermutation, length-reverse, IsPermutation-reverse, All-permutation, is_in, TextFault, Word, ◌>>=◌, end_line, fault, AreNodes, all_named, new_node, nodes_at, order_of, all_append}
 use Rattle.whole_text.specs.declared.faults.TextKind.TheVariants as kinds
-
--- the value of a result, or another
-abbrev value_or : {A : Type 0} → A → Result A TextFault → A
-value_or d (Ok x) = x
-value_or d (Err f) = d
 
 test_passed : {A : Type 0} (b : Bool) (x y : A) (f : TextFault) → (if b then Ok x else Err f) ≡ Ok y
     → (b ≡ true) × (x ≡ y)
@@ -22,11 +17,6 @@ eqb_flips m x = grind (arith, nat_tests)
 pub in_flips : (xs : List ℕ) (m : ℕ) → list_any (eqb m) xs ≡ is_in xs m
 in_flips [] m = refl
 in_flips (x ∷ xs) m = λ i. eqb_flips m x i || in_flips xs m i
-
-low_push : (n : ℕ) (us : List ℕ) (m : ℕ) → AllByRecursion (λ v. v < n) us → m < n
-    → AllByRecursion (λ v. v < n) (us ++ m ∷ [])
-low_push n [] m low h = (h, tt)
-low_push n (u ∷ us) m low h = (low.0, low_push n us m low.1 h)
 
 -- nodes, each of them once
 abbrev Once : ℕ → List ℕ → Type 0
@@ -54,11 +44,10 @@ nodes_once n named (w ∷ ws) vs read once =
         let f = new_facts n named w m new in
         let more = later m us said (
           IsDistinct-push nat_eq_equiv named m once.0 (in_flips named m ∙ f.1),
-          low_push n named m once.1 f.0,
+          all_append (λ v. v < n) named (m ∷ []) once.1 (f.0, tt),
         ) in
-        let all : m ∷ us ≡ vs = ap (value_or []) is in
-        subst (λ us. Once n (named ++ us)) all
-        (subst (Once n) (append_assoc named (m ∷ []) us) more)
+        let all : m ∷ us ≡ vs = cc is in
+        subst (λ us. Once n (named ++ us)) all (rw append_assoc at more)
 
     first : Later n named ws → (r : Result ℕ TextFault) → new_node n named w ≡ r
         → (r >>= (λ m. nodes_at n (named ++ m ∷ []) ws >>= (λ others. Ok (m ∷ others)))) ≡ Ok vs

@@ -1,31 +1,14 @@
 -- The numbers of nodes, where each node has a number.
-use Rattle.elimination_order.proofs.Common.{nat_tests, ◌≡◌, ◌≢◌, ℕ, suc, ◌+◌, ◌<◌, ◌≤◌, Bool, true, false, ◌||◌, eqb, refl, sym, ap, subst, ◌∙◌, arith, inl, inr, List, [], ◌∷◌, length, set, get_or-set_other, get_or-set_same, AllByRecursion, list_any, cases_eq, ne_eqb, false≢true, All-from_recursion, recursion_from_All, IsDistinct-cons, apart_from_distinct, length-le_from_distinct_below, AreNodes, AreNumbers, at_place}
-
--- a place of a number
-pub record Place (v : ℕ) (xs : List ℕ) : Type 0 where
-  pub at : ℕ
-  pub within : at < length xs
-  pub is : at_place xs at ≡ v
-
-found : (v : ℕ) (xs : List ℕ) → list_any (eqb v) xs ≡ true → Place v xs
-found v [] e = absurd (false≢true e)
-found v (x ∷ xs) e = elim (cases_eq v x) [
-  | inl same ↦ record { at = 0; within = omega arith; is = sym same }
-  | inr other ↦
-      let f = found v xs (sym (ap (λ b. b || list_any (eqb v) xs) (ne_eqb v x other)) ∙ e) in
-      record { at = suc f.at; within = omega (arith, f.within); is = f.is }
-]
-
-neither : (a b : Bool) → (a || b) ≡ false → (a ≡ false) × (b ≡ false)
-neither a b is = (grind arith, grind arith)
+use Rattle.elimination_order.proofs.Common.{nat_tests, ◌≡◌, ℕ, suc, ◌+◌, ◌<◌, ◌≤◌, Bool, true, false, eqb, refl, sym, ap, subst, ◌∙◌, arith, List, [], or_parts, ◌∷◌, length, set, get_or-set_other, get_or-set_same, AllByRecursion, list_any, All-from_recursion, recursion_from_All, IsDistinct-cons, apart_from_distinct, length-le_from_distinct_below, AreNodes, AreNumbers, at_place}
+use Rattle.elimination_order.proofs.Shuffled.{At, member_at}
 
 absent : (v : ℕ) (xs : List ℕ) → list_any (eqb v) xs ≡ false
     → AllByRecursion (λ x. eqb v x ≡ false) xs
 absent v [] e = tt
-absent v (x ∷ xs) e = let n = neither (eqb v x) (list_any (eqb v) xs) e in (n.0, absent v xs n.1)
+absent v (x ∷ xs) e = let n = or_parts (eqb v x) (list_any (eqb v) xs) e in (n.0, absent v xs n.1)
 
 -- each node has a place: where one had none, there would be too many nodes
-pub placed : (n : ℕ) (names : List ℕ) (v : ℕ) → AreNodes n names → v < n → Place v names
+pub placed : (n : ℕ) (names : List ℕ) (v : ℕ) → AreNodes n names → v < n → At v names
 placed n names v are h = go (list_any (eqb v) names) refl
   where
     more : list_any (eqb v) names ≡ false → suc (length names) ≤ n
@@ -33,10 +16,11 @@ placed n names v are h = go (list_any (eqb v) names) refl
         let all = All-from_recursion (λ u. u < n) (v ∷ names) (h, recursion_from_All _ _ are.below) in
         length-le_from_distinct_below (v ∷ names) n
         (IsDistinct-cons eqb v names (absent v names none) are.apart)
-        (λ q has. let p = found q (v ∷ names) has in subst (λ u. u < n) p.is (all p.at 0 p.within))
+        (λ q has. let p = member_at q (v ∷ names) has in subst (λ u. u < n) (p.is 0)
+        (all p.at 0 p.within))
 
-    go : (b : Bool) → list_any (eqb v) names ≡ b → Place v names
-    go true e = found v names e
+    go : (b : Bool) → list_any (eqb v) names ≡ b → At v names
+    go true e = member_at v names e
     go false e = absurd (omega (arith, more e, are.count))
 
 pub numbers_complete : (n : ℕ) (names numbers : List ℕ) → AreNodes n names → length numbers ≡ n
@@ -47,7 +31,7 @@ numbers_complete n names numbers are long each = record {
   below = λ v h.
       let p = placed n names v are h in
       subst (λ k. k < n) (sym (number v h)) (omega (arith, p.within, are.count));
-  named = λ v h. ap (at_place names) (number v h) ∙ (placed n names v are h).is;
+  named = λ v h. ap (at_place names) (number v h) ∙ (placed n names v are h).is 0;
   within = λ k h. are.below k 0 (omega (arith, h, are.count));
   numbered = each;
 }
@@ -55,7 +39,7 @@ numbers_complete n names numbers are long each = record {
     number : (v : ℕ) (h : v < n) → at_place numbers v ≡ (placed n names v are h).at
     number v h =
         let p = placed n names v are h in
-        ap (at_place numbers) (sym p.is) ∙ each p.at (omega (arith, p.within, are.count))
+        ap (at_place numbers) (sym (p.is 0)) ∙ each p.at (omega (arith, p.within, are.count))
 
 -- one node more has its number
 pub numbers_more : (n : ℕ) (names numbers : List ℕ) (k : ℕ) → AreNodes n names

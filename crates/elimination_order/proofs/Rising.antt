@@ -1,8 +1,7 @@
 -- Entries that are sorted, no two of them of one pair, are in order: those of nodes, and then couplers.
-use Rattle.elimination_order.proofs.Common.{nat_tests, ◌≡◌, ◌≢◌, ℕ, suc, ◌+◌, ◌<◌, ◌≤◌, ◌^◌, cond, refl, subst, arith, inl, inr, List, [], ◌∷◌, ◌++◌, map, All, ◌==◌, count_by, AllByRecursion, IsPermutation, IsNonDecreasingBy, IsStrictlySortedBy, cases_eq, All-from_recursion, recursion_from_All, sum_by-IsPermutation, sum_by-cons, Entry, IsPlaced, entry_cmp, pair_number, ArePairs, Before, Rises, ordered_from_rising, AreNumbers, renumbered}
-use Rattle.std.specs.declared.cmp.Ordering.TheVariants.{Less}
+use Rattle.elimination_order.proofs.Common.{nat_tests, ◌≡◌, ◌≢◌, ℕ, suc, ◌+◌, ◌<◌, ◌≤◌, ◌^◌, cond, refl, arith, inl, inr, List, [], ◌∷◌, ◌++◌, map, All, ◌==◌, count_by, AllByRecursion, IsPermutation, IsNonDecreasingBy, IsStrictlySortedBy, cases_eq, All-from_recursion, recursion_from_All, sum_by-IsPermutation, sum_by-cons, Entry, IsPlaced, entry_cmp, pair_number, ArePairs, Before, Rises, ordered_from_rising, AreNumbers, renumbered, Less}
 use Rattle.elimination_order.proofs.Kept.{placed_kept}
-use Rattle.elimination_order.proofs.Apart.{AreApart, all_front, all_rest, differ_front, differ_rest, renumbered_apart, sorted_differ}
+use Rattle.elimination_order.proofs.Apart.{AreApart, all_parts, all_weaker, differ_parts, renumbered_apart, sorted_differ}
 
 -- ---- how many entries have a number
 
@@ -27,9 +26,7 @@ few_numbered (e ∷ es) apart n =
     let few = few_numbered es apart.1 n in
     elim (cases_eq (pair_number e) n) [
       | inl same ↦
-          let none = none_numbered n es
-          (subst (λ m. AllByRecursion (λ f. m ≢ pair_number f) es) same apart.0) in
-          grind (arith, nat_tests)
+          let none = none_numbered n es (rw (← same) apart.0) in grind (arith, nat_tests)
       | inr other ↦ grind (arith, nat_tests)
     ]
 
@@ -61,11 +58,9 @@ rises_from_sorted (e ∷ es) sorted few =
 pub shuffled_rises : (es fs : List Entry) → AreApart es → IsPermutation es fs
     → IsNonDecreasingBy pair_number fs → Rises fs
 shuffled_rises es fs apart moved sorted =
-    rises_from_sorted fs sorted (λ n. omega (
-      arith,
-      sum_by-IsPermutation (λ f. cond (pair_number f == n) 1 0) es fs moved,
-      few_numbered es apart n,
-    ))
+    rises_from_sorted fs sorted (λ n.
+    let same = sum_by-IsPermutation (λ f. cond (pair_number f == n) 1 0) es fs moved in
+    omega (arith, same, few_numbered es apart n))
 
 -- ---- nodes, and then couplers
 
@@ -84,14 +79,10 @@ node_before e f one two less = grind (arith, nat_tests)
 coupler_after : (e f : Entry) → e.first ≡ e.second → f.first < f.second → entry_cmp e f ≡ Less
 coupler_after e f one up = grind (arith, nat_tests)
 
-before_couplers : (e : Entry) (fs : List Entry) → e.first ≡ e.second → AreCouplers fs
-    → AllByRecursion (λ f. entry_cmp e f ≡ Less) fs
-before_couplers e [] one up = tt
-before_couplers e (f ∷ fs) one up = (coupler_after e f one up.0, before_couplers e fs one up.1)
-
 before_rest : (e : Entry) (es fs : List Entry) → e.first ≡ e.second → AreNodes es → AreCouplers fs
     → Before e es → AllByRecursion (λ f. entry_cmp e f ≡ Less) (es ++ fs)
-before_rest e [] fs one nodes up before = before_couplers e fs one up
+before_rest e [] fs one nodes up before =
+    all_weaker (λ f. f.first < f.second) (λ f. entry_cmp e f ≡ Less) (λ f. coupler_after e f one) fs up
 before_rest e (d ∷ es) fs one nodes up before =
     (node_before e d one nodes.0 before.0, before_rest e es fs one nodes.1 up before.1)
 
@@ -118,15 +109,13 @@ pub renumbered_ordered : (n : ℕ) (names numbers : List ℕ) (ns es ms fs : Lis
     → IsPermutation (map (renumbered numbers) es) fs → IsNonDecreasingBy pair_number fs
     → IsStrictlySortedBy entry_cmp (ms ++ fs)
 renumbered_ordered n names numbers ns es ms fs are few placed sorted nodes up moved in_order moved2 in_order2 =
-    let all = recursion_from_All (IsPlaced n) (ns ++ es) placed in
-    let differ = sorted_differ (ns ++ es) sorted in
-    let one = renumbered_apart n names numbers ns are few (all_front (IsPlaced n) ns es all)
-    (differ_front ns es differ) in
-    let two = renumbered_apart n names numbers es are few (all_rest (IsPlaced n) ns es all)
-    (differ_rest ns es differ) in
+    let all = all_parts (IsPlaced n) ns es (recursion_from_All (IsPlaced n) (ns ++ es) placed) in
+    let differ = differ_parts ns es (sorted_differ (ns ++ es) sorted) in
+    let one = renumbered_apart n names numbers ns are few all.0 differ.0 in
+    let two = renumbered_apart n names numbers es are few all.1 differ.1 in
     let couplers = recursion_from_All (λ e. e.first < e.second) fs up in
     let here = recursion_from_All (IsPlaced n) fs
-    (placed_kept n names numbers es fs are (All-from_recursion (IsPlaced n) es (all_rest (IsPlaced n) ns es all)) moved2) in
+    (placed_kept n names numbers es fs are (All-from_recursion (IsPlaced n) es all.1) moved2) in
     nodes_then ms fs (recursion_from_All (λ e. e.first ≡ e.second) ms nodes) couplers
     (shuffled_rises (map (renumbered numbers) ns) ms one moved in_order)
     (ordered_from_rising fs (pairs_from n fs few couplers here)

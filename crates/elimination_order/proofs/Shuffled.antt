@@ -1,5 +1,5 @@
 -- Nodes, each once, in any order: they are the numbers from 0 on, shuffled.
-use Rattle.elimination_order.proofs.Common.{false_from_ne_true, nat_tests, ◌≡◌, ℕ, suc, ◌<◌, ◌≤◌, true, false, ◌||◌, eqb, refl, sym, ap, ◌∙◌, arith, inl, inr, List, [], ◌∷◌, length, get_or, remove, AllByRecursion, IsDistinct, list_any, range_with_len, IsPermutation, cases_eq, cases_lt, eq-eqb, ne_eqb, false≢true, length-range_with_len, get_or-range_with_len, list_any_at, IsPermutation-refl, IsPermutation-cons, IsPermutation-sym, IsPermutation-trans, IsPermutation-remove, list_any-IsPermutation, IsDistinct-IsPermutation, IsDistinct-from_apart}
+use Rattle.elimination_order.proofs.Common.{false_from_ne_true, nat_tests, ◌≡◌, ℕ, suc, ◌<◌, ◌≤◌, true, false, ◌||◌, eqb, refl, sym, ap, ◌∙◌, arith, inl, inr, List, [], ◌∷◌, length, get_or, remove, IsDistinct, list_any, range_with_len, IsPermutation, cases_eq, cases_lt, eq-eqb, false≢true, length-range_with_len, get_or-range_with_len, list_any_at, IsPermutation-refl, IsPermutation-cons, IsPermutation-sym, IsPermutation-trans, IsPermutation-remove, list_any-IsPermutation, IsDistinct-IsPermutation, IsDistinct-from_apart, All-from_recursion, IsDistinct-head, IsDistinct-tail, list_any_none}
 use Rattle.elimination_order.proofs.NodesOnce.{eqb_flips}
 
 -- a place of a number, whatever stands past the end
@@ -13,23 +13,12 @@ member_at v [] e = absurd (false≢true e)
 member_at v (x ∷ xs) e = elim (cases_eq v x) [
   | inl same ↦ record { at = 0; within = omega arith; is = λ d. sym same }
   | inr other ↦
-      let f = member_at v xs (sym (ap (λ b. b || list_any (eqb v) xs) (ne_eqb v x other)) ∙ e) in
+      let f = member_at v xs (grind (arith, nat_tests)) in
       record { at = suc f.at; within = omega (arith, f.within); is = f.is }
 ]
 
--- no number of a list is v
-none_is : (v : ℕ) (xs : List ℕ) → AllByRecursion (λ x. eqb v x ≡ false) xs
-    → list_any (eqb v) xs ≡ false
-none_is v [] all = refl
-none_is v (x ∷ xs) all = λ i. (all.0 i || none_is v xs all.1 i)
-
 distinct_head : (x : ℕ) (xs : List ℕ) → IsDistinct eqb (x ∷ xs) → list_any (eqb x) xs ≡ false
-unfolding IsDistinct
-distinct_head x xs d = none_is x xs d.0
-
-distinct_tail : (x : ℕ) (xs : List ℕ) → IsDistinct eqb (x ∷ xs) → IsDistinct eqb xs
-unfolding IsDistinct
-distinct_tail x xs d = d.1
+distinct_head x xs d = list_any_none (eqb x) xs (All-from_recursion _ xs (IsDistinct-head eqb x xs d))
 
 -- the same numbers are members
 abbrev AreAlike : List ℕ → List ℕ → Type 0
@@ -54,7 +43,7 @@ shuffled_alike (x ∷ xs) ys d e alike =
     let here : AreAlike (x ∷ xs) (x ∷ rest) =
     λ q. alike q ∙ list_any-IsPermutation (eqb q) ys (x ∷ rest) moved in
     IsPermutation-trans (x ∷ xs) (x ∷ rest) ys (IsPermutation-cons x xs rest
-    (shuffled_alike xs rest (distinct_tail x xs d) (distinct_tail x rest apart)
+    (shuffled_alike xs rest (IsDistinct-tail eqb x xs d) (IsDistinct-tail eqb x rest apart)
     (alike_rest x xs rest here (distinct_head x xs d) (distinct_head x rest apart))))
     (IsPermutation-sym ys (x ∷ rest) moved)
 
@@ -66,10 +55,7 @@ at_range n i d h = grind (arith, nat_tests, get_or-range_with_len)
 range_distinct : (n : ℕ) → IsDistinct eqb (range_with_len 0 n)
 range_distinct n =
     IsDistinct-from_apart eqb (range_with_len 0 n) (λ i j d less within.
-    let long = length-range_with_len 0 n in
-    let one = at_range n i d (omega (arith, less, within, long)) in
-    let two = at_range n j d (omega (arith, within, long)) in
-    (λ k. eqb (one k) (two k)) ∙ ne_eqb i j (λ same. absurd (omega (arith, same, less))))
+    let long = length-range_with_len 0 n in grind (arith, nat_tests, at_range))
 
 -- a list of numbers below n, all of them
 abbrev IsAll : ℕ → List ℕ → Type 0
@@ -91,11 +77,8 @@ shuffled_range n xs apart all =
     let range : IsAll n (range_with_len 0 n) = (
       length-range_with_len 0 n,
       λ k d h. omega (arith, h, at_range n k d h),
-      λ v h. record {
-        at = v;
-        within = omega (arith, h, length-range_with_len 0 n);
-        is = λ d. at_range n v d h;
-      },
+      λ v h.
+          record { at = v; within = omega (arith, length-range_with_len); is = λ d. at_range n v d h },
     ) in
     shuffled_alike (range_with_len 0 n) xs (range_distinct n) apart (λ q. elim (cases_lt q n) [
       | inl h ↦ member n (range_with_len 0 n) q range h ∙ sym (member n xs q all h)

@@ -1,13 +1,9 @@
 -- The usual order, from the last node to node 0.
-use Rattle.elimination_order.proofs.Common.{nat_tests, ◌≡◌, ℕ, Bool, false, sym, ◌∙◌, arith, List, length, reverse, ◌↔◌, range_with_len, ext_get_or, get_or-map-range_with_len, length-map-range_with_len, Form, bit_at, IsFirstLeast, IsFirstLeastBy, bits_by}
+use Rattle.elimination_order.proofs.Common.{nat_tests, ◌≡◌, ℕ, Bool, false, sym, arith, List, length, reverse, ◌↔◌, range_with_len, Form, bit_at, IsFirstLeast, IsFirstLeastBy, bits_by, fill_by_all, refl}
 
 -- the bits of all nodes in turn are the state
 all_bits : (n : ℕ) (y : List Bool) → length y ≡ n → bits_by (range_with_len 0 n) y ≡ y
-all_bits n y wide =
-    let long : length (bits_by (range_with_len 0 n) y) ≡ length y =
-    length-map-range_with_len (bit_at y) 0 n ∙ sym wide in
-    ext_get_or false (bits_by (range_with_len 0 n) y) y long
-    (λ i h. get_or-map-range_with_len (bit_at y) 0 n i i false (omega (arith, h, long, wide)) (omega arith))
+all_bits n y wide = sym (fill_by_all (bit_at y) y n false wide (λ i below. refl))
 
 pub usual_order : (g : Form) (order : List ℕ) (y : List Bool)
     → reverse order ≡ range_with_len 0 g.bits → IsFirstLeastBy (reverse order) g y ↔ IsFirstLeast g y

@@ -32,7 +32,7 @@ pub use Rattle.embedding_check.specs.Embeddings.{Embedding, IsEmbedding, IsTree,
 pub use Rattle.embedding_check.specs.Checked.{IsChecked, IsPlace, IsBefore, IsPlaceOf, ArePlaces}
 pub use Rattle.embedding_check.specs.Search.{qubit_at, IsSortedChain, Found, waits_at, parent_at, NoneJoined, IsFirst, LevelTakes, IsSearched, IsWithin, AtLevel, emptied, taken, Moves, Takes, Spreads, waiting}
 pub use Rattle.embedding_check.specs.Least.{IsPlaceIn, IsLeast, IsLeastPair, IsAhead, IsFacedAhead, IsNumberedAhead, IsArrow}
-pub use Rattle.embedding_check.specs.Faults.{IsFaultAmong, IsFault, IsFirstAt, Exists, IsNew, IsReachedAt, IsUncoupled, number_at, IsInside, IsApart, AreSearchable, IsLinked, NamesUncoupled}
+pub use Rattle.embedding_check.specs.Faults.{IsFaultAmong, IsFault, IsFirstAt, Exists, IsNew, IsReachedAt, IsUncoupled, number_at, IsInside, IsApart, AreSearchable, IsLinked}
 pub use Rattle.embedding_check.specs.declared.noted.Mark.{Mark}
 pub use Rattle.embedding_check.specs.Owners.{AreOwners, owner_of, nobody, IsRun}
 pub use Rattle.embedding_check.specs.Noted.{marked_pair, noted_at, Notes, ordered, IsChainJoin, IsJoin, IsRunJoin, IsSpanJoin, AreNotedTo, AreNotedFrom, IsQubitJoin, IsNumberJoin, AreNoted}

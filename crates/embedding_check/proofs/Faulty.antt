@@ -64,9 +64,8 @@ all_of_places map P all = λ k d h.
     (λ j e low. subst (P (chain_of map k)) (default_free (chain_of map k) j 0 e low) (all k h j low))
 
 pub is_inside : (qubits : ℕ) (f : IsingContent) (map : List (List ℕ)) → length map ≡ length f.fields
-    → ((u : ℕ) → u < length map → chain_of map u ≢ [])
-    → ((u : ℕ) → u < length map → (j : ℕ) → j < length (chain_of map u) → Exists qubits map u j)
-    → IsInside (λ q. q < qubits) f map
+    → ((u : ℕ) → u < length map → chain_of map u ≢ []) → ((u : ℕ) → u < length map → (j : ℕ)
+    → j < length (chain_of map u) → Exists qubits map u j) → IsInside (λ q. q < qubits) f map
 is_inside qubits f map counted filled within = record {
   listed = record { listed = record { counted = counted }; filled = is_filled map filled };
   within = all_of_places map (λ chain q. q < qubits) within;
@@ -96,8 +95,7 @@ is_valid joined qubits f map places linked placed = record {
   connected = linked.connected;
   coupled = zip_all (λ (c : Entry) place. IsPlace joined (chain_of map c.first) (chain_of map c.second) place)
       (λ (c : Entry). (pair : ℕ × ℕ) × IsCrossing joined (chain_of map c.first) (chain_of map c.second) pair)
-      f.couplings places
-      (λ c place p. (place, p.crossing)) placed;
+      f.couplings places (λ c place p. (place, p.crossing)) placed;
 }
 
 -- ---- faults

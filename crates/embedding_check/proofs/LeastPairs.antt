@@ -1,5 +1,5 @@
 -- The least joined pair between two chains.
-use Rattle.embedding_check.proofs.Common.{nat_tests, ◌≡◌, ℕ, ◌<◌, ◌≤◌, ◌⊎◌, inl, inr, true, false, ◌&&◌, List, length, refl, sym, subst, arith, Option, Some, None, cases_eq, cases_lt, or_cases, and_parts, and_from, or_left, or_right, Span, CanBeJoined, Joins, is_in, IsCrossing, qubit_at, IsLeast, IsLeastPair, IsAhead, IsFacedAhead, IsNumberedAhead, IsArrow, IsPlaceIn, IsBefore}
+use Rattle.embedding_check.proofs.Common.{nat_tests, ◌≡◌, ℕ, ◌<◌, ◌≤◌, ◌⊎◌, inl, inr, true, false, List, length, refl, sym, subst, arith, Option, Some, None, cases_eq, cases_lt, Span, CanBeJoined, Joins, IsCrossing, qubit_at, IsLeast, IsLeastPair, IsAhead, IsFacedAhead, IsNumberedAhead, IsArrow, IsPlaceIn, IsBefore}
 use Rattle.embedding_check.proofs.Taking.{rising_weak}
 use Rattle.embedding_check.proofs.Sorting.{is_in_at, at_of_in}
 
@@ -36,10 +36,9 @@ some_faced joined a chain span k rising before below above from end linked = (
 
 -- ---- the lesser of two
 
-pub least_of_two : (S T : ℕ → Type 0) (x y r : Option ℕ) → IsLeast S x → IsLeast T y → (x ≡ None → r ≡ y)
-    → (y ≡ None → r ≡ x)
-    → ((m n : ℕ) → x ≡ Some m → y ≡ Some n → ((m ≤ n) × (r ≡ Some m)) ⊎ ((n ≤ m) × (r ≡ Some n)))
-    → IsLeast (λ b. S b ⊎ T b) r
+pub least_of_two : (S T : ℕ → Type 0) (x y r : Option ℕ) → IsLeast S x → IsLeast T y → (x ≡ None → r
+    ≡ y) → (y ≡ None → r ≡ x) → ((m n : ℕ) → x ≡ Some m → y ≡ Some n
+    → ((m ≤ n) × (r ≡ Some m)) ⊎ ((n ≤ m) × (r ≡ Some n))) → IsLeast (λ b. S b ⊎ T b) r
 least_of_two S T None None r s t left right both =
     rw (left refl) (λ b p. let one = s b in let two = t b in grind (arith, nat_tests))
 least_of_two S T None (Some n) r s t left right both =
@@ -56,35 +55,31 @@ pub least_same : (S T : ℕ → Type 0) (r : Option ℕ) → ((b : ℕ) → S b 
 least_same S T None to from least = λ b t. least b (from b t)
 least_same S T (Some r) to from least = (to r least.0, λ b t. least.1 b (from b t))
 
-pub ahead_ways : (joined : Joins) (a : ℕ) (chain : List ℕ) (span : Span) (before after x y z w r : Option ℕ)
-    → ((b : ℕ) → IsAhead joined a chain b → CanBeJoined span before after b)
-    → IsLeast (IsFacedAhead joined a chain span) x
+pub ahead_ways : (joined : Joins) (a : ℕ) (chain : List ℕ) (span : Span)
+    (before after x y z w r : Option ℕ) → ((b : ℕ) → IsAhead joined a chain b
+    → CanBeJoined span before after b) → IsLeast (IsFacedAhead joined a chain span) x
     → IsLeast (λ b. IsNumberedAhead joined a chain before b ⊎ IsNumberedAhead joined a chain after b) w
-    → (x ≡ None → r ≡ w) → (w ≡ None → r ≡ x)
-    → ((m n : ℕ) → x ≡ Some m → w ≡ Some n → ((m ≤ n) × (r ≡ Some m)) ⊎ ((n ≤ m) × (r ≡ Some n)))
-    → IsLeast (IsAhead joined a chain) r
+    → (x ≡ None → r ≡ w) → (w ≡ None → r ≡ x) → ((m n : ℕ) → x ≡ Some m → w ≡ Some n
+    → ((m ≤ n) × (r ≡ Some m)) ⊎ ((n ≤ m) × (r ≡ Some n))) → IsLeast (IsAhead joined a chain) r
 ahead_ways joined a chain span before after x y z w r findable faced line left right both =
     least_same
     (λ b. IsFacedAhead joined a chain span b ⊎ (IsNumberedAhead joined a chain before b ⊎ IsNumberedAhead joined a chain after b))
-    (IsAhead joined a chain) r
-    (λ b p. grind (arith, nat_tests))
+    (IsAhead joined a chain) r (λ b p. grind (arith, nat_tests))
     (λ b h. let ways = findable b h in grind (arith, nat_tests))
     (least_of_two (IsFacedAhead joined a chain span)
     (λ b. IsNumberedAhead joined a chain before b ⊎ IsNumberedAhead joined a chain after b) x w r faced line left right both)
 
 -- ---- arrows
 
-pub arrow_none : (joined : Joins) (c d : List ℕ)
-    → ((i : ℕ) → i < length c → (b : ℕ) → IsAhead joined (qubit_at c i) d b → ⊥)
-    → (p : ℕ × ℕ) → IsArrow joined c d p → ⊥
+pub arrow_none : (joined : Joins) (c d : List ℕ) → ((i : ℕ) → i < length c → (b : ℕ)
+    → IsAhead joined (qubit_at c i) d b → ⊥) → (p : ℕ × ℕ) → IsArrow joined c d p → ⊥
 arrow_none joined c d none p f =
     let i = at_of_in c p.0 f.from in
     none i.0 i.1 p.1 (subst (λ x. IsAhead joined x d p.1) (sym i.2) f.ahead)
 
-pub arrow_some : (joined : Joins) (c d : List ℕ) (k b : ℕ)
-    → ((i j : ℕ) → i < j → j < length c → qubit_at c i < qubit_at c j) → k < length c
-    → ((i : ℕ) → i < k → (b : ℕ) → IsAhead joined (qubit_at c i) d b → ⊥)
-    → IsLeast (IsAhead joined (qubit_at c k) d) (Some b)
+pub arrow_some : (joined : Joins) (c d : List ℕ) (k b : ℕ) → ((i j : ℕ) → i < j → j < length c
+    → qubit_at c i < qubit_at c j) → k < length c → ((i : ℕ) → i < k → (b : ℕ)
+    → IsAhead joined (qubit_at c i) d b → ⊥) → IsLeast (IsAhead joined (qubit_at c k) d) (Some b)
     → IsLeastPair (IsArrow joined c d) (Some (qubit_at c k, b))
 arrow_some joined c d k b rising below none least = (
   record { from = is_in_at c k (qubit_at c k) below refl; ahead = least.0 },
@@ -120,14 +115,10 @@ pub place_of_arrows : (joined : Joins) (c d : List ℕ) (r : Option (ℕ × ℕ)
 place_of_arrows joined c d r least = go r least
   where
     way : (p : ℕ × ℕ) → IsCrossing joined c d p → IsArrow joined c d p ⊎ IsArrow joined d c p
-    way p x = elim (or_cases (is_in c p.0 && is_in d p.1) (is_in d p.0 && is_in c p.1) x.between.ends) [
-      | inl h ↦ let e = and_parts _ _ h in inl (record { from = e.0; ahead = record { inside = e.1; above = x.between.upward; linked = x.linked } })
-      | inr h ↦ let e = and_parts _ _ h in inr (record { from = e.0; ahead = record { inside = e.1; above = x.between.upward; linked = x.linked } })
-    ]
+    way p x = grind (arith, nat_tests)
 
     back : (p : ℕ × ℕ) → IsArrow joined c d p ⊎ IsArrow joined d c p → IsCrossing joined c d p
-    back p (inl f) = record { between = record { upward = f.ahead.above; ends = or_left _ _ (and_from _ _ f.from f.ahead.inside) }; linked = f.ahead.linked }
-    back p (inr f) = record { between = record { upward = f.ahead.above; ends = or_right _ _ (and_from _ _ f.from f.ahead.inside) }; linked = f.ahead.linked }
+    back p x = grind (arith, nat_tests)
 
     go : (r : Option (ℕ × ℕ)) → IsLeastPair (λ p. IsArrow joined c d p ⊎ IsArrow joined d c p) r → IsPlaceIn joined c d r
     go None least = λ p x. least p (way p x)

@@ -25,7 +25,7 @@ further joined chain p q steps w inside linked = record {
   ends = end_on (first_of chain) q steps;
 }
 
--- the last join of a walk
+-- the last join of a walk: the qubit of the chain before it, and the walk to that
 record LastJoin (joined : Joins) (chain : List ℕ) (from q n : ℕ) : Type 0 where
   before : ℕ
   steps : List ℕ
@@ -33,18 +33,18 @@ record LastJoin (joined : Joins) (chain : List ℕ) (from q n : ℕ) : Type 0 wh
   ends : end_of from steps ≡ before
   short : length steps ≡ n
   linked : joined before q ≡ true
-  inside : is_in chain q ≡ true
+  inside : is_in chain before ≡ true
 
-last_join : (joined : Joins) (chain : List ℕ) (from q n : ℕ) (steps : List ℕ) → IsWalk joined chain from steps
-    → end_of from steps ≡ q → length steps ≡ suc n → LastJoin joined chain from q n
-last_join joined chain from q n [] walk ends long = absurd (omega (arith, long))
-last_join joined chain from q n (p ∷ []) walk ends long =
+last_join : (joined : Joins) (chain : List ℕ) (from q n : ℕ) (steps : List ℕ)
+    → is_in chain from ≡ true → IsWalk joined chain from steps → end_of from steps ≡ q
+    → length steps ≡ suc n → LastJoin joined chain from q n
+last_join joined chain from q n [] first walk ends long = absurd (omega (arith, long))
+last_join joined chain from q n (p ∷ []) first walk ends long =
     let linked : joined from q ≡ true = rw (← ends) walk.1 in
-    let inside : is_in chain q ≡ true = rw (← ends) walk.0 in
-    record { before = from; steps = []; walk = tt; ends = refl; short = omega (arith, long); linked = linked; inside = inside }
-last_join joined chain from q zero (p ∷ r ∷ rs) walk ends long = absurd (omega (arith, long))
-last_join joined chain from q (suc n) (p ∷ r ∷ rs) walk ends long =
-    let last = last_join joined chain p q n (r ∷ rs) walk.2 ends (omega (arith, long)) in
+    record { before = from; steps = []; walk = tt; ends = refl; short = omega (arith, long); linked = linked; inside = first }
+last_join joined chain from q zero (p ∷ r ∷ rs) first walk ends long = absurd (omega (arith, long))
+last_join joined chain from q (suc n) (p ∷ r ∷ rs) first walk ends long =
+    let last = last_join joined chain p q n (r ∷ rs) walk.0 walk.2 ends (omega (arith, long)) in
     record {
       before = last.before;
       steps = p ∷ last.steps;
@@ -55,192 +55,152 @@ last_join joined chain from q (suc n) (p ∷ r ∷ rs) walk ends long =
       inside = last.inside;
     }
 
--- a walk ends at the first qubit or at one of the chain
-walk_inside : (joined : Joins) (chain : List ℕ) (from : ℕ) (steps : List ℕ) → is_in chain from ≡ true
-    → IsWalk joined chain from steps → is_in chain (end_of from steps) ≡ true
-walk_inside joined chain from [] inside walk = inside
-walk_inside joined chain from (p ∷ ps) inside walk = walk_inside joined chain p ps walk.0 walk.2
-
--- a walk to q of one join more than d passes a qubit of the chain to which a walk of d leads
-record Passes (joined : Joins) (chain : List ℕ) (q d : ℕ) : Type 0 where
-  before : ℕ
-  steps : List ℕ
-  walks : WalksTo joined chain before steps
-  short : length steps ≡ d
-  linked : joined before q ≡ true
-  inside : is_in chain before ≡ true
-
-passes : (joined : Joins) (chain : List ℕ) (q d : ℕ) (steps : List ℕ) → is_in chain (first_of chain) ≡ true
-    → WalksTo joined chain q steps → length steps ≡ suc d → Passes joined chain q d
-passes joined chain q d steps first w long =
-    let last = last_join joined chain (first_of chain) q d steps w.walk w.ends long in
-    record {
-      before = last.before;
-      steps = last.steps;
-      walks = record { walk = last.walk; ends = last.ends };
-      short = last.short;
-      linked = last.linked;
-      inside = subst (λ p. is_in chain p ≡ true) last.ends (walk_inside joined chain (first_of chain) last.steps first last.walk);
-    }
-
 -- ---- from one level to the next
 
--- the qubit before a waiting one at d + 1 joins is in the level
-before_in_level : (joined : Joins) (chain qs level : List ℕ) (d : ℕ) (s : Found)
-    → IsSortedChain chain qs → AtLevel joined chain qs level d s
-    → (i : ℕ) → i < length qs → waits_at s i ≡ true
-    → (p : Passes joined chain (qubit_at qs i) d)
-    → (j : ℕ) × Contains level j × (j < length qs) × (qubit_at qs j ≡ p.before)
-before_in_level joined chain qs level d s sorted at i below waits p =
-    let here = sorted.found p.before p.inside in
-    let inside = sorted.inside i below in
-    let distance : HasDistance joined chain p.before d = record {
-      reached = (p.steps, p.walks, p.short);
-      least = λ steps w.
-          let longer = at.far i below waits (steps ++ (qubit_at qs i ∷ [])) (further joined chain p.before (qubit_at qs i) steps w inside p.linked) in
-          omega (arith, longer, length-append steps (qubit_at qs i ∷ []));
-    } in
-    (here.0, at.all here.0 here.1 (subst (λ q. HasDistance joined chain q d) (sym here.2) distance), here.1, here.2)
+module _ (joined : Joins) (chain qs level : List ℕ) (d : ℕ) (s : Found)
+    (sorted : IsSortedChain chain qs) (at : AtLevel joined chain qs level d s) where
+  -- the qubit before a waiting one at d + 1 joins is in the level
+  before_in_level : (i : ℕ) → i < length qs → waits_at s i ≡ true
+      → (p : LastJoin joined chain (first_of chain) (qubit_at qs i) d)
+      → (j : ℕ) × Contains level j × (j < length qs) × (qubit_at qs j ≡ p.before)
+  before_in_level i below waits p =
+      let here = sorted.found p.before p.inside in
+      let inside = sorted.inside i below in
+      let distance : HasDistance joined chain p.before d = record {
+        reached = (p.steps, record { walk = p.walk; ends = p.ends }, p.short);
+        least = λ steps w.
+            let longer = at.far i below waits (steps ++ (qubit_at qs i ∷ [])) (further joined chain p.before (qubit_at qs i) steps w inside p.linked) in
+            omega (arith, longer, length-append steps (qubit_at qs i ∷ []));
+      } in
+      (here.0, at.all here.0 here.1 (rw here.2 distance), here.1, here.2)
 
--- what still waits after a level is further than d + 1
-far_more : (joined : Joins) (chain qs level : List ℕ) (d : ℕ) (s t : Found) → is_in chain (first_of chain) ≡ true
-    → IsSortedChain chain qs → AtLevel joined chain qs level d s
-    → (i : ℕ) → i < length qs → waits_at s i ≡ true
-    → NoneJoined joined qs level (length level) i
-    → (steps : List ℕ) → WalksTo joined chain (qubit_at qs i) steps → suc d < length steps
-far_more joined chain qs level d s t first sorted at i below waits alone steps w =
-    let more = at.far i below waits steps w in
-    elim (cases_eq (length steps) (suc d)) [
-      | inr e ↦ omega (arith, more, e)
-      | inl e ↦
-          let p = passes joined chain (qubit_at qs i) d steps first w e in
-          let here = before_in_level joined chain qs level d s sorted at i below waits p in
-          let none = alone here.1.0 here.1.1 in
-          let at_m = get_or_default_zero level here.1.0 here.0 here.1.1 in
-          not_both _ p.linked (cc (at_m, here.1.2, here.3, none))
-    ]
+  -- what still waits after a level is further than d + 1
+  far_more : is_in chain (first_of chain) ≡ true → (i : ℕ) → i < length qs → waits_at s i ≡ true
+      → NoneJoined joined qs level (length level) i → (steps : List ℕ)
+      → WalksTo joined chain (qubit_at qs i) steps → suc d < length steps
+  far_more first i below waits alone steps w = elim (cases_eq (length steps) (suc d)) [
+    | inr e ↦ omega (arith, at.far i below waits steps w, e)
+    | inl e ↦
+        let p = last_join joined chain _ (qubit_at qs i) d steps first w.walk w.ends e in
+        let here = before_in_level i below waits p in
+        let none = alone here.1.0 here.1.1 in
+        let at_m = get_or_default_zero level here.1.0 here.0 here.1.1 in
+        not_both _ p.linked (cc (at_m, here.1.2, here.3, none))
+  ]
 
--- the first of a level that reaches q is at the distance d, and q within d + 1
-reached_within : (joined : Joins) (chain qs level : List ℕ) (d : ℕ) (s t : Found) (i m : ℕ)
-    → IsSortedChain chain qs → AtLevel joined chain qs level d s → i < length qs
-    → IsFirst joined qs level (length level) t i m → IsWithin joined chain (suc d) (qubit_at qs i)
-reached_within joined chain qs level d s t i m sorted at below f =
-    let there = at.here (qubit_at level m) (Contains-get_or level m 0 f.below) in
-    let w = there.1.reached in (
-      w.0 ++ (qubit_at qs i ∷ []),
-      further joined chain (qubit_at qs (qubit_at level m)) (qubit_at qs i) w.0 w.1 (sorted.inside i below) f.linked,
-      omega (arith, w.2, length-append w.0 (qubit_at qs i ∷ [])),
-    )
+  -- the first of a level that reaches q is at the distance d, and q within d + 1
+  reached_within : (t : Found) (i m : ℕ) → i < length qs
+      → IsFirst joined qs level (length level) t i m → IsWithin joined chain (suc d) (qubit_at qs i)
+  reached_within t i m below f =
+      let there = at.here (qubit_at level m) (Contains-get_or level m 0 f.below) in
+      let w = there.1.reached in (
+        w.0 ++ (qubit_at qs i ∷ []),
+        further joined chain (qubit_at qs (qubit_at level m)) (qubit_at qs i) w.0 w.1 (sorted.inside i below) f.linked,
+        omega (arith, w.2, length-append w.0 (qubit_at qs i ∷ [])),
+      )
 
-near_more : (joined : Joins) (chain qs level : List ℕ) (d : ℕ) (s t : Found)
-    → IsSortedChain chain qs → AtLevel joined chain qs level d s
-    → LevelTakes joined qs level (length level) s t
-    → (i : ℕ) → i < length qs → waits_at t i ≡ false → IsWithin joined chain (suc d) (qubit_at qs i)
-near_more joined chain qs level d s t sorted at takes i below not = elim (takes.each i below) [
-  | inl rests ↦ let w = at.near i below (sym rests.stays.waits ∙ not) in (w.0, w.1, omega (arith, w.2))
-  | inr reached ↦ reached_within joined chain qs level d s t i reached.from.0 sorted at below reached.from.1
-]
+  near_more : (t : Found) → LevelTakes joined qs level (length level) s t → (i : ℕ) → i < length qs
+      → waits_at t i ≡ false → IsWithin joined chain (suc d) (qubit_at qs i)
+  near_more t takes i below not = elim (takes.each i below) [
+    | inl rests ↦ let w = at.near i below (sym rests.stays.waits ∙ not) in (w.0, w.1, omega (arith, w.2))
+    | inr reached ↦ reached_within t i reached.from.0 below reached.from.1
+  ]
 
-far_next : (joined : Joins) (chain qs level : List ℕ) (d : ℕ) (s t : Found) → is_in chain (first_of chain) ≡ true
-    → IsSortedChain chain qs → AtLevel joined chain qs level d s
-    → LevelTakes joined qs level (length level) s t
-    → (i : ℕ) → i < length qs → waits_at t i ≡ true → (steps : List ℕ)
-    → WalksTo joined chain (qubit_at qs i) steps → suc d < length steps
-far_next joined chain qs level d s t first sorted at takes i below is steps w = elim (takes.each i below) [
-  | inl rests ↦ far_more joined chain qs level d s t first sorted at i below (sym rests.stays.waits ∙ is) (rests.alone is) steps w
-  | inr reached ↦ absurd (not_both _ is reached.reached)
-]
+  far_next : (t : Found) → is_in chain (first_of chain) ≡ true
+      → LevelTakes joined qs level (length level) s t → (i : ℕ) → i < length qs
+      → waits_at t i ≡ true → (steps : List ℕ) → WalksTo joined chain (qubit_at qs i) steps
+      → suc d < length steps
+  far_next t first takes i below is steps w = elim (takes.each i below) [
+    | inl rests ↦ far_more first i below (sym rests.stays.waits ∙ is) (rests.alone is) steps w
+    | inr reached ↦ absurd (not_both _ is reached.reached)
+  ]
 
--- what was reached in this level has the distance d + 1
-new_distance : (joined : Joins) (chain qs level : List ℕ) (d : ℕ) (s t : Found)
-    → IsSortedChain chain qs → AtLevel joined chain qs level d s
-    → LevelTakes joined qs level (length level) s t
-    → (i : ℕ) → i < length qs → waits_at s i ≡ true → waits_at t i ≡ false
-    → HasDistance joined chain (qubit_at qs i) (suc d)
-new_distance joined chain qs level d s t sorted at takes i below is not =
-    let w = near_more joined chain qs level d s t sorted at takes i below not in
-    record {
-      reached = (w.0, w.1, omega (arith, w.2, at.far i below is w.0 w.1));
-      least = λ steps walk. omega (arith, at.far i below is steps walk);
-    }
+  -- what was reached in this level has the distance d + 1
+  new_distance : (t : Found) → LevelTakes joined qs level (length level) s t → (i : ℕ)
+      → i < length qs → waits_at s i ≡ true → waits_at t i ≡ false
+      → HasDistance joined chain (qubit_at qs i) (suc d)
+  new_distance t takes i below is not =
+      let w = near_more t takes i below not in
+      record {
+        reached = (w.0, w.1, omega (arith, w.2, at.far i below is w.0 w.1));
+        least = λ steps walk. omega (arith, at.far i below is steps walk);
+      }
 
-first_is_parent : (joined : Joins) (chain qs level : List ℕ) (d : ℕ) (s t : Found) (i m : ℕ)
-    → IsSortedChain chain qs → AtLevel joined chain qs level d s
-    → ((i j : ℕ) → i ≤ j → j < length level → qubit_at level i ≤ qubit_at level j)
-    → i < length qs → HasDistance joined chain (qubit_at qs i) (suc d)
-    → IsFirst joined qs level (length level) t i m
-    → IsParent joined chain (qubit_at qs i) (parent_at t i)
-first_is_parent joined chain qs level d s t i m sorted at rising below distance f =
-    let q = qubit_at qs i in
-    let p = qubit_at qs (qubit_at level m) in
-    let there = at.here (qubit_at level m) (Contains-get_or level m 0 f.below) in
-    rw f.parent (record {
-      nearer = record {
-        inside = sorted.inside (qubit_at level m) there.0;
-        linked = f.linked;
-        nearer = (d, there.1, distance);
-      };
-      least = λ r n.
-          let e : n.nearer.0 ≡ d = omega (arith, one_distance joined chain q _ _ n.nearer.2 distance) in
-          let j = sorted.found r n.inside in
-          let k = at.all j.0 j.1 (rw j.2 (rw e at n.nearer.1)) in
-          let same : qubit_at level k.0 ≡ j.0 = sym (get_or_default_zero level k.0 j.0 k.1) ∙ k.2 in
-          let same_qubit : qubit_at qs (qubit_at level k.0) ≡ r = ap (λ x. qubit_at qs x) same ∙ j.2 in
-          let weak = rising_weak qs sorted.rising (qubit_at level m) (qubit_at level k.0) in
-          let up = rising m k.0 in
-          let low = f.before k.0 in
-          elim (cases_lt k.0 m) [
-            | inl less ↦ absurd (not_both _ n.linked (rw same_qubit at (low less)))
-            | inr more ↦ omega (arith, same_qubit, weak (up more k.1) (omega (arith, same, j.1)))
-          ];
-    })
+  first_is_parent : (t : Found) (i m : ℕ) → ((i j : ℕ) → i ≤ j → j < length level → qubit_at level i
+      ≤ qubit_at level j) → i < length qs → HasDistance joined chain (qubit_at qs i) (suc d)
+      → IsFirst joined qs level (length level) t i m → IsParent joined chain (qubit_at qs i)
+      (parent_at t i)
+  first_is_parent t i m rising below distance f =
+      let there = at.here (qubit_at level m) (Contains-get_or level m 0 f.below) in
+      rw f.parent (record {
+        nearer = record {
+          inside = sorted.inside (qubit_at level m) there.0;
+          linked = f.linked;
+          nearer = (d, there.1, distance);
+        };
+        least = λ r n.
+            let e : n.nearer.0 ≡ d =
+            omega (arith, one_distance joined chain _ _ _ n.nearer.2 distance) in
+            let j = sorted.found r n.inside in
+            let k = at.all j.0 j.1 (rw j.2 (rw e at n.nearer.1)) in
+            let same : qubit_at level k.0 ≡ j.0 =
+            sym (get_or_default_zero level k.0 j.0 k.1) ∙ k.2 in
+            let same_qubit : qubit_at qs (qubit_at level k.0) ≡ r = ap (λ x. qubit_at qs x) same ∙ j.2 in
+            let weak = rising_weak qs sorted.rising (qubit_at level m) (qubit_at level k.0) in
+            let up = rising m k.0 in
+            let low = f.before k.0 in
+            elim (cases_lt k.0 m) [
+              | inl less ↦ absurd (not_both _ n.linked (rw same_qubit at (low less)))
+              | inr more ↦ omega (arith, same_qubit, weak (up more k.1) (omega (arith, same, j.1)))
+            ];
+      })
 
-pub level_next : (joined : Joins) (chain qs level next : List ℕ) (d : ℕ) (s t : Found)
-    → is_in chain (first_of chain) ≡ true
-    → IsSortedChain chain qs → AtLevel joined chain qs level d s → s.next ≡ []
-    → ((i j : ℕ) → i ≤ j → j < length level → qubit_at level i ≤ qubit_at level j)
-    → LevelTakes joined qs level (length level) s t
-    → ((i : ℕ) → Contains next i → Contains t.next i) → ((i : ℕ) → Contains t.next i → Contains next i)
-    → AtLevel joined chain qs next (suc d) (emptied t)
-level_next joined chain qs level next d s t first sorted at empty rising takes from to =
-    let far = far_next joined chain qs level d s t first sorted at takes in
-    let near = near_more joined chain qs level d s t sorted at takes in
-    let new = new_distance joined chain qs level d s t sorted at takes in
-    record {
-      waits = takes.moves.waits ∙ at.waits;
-      near = near;
-      far = far;
-      here = λ i in'. elim (takes.moves.listed i (from i in')) [
-        | inl old ↦ absurd (omega (arith, old.1, ap (λ (xs : List ℕ). length xs) empty))
-        | inr moved ↦ (moved.0, new i moved.0 moved.1 moved.2)
-      ];
-      all = λ i below distance.
-          let w = at.near i below in
-          let reached = distance.reached in
-          elim (true_or_false (waits_at s i)) [
-            | inr gone ↦ absurd (omega (arith, (w gone).2, distance.least (w gone).0 (w gone).1))
-            | inl is ↦ elim (true_or_false (waits_at t i)) [
-              | inl still ↦ absurd (omega (arith, reached.2, far i below still reached.0 reached.1))
-              | inr gone ↦ to i (takes.moves.lists i below is gone)
-            ]
-          ];
-      parent = λ i below not later. elim (takes.each i below) [
-        | inl rests ↦ rw rests.stays.parent (at.parent i below (sym rests.stays.waits ∙ not) later)
-        | inr reached ↦
-            first_is_parent joined chain qs level d s t i reached.from.0 sorted at rising below
-            (new i below reached.waited reached.reached) reached.from.1
-      ];
-    }
+  pub level_next : (next : List ℕ) (t : Found) → is_in chain (first_of chain) ≡ true → s.next ≡ []
+      → ((i j : ℕ) → i ≤ j → j < length level → qubit_at level i ≤ qubit_at level j)
+      → LevelTakes joined qs level (length level) s t
+      → ((i : ℕ) → Contains next i → Contains t.next i)
+      → ((i : ℕ) → Contains t.next i → Contains next i)
+      → AtLevel joined chain qs next (suc d) (emptied t)
+  level_next next t first empty rising takes from to =
+      let far = far_next t first takes in
+      let near = near_more t takes in
+      let new = new_distance t takes in
+      record {
+        waits = takes.moves.waits ∙ at.waits;
+        near = near;
+        far = far;
+        here = λ i in'. elim (takes.moves.listed i (from i in')) [
+          | inl old ↦ absurd (omega (arith, old.1, ap (λ (xs : List ℕ). length xs) empty))
+          | inr moved ↦ (moved.0, new i moved.0 moved.1 moved.2)
+        ];
+        all = λ i below distance.
+            let w = at.near i below in
+            let reached = distance.reached in
+            elim (true_or_false (waits_at s i)) [
+              | inr gone ↦ absurd (omega (arith, (w gone).2, distance.least (w gone).0 (w gone).1))
+              | inl is ↦ elim (true_or_false (waits_at t i)) [
+                | inl still ↦
+                    absurd (omega (arith, reached.2, far i below still reached.0 reached.1))
+                | inr gone ↦ to i (takes.moves.lists i below is gone)
+              ]
+            ];
+        parent = λ i below not later. elim (takes.each i below) [
+          | inl rests ↦
+              rw rests.stays.parent (at.parent i below (sym rests.stays.waits ∙ not) later)
+          | inr reached ↦
+              first_is_parent t i reached.from.0 rising below
+              (new i below reached.waited reached.reached) reached.from.1
+        ];
+      }
 
 -- ---- the first level
 
 one_in : (x i : ℕ) → Contains (x ∷ []) i → i ≡ x
 one_in x i in' = grind (arith, nat_tests)
 
-pub level_first : (joined : Joins) (chain qs : List ℕ) (s : Found) (at : ℕ)
-    → IsSortedChain chain qs → length s.waits ≡ length qs → at < length qs
-    → qubit_at qs at ≡ first_of chain → waits_at s at ≡ false
-    → ((i : ℕ) → i < length qs → (i ≡ at → ⊥) → waits_at s i ≡ true)
+pub level_first : (joined : Joins) (chain qs : List ℕ) (s : Found) (at : ℕ) → IsSortedChain chain qs
+    → length s.waits ≡ length qs → at < length qs → qubit_at qs at ≡ first_of chain → waits_at s at
+    ≡ false → ((i : ℕ) → i < length qs → (i ≡ at → ⊥) → waits_at s i ≡ true)
     → AtLevel joined chain qs (at ∷ []) 0 s
 level_first joined chain qs s at sorted len below is gone others =
     let here : (i : ℕ) → i < length qs → waits_at s i ≡ false → i ≡ at =
@@ -280,21 +240,22 @@ stuck : (joined : Joins) (chain qs : List ℕ) (d : ℕ) (s : Found) → is_in c
 stuck joined chain qs d s first sorted at zero i below steps w long waits =
     omega (arith, long, at.far i below waits steps w)
 stuck joined chain qs d s first sorted at (suc n) i below steps w long waits =
-    let p = passes joined chain (qubit_at qs i) n steps first w long in
+    let p = last_join joined chain _ (qubit_at qs i) n steps first w.walk w.ends long in
     let j = sorted.found p.before p.inside in
     elim (true_or_false (waits_at s j.0)) [
       | inl is ↦
-          stuck joined chain qs d s first sorted at n j.0 j.1 p.steps (rw j.2 p.walks) p.short is
+          stuck joined chain qs d s first sorted at n j.0 j.1 p.steps
+          (rw j.2 (record { walk = p.walk; ends = p.ends })) p.short is
       | inr gone ↦
           let near = at.near j.0 j.1 gone in
           let walks = rw j.2 at near.1 in
           let inside = sorted.inside i below in
-          let more = near.0 ++ (qubit_at qs i ∷ []) in
-          let all = at.far i below waits more (further joined chain p.before (qubit_at qs i) near.0 walks inside p.linked) in
+          let all = at.far i below waits _ (further joined chain p.before (qubit_at qs i) near.0 walks inside p.linked) in
           let here = before_in_level joined chain qs [] d s sorted at i below waits (record {
             before = p.before;
             steps = near.0;
-            walks = walks;
+            walk = walks.walk;
+            ends = walks.ends;
             short = omega (arith, near.2, all, length-append near.0 (qubit_at qs i ∷ []));
             linked = p.linked;
             inside = p.inside;

@@ -44,8 +44,7 @@ notes_same T U xs ys to from notes = record {
   each = λ v low. least_pair_same (λ p. (noted_at xs v ≡ Some p) ⊎ T v p)
       (λ p. (noted_at xs v ≡ Some p) ⊎ U v p) (noted_at ys v)
       (λ p w. let t = to v p low in grind (arith, nat_tests))
-      (λ p w. let u = from v p low in grind (arith, nat_tests))
-      (notes.each v low);
+      (λ p w. let u = from v p low in grind (arith, nat_tests)) (notes.each v low);
 }
 
 -- nothing new
@@ -165,10 +164,9 @@ cleared turn marks v below earlier =
     grind (arith, nat_tests)
 
 -- a pair that is not above what was noted takes its place
-pub put_new : (turn : ℕ) (marks : List Mark) (node : ℕ) (m : Mark) → node < length marks
-    → m.turn ≡ turn
-    → ((p : ℕ × ℕ) → marked_pair turn (get_or marks node no_mark) ≡ Some p → IsBefore (m.from, m.to) p)
-    → Notes (λ v p. (v ≡ node) × (p ≡ (m.from, m.to)))
+pub put_new : (turn : ℕ) (marks : List Mark) (node : ℕ) (m : Mark) → node < length marks → m.turn
+    ≡ turn → ((p : ℕ × ℕ) → marked_pair turn (get_or marks node no_mark) ≡ Some p
+    → IsBefore (m.from, m.to) p) → Notes (λ v p. (v ≡ node) × (p ≡ (m.from, m.to)))
     (map (marked_pair turn) marks) (map (marked_pair turn) (set marks node m))
 put_new turn marks node m below now before = record {
   same = length-map (set marks node m) (marked_pair turn) ∙ length-set marks node m

@@ -15,8 +15,7 @@ listed_first chains b zero w all below in' = absurd (omega (arith, below))
 listed_first chains b (suc v) w all below in' =
     let e : v + 1 ≡ suc v = omega arith in
     let more = occurrences_more b chains v (omega (arith, all)) in
-    subst (λ n. 1 ≤ occurrences b (take n chains)) e
-    (elim (cases_eq w v) [
+    subst (λ n. 1 ≤ occurrences b (take n chains)) e (elim (cases_eq w v) [
       | inl same ↦
           let k = at_of_in (chain_of chains v) b (subst (λ x. is_in (chain_of chains x) b ≡ true) same in') in
           omega (arith, more, one_of (chain_of chains v) b k.0 k.1 k.2)
@@ -59,7 +58,4 @@ own_more chains old new v once below few owned len inside outside = record {
 
 pub owned_all : (chains : List (List ℕ)) (owners : List ℕ) (v : ℕ) → length chains ≤ v → OwnedBelow chains owners v
     → AreOwners chains owners
-owned_all chains owners v all owned = record {
-  inside = λ w b below. owned.inside w b (omega (arith, below, all));
-  owned = λ w b below. owned.owned w b (omega (arith, below, all));
-}
+owned_all chains owners v all owned = grind (arith, nat_tests)

@@ -6,9 +6,8 @@ pub once_each : (map : List (List ℕ)) → ((q : ℕ) → occurrences q map ≤
 once_each map once v below q = omega (arith, once q, occurrences-chain-le q map v below)
 
 -- what holds of all places before a chain and in it
-pub places_more : (map : List (List ℕ)) (Good : ℕ → ℕ → Type 0) (v : ℕ)
-    → ((u : ℕ) → u < v → (j : ℕ) → j < length (chain_of map u) → Good u j)
-    → ((j : ℕ) → j < length (chain_of map v) → Good v j)
+pub places_more : (map : List (List ℕ)) (Good : ℕ → ℕ → Type 0) (v : ℕ) → ((u : ℕ) → u < v → (j : ℕ)
+    → j < length (chain_of map u) → Good u j) → ((j : ℕ) → j < length (chain_of map v) → Good v j)
     → (u : ℕ) → u < v + 1 → (j : ℕ) → j < length (chain_of map u) → Good u j
 places_more map Good v before here u low = elim (cases_eq u v) [
   | inl e ↦ subst (λ w. (j : ℕ) → j < length (chain_of map w) → Good w j) (sym e) here

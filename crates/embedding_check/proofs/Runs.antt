@@ -12,21 +12,18 @@ least_pair_lesser S T None to from least = λ p t. let x = from p t in least x.0
 least_pair_lesser S T (Some r) to from least =
     (to r least.0, λ p t. let x = from p t in before_trans r x.0 p (least.1 x.0 x.1) x.2)
 
-pub notes_lesser : (T U : ℕ → ℕ × ℕ → Type 0) (xs ys : List (Option (ℕ × ℕ)))
-    → ((v : ℕ) (p : ℕ × ℕ) → v < length xs → T v p → U v p)
-    → ((v : ℕ) (p : ℕ × ℕ) → v < length xs → U v p
-    → (q : ℕ × ℕ) × ((noted_at xs v ≡ Some q) ⊎ T v q) × IsBefore q p)
-    → Notes T xs ys → Notes U xs ys
+pub notes_lesser : (T U : ℕ → ℕ × ℕ → Type 0) (xs ys : List (Option (ℕ × ℕ))) → ((v : ℕ) (p : ℕ × ℕ)
+    → v < length xs → T v p → U v p) → ((v : ℕ) (p : ℕ × ℕ) → v < length xs → U v p
+    → (q : ℕ × ℕ) × ((noted_at xs v ≡ Some q) ⊎ T v q) × IsBefore q p) → Notes T xs ys
+    → Notes U xs ys
 notes_lesser T U xs ys to from notes = record {
   same = notes.same;
   each = λ v low. least_pair_lesser (λ p. (noted_at xs v ≡ Some p) ⊎ T v p)
       (λ p. (noted_at xs v ≡ Some p) ⊎ U v p) (noted_at ys v)
-      (λ p w. let more = to v p low in grind (arith, nat_tests))
-      (λ p. elim [
+      (λ p w. let more = to v p low in grind (arith, nat_tests)) (λ p. elim [
         | inl e ↦ (p, inl e, before_self p)
         | inr u ↦ from v p low u
-      ])
-      (notes.each v low);
+      ]) (notes.each v low);
 }
 
 -- what is noted is not greater than what was new or noted before
@@ -92,16 +89,13 @@ pub span_more : (joined : Joins) (owners : List ℕ) (node a : ℕ) (span : Span
 span_more joined owners node a span b end xs ys zs from after within old new =
     notes_same
     (λ v p. IsJoinBelow joined owners node a span b v p ⊎ IsRunJoin joined owners node a b end v p)
-    (IsJoinBelow joined owners node a span end) xs zs
-    (λ v p low. elim [
+    (IsJoinBelow joined owners node a span end) xs zs (λ v p low. elim [
       | inl x ↦ (x.0, x.1, omega (arith, x.2, after), x.3)
       | inr x ↦ (x.0, record { from = omega (arith, from, x.1); below = omega (arith, x.2, within) }, x.2, x.3)
-    ])
-    (λ v p low x. elim (cases_lt x.0 b) [
+    ]) (λ v p low x. elim (cases_lt x.0 b) [
       | inl less ↦ inl (x.0, x.1, less, x.3)
       | inr more ↦ inr (x.0, more, x.2, x.3)
-    ])
-    (notes_both (IsJoinBelow joined owners node a span b) (IsRunJoin joined owners node a b end)
+    ]) (notes_both (IsJoinBelow joined owners node a span b) (IsRunJoin joined owners node a b end)
     xs ys zs old new)
 
 -- what is noted goes on from run to run

@@ -78,10 +78,9 @@ takes_more joined qs q s t i so_far below waits_len parents_len waits linked =
 
 -- ---- one qubit of the level more
 
-moves_both : (count : ℕ) (s t u : Found) → Moves count s t → Moves count t u
-    → ((i : ℕ) → i < count → waits_at t i ≡ true → waits_at s i ≡ true)
-    → ((i : ℕ) → i < count → waits_at t i ≡ false → waits_at u i ≡ false)
-    → Moves count s u
+moves_both : (count : ℕ) (s t u : Found) → Moves count s t → Moves count t u → ((i : ℕ) → i < count
+    → waits_at t i ≡ true → waits_at s i ≡ true) → ((i : ℕ) → i < count → waits_at t i ≡ false
+    → waits_at u i ≡ false) → Moves count s u
 moves_both count s t u a b down stay = record {
   waits = b.waits ∙ a.waits;
   parents = b.parents ∙ a.parents;
@@ -187,16 +186,14 @@ rising_weak qs rising i j le below = let up = rising i j in grind (arith, nat_te
 
 -- ---- all that one qubit is joined to
 
-pub spreads : (joined : Joins) (qs : List ℕ) (q from : ℕ) (span : Span) (before after : Option ℕ) (s t u v : Found)
-    → ((i : ℕ) → i < from → qubit_at qs i < span.start)
-    → Takes joined qs q s t
-    → ((i : ℕ) → from ≤ i → i < length qs → qubit_at qs i < span.end → waits_at t i ≡ true → joined q (qubit_at qs i) ≡ false)
-    → Takes joined qs q t u
-    → ((i : ℕ) → i < length qs → before ≡ Some (qubit_at qs i) → waits_at u i ≡ true → joined q (qubit_at qs i) ≡ false)
-    → Takes joined qs q u v
-    → ((i : ℕ) → i < length qs → after ≡ Some (qubit_at qs i) → waits_at v i ≡ true → joined q (qubit_at qs i) ≡ false)
-    → ((i : ℕ) → i < length qs → joined q (qubit_at qs i) ≡ true → CanBeJoined span before after (qubit_at qs i))
-    → Spreads joined qs q s v
+pub spreads : (joined : Joins) (qs : List ℕ) (q from : ℕ) (span : Span) (before after : Option ℕ)
+    (s t u v : Found) → ((i : ℕ) → i < from → qubit_at qs i < span.start) → Takes joined qs q s t
+    → ((i : ℕ) → from ≤ i → i < length qs → qubit_at qs i < span.end → waits_at t i ≡ true
+    → joined q (qubit_at qs i) ≡ false) → Takes joined qs q t u → ((i : ℕ) → i < length qs → before
+    ≡ Some (qubit_at qs i) → waits_at u i ≡ true → joined q (qubit_at qs i) ≡ false)
+    → Takes joined qs q u v → ((i : ℕ) → i < length qs → after ≡ Some (qubit_at qs i) → waits_at v i
+    ≡ true → joined q (qubit_at qs i) ≡ false) → ((i : ℕ) → i < length qs → joined q (qubit_at qs i)
+    ≡ true → CanBeJoined span before after (qubit_at qs i)) → Spreads joined qs q s v
 spreads joined qs q from span before after s t u v start one span_done two before_done three after_done findable = record {
   takes = takes_both joined qs q s u v (takes_both joined qs q s t u one two) three;
   all = λ i h is.

@@ -1,11 +1,10 @@
 -- What a check gives is one embedding alone.
 --
 -- Two parents of one qubit are each at most the other, and so are two places of one coupling.
-use Rattle.embedding_check.proofs.Common.{◌≡◌, inl, inr, ℕ, List, [], ◌∷◌, drop, refl, sym, ap, ◌∙◌, arith, subst, AllZip, Entry, IsingContent, Joins, chain_of, Embedding, IsParent, AreParents, IsBefore, IsPlace, IsPlaceOf, IsChecked}
+use Rattle.embedding_check.proofs.Common.{nat_tests, ◌≡◌, ℕ, List, [], ◌∷◌, drop, refl, sym, ◌∙◌, arith, subst, AllZip, Entry, IsingContent, Joins, chain_of, Embedding, IsParent, AreParents, IsBefore, IsPlace, IsPlaceOf, IsChecked}
 
 -- what stands for each item in turn is one list, where it is one item each
-zip_unique : {A B : Type 0} (R : A → B → Type 0)
-    → ((x : A) (y z : B) → R x y → R x z → y ≡ z)
+zip_unique : {A B : Type 0} (R : A → B → Type 0) → ((x : A) (y z : B) → R x y → R x z → y ≡ z)
     → (xs : List A) (ys zs : List B) → AllZip R xs ys → AllZip R xs zs → ys ≡ zs
 zip_unique R one [] [] [] p q = refl
 zip_unique R one [] [] (z ∷ zs) p q = absurd q
@@ -28,11 +27,9 @@ parent_unique joined chain q a b this that =
 parents_unique : (joined : Joins) (chains ps qs : List (List ℕ))
     → AllZip (AreParents joined) chains ps → AllZip (AreParents joined) chains qs → ps ≡ qs
 parents_unique joined chains ps qs p q =
-    zip_unique (AreParents joined)
-    (λ chain ys zs a b.
+    zip_unique (AreParents joined) (λ chain ys zs a b.
     zip_unique (IsParent joined chain) (λ x y z c d. parent_unique joined chain x y z c d)
-    (drop 1 chain) ys zs a b)
-    chains ps qs p q
+    (drop 1 chain) ys zs a b) chains ps qs p q
 
 -- ---- places
 
@@ -40,14 +37,10 @@ abbrev pair : ℕ → ℕ → ℕ × ℕ
 pair a b = (a, b)
 
 both_before : (p q : ℕ × ℕ) → IsBefore p q → IsBefore q p → p ≡ q
-both_before p q (inl a) (inl b) = absurd (omega (arith, a, b))
-both_before p q (inl a) (inr b) = let e = b.0 in absurd (omega (arith, a, e))
-both_before p q (inr a) (inl b) = let e = a.0 in absurd (omega (arith, b, e))
-both_before p q (inr a) (inr b) =
-    let up = a.1 in
-    let down = b.1 in
-    let second : p.1 ≡ q.1 = omega (arith, up, down) in
-    ap (λ x. pair x p.1) a.0 ∙ ap (pair q.0) second
+both_before p q a b =
+    let first : p.0 ≡ q.0 = grind (arith, nat_tests) in
+    let second : p.1 ≡ q.1 = grind (arith, nat_tests) in
+    λ i. (first i, second i)
 
 place_unique : (joined : Joins) (c d : List ℕ) (p q : ℕ × ℕ) → IsPlace joined c d p
     → IsPlace joined c d q → p ≡ q
@@ -73,8 +66,7 @@ parents_of_map joined n f map e c =
 places_of_map : (joined : Joins) (n : ℕ) (f : IsingContent) (map : List (List ℕ)) (e : Embedding)
     → IsChecked joined n f map e → AllZip (IsPlaceOf joined map) f.couplings e.places
 places_of_map joined n f map e c =
-    subst (λ g. AllZip (IsPlaceOf joined map) g.couplings e.places) c.ising
-    (subst (λ chains. AllZip (IsPlaceOf joined chains) e.ising.couplings e.places) c.chains c.places)
+    rw (← c.ising) (rw (← c.chains) c.places)
 
 pub checked_unique : (joined : Joins) (n : ℕ) (f : IsingContent) (map : List (List ℕ))
     (e e' : Embedding) → IsChecked joined n f map e → IsChecked joined n f map e' → e ≡ e'

@@ -34,16 +34,14 @@ least_of zero g = ([], record { width = refl; least = only_empty g })
 least_of (suc n) g =
     let s = least_of n (λ y. g (true ∷ y)) in
     let r = least_of n (λ y. g (false ∷ y)) in
-    by_lt_z (g (true ∷ s.0)) (g (false ∷ r.0))
-    (λ lt. (
+    by_lt_z (g (true ∷ s.0)) (g (false ∷ r.0)) (λ lt. (
       true ∷ s.0,
       record {
         width = ap suc s.1.width;
         least = each_longer n g (g (true ∷ s.0)) s.1.least
             (λ y w. le-trans _ (g (false ∷ r.0)) _ (omega (arith, ints)) (r.1.least y w));
       },
-    ))
-    (λ le. (
+    )) (λ le. (
       false ∷ r.0,
       record {
         width = ap suc r.1.width;

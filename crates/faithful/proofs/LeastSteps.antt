@@ -3,7 +3,7 @@
 -- What reaches a least state is a least state, since the least energies of both forms stand for
 -- each other. So each least assignment is still decoded from a least state, and each least state
 -- still decodes to one.
-use Rattle.faithful.proofs.Common.{◌≡◌, ℤ, pos, ◌+ℤ◌, ◌*ℤ◌, ◌<ℤ◌, Bool, List, sym, ap, ◌∙◌, arith, subst, ints, by_lt_z, times-le, times-lt, scaled_twice, Figures, Form, energy, figures_after, figures_moved, Decoding, Reaches, Reduces, decoding_after, IsFeasible, IsLeast, IsLeastAt, IsLeastState, KeepsLeast, StandsAtLeast}
+use Rattle.faithful.proofs.Common.{nat_tests, ◌≡◌, ℤ, pos, ◌+ℤ◌, ◌*ℤ◌, ◌<ℤ◌, Bool, List, sym, ap, ◌∙◌, arith, subst, ints, by_lt_z, times-le, times-lt, scaled_twice, Figures, Form, energy, figures_after, figures_moved, Decoding, Reaches, Reduces, decoding_after, IsFeasible, IsLeast, IsLeastAt, IsLeastState, KeepsLeast, StandsAtLeast}
 use Rattle.faithful.proofs.LeastStates.{least_state}
 
 -- ---- a step that keeps least states alone
@@ -14,12 +14,7 @@ module _ {g h : Form} {e : Decoding} {a b : ℤ} (k : KeepsLeast g h e a b) wher
       → Reaches h e y (a *ℤ energy g y +ℤ b) z → IsLeastState h z
   reaching_is_least y z l r =
       let s = least_state h in
-      let same = k.least y s.0 l s.1 in record {
-        width = r.width;
-        least = λ z' w.
-            let no_less = s.1.least z' w in
-            omega (arith, ints, same, r.energy, no_less);
-      }
+      grind (arith, nat_tests, ints)
 
 module _ {f g h : Form} {d e : Decoding} {n : Figures} {a b : ℤ}
     (p : StandsAtLeast f g d (pos 1) n) (k : KeepsLeast g h e a b) where
@@ -67,8 +62,7 @@ module _ {f g h : Form} {d e : Decoding} {n : Figures} {a b : ℤ}
           let y = (p.exact feasible x).0 least in
           let z = k.reached y.0 y.1.width in
           (z.0, reaching_is_least k y.0 z.0 y.1 z.1, ap d.decoded z.1.decodes ∙ y.2),
-      λ s.
-          subst (IsLeast f) s.2 (p.decodes feasible (e.decoded s.0) (k.decodes s.0 s.1)),
+      λ s. subst (IsLeast f) s.2 (p.decodes feasible (e.decoded s.0) (k.decodes s.0 s.1)),
     );
     decodes = λ feasible z l. p.decodes feasible (e.decoded z) (k.decodes z l);
     least_energy = kept_energy;
@@ -81,8 +75,7 @@ module _ {g h : Form} {u b : ℤ} (q : Reduces g h u b) where
   least_divided : (y : List Bool) → IsLeastState g y → IsLeastState h y
   least_divided y l = record {
     width = l.width ∙ sym q.width;
-    least = λ z w.
-        by_lt_z (energy h z) (energy h y) (λ lt.
+    least = λ z w. by_lt_z (energy h z) (energy h y) (λ lt.
         let scaled = times-lt u (energy h z) (energy h y) q.positive lt in
         let this = q.energy y l.width in
         let that = q.energy z (w ∙ q.width) in

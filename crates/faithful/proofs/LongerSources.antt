@@ -36,8 +36,7 @@ module _ {f f' : Form} (r : Rewrites f f') where
       )
 
   feasible_longer : IsFeasible f → IsFeasible f'
-  feasible_longer (x, v, h) =
-      let s = r.reached x h.width v h.whole in (s.0, v, record { width = s.1; whole = s.3 })
+  feasible_longer (x, v, h) = grind (arith, nat_tests)
 
   feasible_front : IsFeasible f' → IsFeasible f
   feasible_front (x, v, h) = grind (arith, nat_tests, first_is_of r x h.width)
@@ -50,8 +49,7 @@ rewritten_stands f f' g d u n r p = record {
         let l = least_longer r x least.0 least.1 in
         let y = (p.exact (feasible_longer r feasible) l.0).0 (least.0, l.1) in
         (y.0, y.1, ap (take f.bits) y.2 ∙ l.2),
-    λ s.
-        subst (IsLeast f) s.2
+    λ s. subst (IsLeast f) s.2
         (least_front r (d.decoded s.0) (p.decodes (feasible_longer r feasible) s.0 s.1)),
   );
   decodes = λ feasible y l.

@@ -11,8 +11,7 @@ module _ (choices : Choices) (p : ProblemContent) (m : Written) (links : StepLin
       → take m.variables ((quad_decoding links).decoded y) ≡ take m.variables y
   first_of y = grind (arith, nat_tests, steps-first, take-take)
 
-  pub decoded_by : (kind : Kind) (y : List Bool)
-      → read_off kind m.variables m.chains y
+  pub decoded_by : (kind : Kind) (y : List Bool) → read_off kind m.variables m.chains y
       ≡ take m.variables ((steps_decoding kind links).decoded y)
   decoded_by Qubo y = sym (first_of y)
   decoded_by Ising y = sym (first_of y)
@@ -27,13 +26,11 @@ read_off_is_decoded choices p m links few fits y = decoded_by choices p m links 
 -- ---- with more variables
 
 first_read : (kind : Kind) (own variables : ℕ) (chains : List (List ℕ)) (y : List Bool)
-    → own ≤ variables
-    → read_off kind own chains y ≡ take own (read_off kind variables chains y)
+    → own ≤ variables → read_off kind own chains y ≡ take own (read_off kind variables chains y)
 first_read kind own variables chains y few = grind (arith, nat_tests, take-take, take-map)
 
 pub first_are_decoded : FirstAreDecoded
-first_are_decoded m variables y few =
-    first_read m.kind m.variables variables m.chains y few
+first_are_decoded m variables y few = grind (arith, nat_tests, first_read)
 
 pub least_extends : LeastExtends
 least_extends f m variables x y same extends least = grind (arith, nat_tests)

@@ -1,7 +1,6 @@
 -- The nodes of a quadratic form are at most the variables and the auxiliary bits: a new node for
 -- terms of degree 3 or more takes the place of a literal past the second of a term.
-use Rattle.model_pipeline.proofs.Common.{◌≡◌, ℕ, zero, suc, ◌+◌, ◌-◌, ◌≤◌, Bool, true, false, cond, leb, List, [], ◌∷◌, length, Option, Some, None, pos, int_lt, refl, arith, sum_by, nat_tests, sum_by-cons, High, Term, TableContent, sets_sum-cons, nodes_for, new_nodes, Pair, next_pair, with_next, substituted, run, excess, length-image, low_terms_of, NodesAreFew}
-use Rattle.problem_form.specs.declared.limits.High.TheVariants.{Monomial, Rosenberg}
+use Rattle.model_pipeline.proofs.Common.{◌≡◌, ℕ, zero, suc, ◌+◌, ◌-◌, ◌≤◌, Bool, true, false, cond, leb, List, [], ◌∷◌, length, pos, int_lt, refl, arith, sum_by, nat_tests, sum_by-cons, High, Term, TableContent, sets_sum-cons, nodes_for, new_nodes, substituted, run, excess, length-image, low_terms_of, NodesAreFew}
 use Rattle.model_pipeline.proofs.LongSets.{excess_within}
 use Rattle.model_pipeline.proofs.Standing.{terms_width}
 
@@ -24,22 +23,15 @@ new_nodes-excess (t ∷ ts) =
 
 -- ---- pairs replaced one after another
 
--- a substitution adds at most one node
-next-width : (next : Option Pair) (t : TableContent) → (with_next next t).width ≤ t.width + 1
-next-width None t = omega arith
-next-width (Some pair) t = omega arith
-
 run-width : (k : ℕ) (t : TableContent) → (run k t).width ≤ t.width + k
 run-width zero t = omega arith
-run-width (suc k) t =
-    omega (arith, run-width k (substituted t), next-width (next_pair t.terms) t)
+run-width (suc k) t = grind (arith, nat_tests, run-width k (substituted t))
 
 -- ---- the whole
 
 low-width : (high : High) (t : TableContent)
     → (low_terms_of high t).width ≤ t.width + excess t.terms
-low-width Monomial t = omega (arith, new_nodes-excess t.terms)
-low-width Rosenberg t = run-width (excess t.terms) t
+low-width high t = grind (arith, nat_tests, new_nodes-excess, run-width)
 
 pub nodes_are_few : NodesAreFew
 nodes_are_few choices p =

@@ -77,8 +77,7 @@ module _ (p : ProblemContent) (own : ℕ) (d : Decoding) where
   qubo_in : (choice : UnitChoice) (q : QuadContent) (u : ℤ) (n : Figures) → IsQuad q
       → own ≤ length q.diagonal → (u ≡ pos 1) ⊎ (q.constant ≡ pos 0) → quad_total q < 2 ^ 121
       → unsigned_abs u ≤ 2 ^ 122 → HasFigures (pos 1) p n (2 ^ 122)
-      → Stands p (quads.form_of q) d u n
-      → HasUnit choice (quads.written_of q own n u)
+      → Stands p (quads.form_of q) d u n → HasUnit choice (quads.written_of q own n u)
       → IsModelOf p own Qubo choice (quads.written_of q own n u)
   qubo_in choice q u n quad least counted small low has stands unit =
       let moved = figures_are_moved (pos 1) p n (2 ^ 122) (2 ^ 121) (neg_ℤ q.constant) has
@@ -120,8 +119,7 @@ module _ (p : ProblemContent) (own : ℕ) (d : Decoding) where
       let constant_low = minus_low q.constant (2 ^ 121) (omega (arith, small)) in
       let low = unit_low q.diagonal q.couplers (2 ^ 121) (omega (arith, small)) in
       let less = once_low (quad_unit q) (quad_total (units.reduced q)) (quad_total q)
-      (reduced_quads.one_le_quad_unit q)
-      (reduced_quads.total_reduced q) in
+      (reduced_quads.one_le_quad_unit q) (reduced_quads.total_reduced q) in
       qubo_in Reduce (units.reduced q) (quad_unit q) (figures_moved n c)
       (reduced_quads.reduced_is_quad q quad) (omega (arith, width, least)) (inr refl)
       (omega (arith, less, small)) (omega (arith, low))

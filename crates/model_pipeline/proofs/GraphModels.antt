@@ -1,5 +1,5 @@
 -- The model of a problem on the qubits of a graph: what it promises of the problem.
-use Rattle.model_pipeline.proofs.Common.{nat_tests, ◌≡◌, ◌≤◌, inr, ℕ, ℤ, ◌*ℤ◌, List, length, refl, ap, sym, subst, ◌∙◌, arith, IfOk, Result, Ok, Err, ints, Figures, UnitChoice, Written, scale_of, Choices, ProblemContent, form_of, upper, figures, QuadContent, IsQuad, IsingContent, IsIsing, coupled, length-fields, image_is_ising, total-image, Chimera, ChainStrength, Fabric, Site, chains_of, fabric_in, graph_in, CanStandBy, AreSmall, IsQubitModelOf, ising_figures, IsQuadratized, IsIsingOf, ising_of, site_chains, IsGraphModelOf, IsFormAt, IsOnQubits, IsMadeOf}
+use Rattle.model_pipeline.proofs.Common.{nat_tests, ◌≡◌, ◌≤◌, inr, ℕ, ℤ, ◌*ℤ◌, List, length, refl, ap, sym, subst, ◌∙◌, arith, IfOk, Result, ints, Figures, UnitChoice, Written, scale_of, Choices, ProblemContent, form_of, upper, figures, QuadContent, IsQuad, IsingContent, IsIsing, coupled, length-fields, image_is_ising, total-image, Chimera, ChainStrength, Fabric, Site, chains_of, fabric_in, graph_in, CanStandBy, AreSmall, IsQubitModelOf, ising_figures, IsQuadratized, IsIsingOf, ising_of, site_chains, IsGraphModelOf, IsFormAt, IsOnQubits, IsMadeOf}
 use Rattle.ising_form.specs.Spins as spins
 use Rattle.ising_form.proofs.Images.{size-image}
 use Rattle.model_pipeline.proofs.Sites.{site_valid}
@@ -11,18 +11,17 @@ use Rattle.model_pipeline.proofs.Standing.{ising_figures_are_stated, spins_stand
 spun_stands : (p : ProblemContent) (q : QuadContent) → IsQuad q → IsQuadratized p q (figures p)
     → IsIsingOf p (spins.image q) (ising_figures (figures p))
 spun_stands p q kept made =
-    let stated = ising_figures_are_stated p made.threshold in
-    let width = length-fields (coupled q.couplers) 0 q.diagonal in record {
-      figures = refl;
-      kept = image_is_ising q kept made.total;
-      enough = omega (arith, width, made.enough);
-      total = omega (arith, total-image q, made.total_low);
-      size = omega (arith, size-image q, made.size_low);
-      scale_low = omega (arith, ints);
-      offset_low = omega (arith, stated.offset_low);
-      threshold_low = omega (arith, stated.threshold_low);
-      stands = spins_stand p q kept made.stands;
-    }
+    grind (
+      arith,
+      nat_tests,
+      ising_figures_are_stated,
+      length-fields,
+      coupled,
+      image_is_ising,
+      total-image,
+      size-image,
+      spins_stand,
+    )
 
 -- the same where the form and the figures are equal to these
 pub spun_as : (p : ProblemContent) (q : QuadContent) (n : Figures) (f : IsingContent) (m : Figures)
@@ -63,17 +62,14 @@ module _ (p : ProblemContent) (own : ℕ) (choice : UnitChoice) (ties : ChainStr
   -- with the figures of the Ising form
   pub graph_model : (n : Figures) → IsIsingOf p f n → IsQubitModelOf f n own choice ties graph fabric map m
       → IsGraphModelOf p own choice ties graph fabric map m
-  graph_model n spun of =
-      graph_stands (subst (λ r. IsIsingOf p f r) spun.figures spun)
-      (subst (λ r. IsQubitModelOf f r own choice ties graph fabric map m) spun.figures of)
+  graph_model n spun of = grind (arith, nat_tests, graph_stands)
 
 -- ---- a model at a site
 
 -- what is true of a result's value by two facts
 pub if_ok-by_two : {T E : Type 0} (r : Result T E) {P Q R : T → Type 0} → IfOk r P → IfOk r Q
     → ((y : T) → P y → Q y → R y) → IfOk r R
-if_ok-by_two (Ok y) p q f = f y p q
-if_ok-by_two (Err e) p q f = tt
+if_ok-by_two r p q f = grind (arith, nat_tests)
 
 -- it stands for what the form relaxes
 abbrev FormStandsAt : Site → UnitChoice → ℕ → Written → IsingContent → Figures → Type 0

@@ -1,5 +1,5 @@
 -- The state that the steps extend an assignment to has the least energy of those that decode to it.
-use Rattle.model_pipeline.proofs.Common.{◌≡◌, pos, Bool, List, length, take, sym, ap, ◌∙◌, subst, arith, None, IfOk, Result, Ok, Err, take-take, BitsLink, first_bits, Extends, ExtendsLeast, figures_after, least-trans, Choices, Normal, High, ProblemContent, form_of, IsNormal, limit_fault, TableContent, figures, node_count, penalty_extends, multilinear_extends, mono_reaches, rosen_reaches, flat_keeps, flat_reaches, low_terms_of, quad_by, terms_of, low_extension, extension_by, extension_of, ExtendsLeastBy, IsLeastExtension, LowFits}
+use Rattle.model_pipeline.proofs.Common.{nat_tests, ◌≡◌, pos, Bool, List, length, take, sym, ap, ◌∙◌, subst, arith, None, IfOk, Result, take-take, BitsLink, first_bits, Extends, ExtendsLeast, figures_after, least-trans, Choices, Normal, High, ProblemContent, form_of, IsNormal, limit_fault, TableContent, figures, penalty_extends, multilinear_extends, mono_reaches, rosen_reaches, flat_keeps, flat_reaches, low_terms_of, quad_by, terms_of, low_extension, extension_by, extension_of, ExtendsLeastBy, IsLeastExtension, LowFits}
 use Rattle.problem_form.specs.declared.limits.Normal.TheVariants.{Literal, Multilinear}
 use Rattle.problem_form.specs.declared.limits.High.TheVariants.{Monomial, Rosenberg}
 use Rattle.model_pipeline.proofs.PlainForms.{problem_has_quad}
@@ -30,10 +30,7 @@ module _ (normal : Normal) (high : High) (p : ProblemContent) where
   -- the steps decode a state to its first bits
   pub steps-first : (a b c : BitsLink) → penalty.Fits a p → LowFits high b (terms_of normal p)
       → (y : List Bool) → (steps a b c).decoded y ≡ take p.variables y
-  steps-first a b c fits_a fits_b y =
-      let source = low_source high b (terms_of normal p) fits_b ∙ terms_width normal p in
-      (λ i. take (fits_a.source i) (take (source i) y))
-      ∙ take-take p.variables (node_count p) y (omega arith)
+  steps-first a b c fits_a fits_b y = grind (arith, nat_tests, low_source, terms_width, take-take)
 
   extends_by_steps : (a b c : BitsLink) (x : List Bool) → penalty.Fits a p
       → LowFits high b (terms_of normal p) → flat.Fits c (low_terms_of high (terms_of normal p))
@@ -75,5 +72,4 @@ least_by choices p x y normal within width same =
 
 -- what is true of every value is true of a result's
 pub if_ok-always : {T E : Type 0} (r : Result T E) {P : T → Type 0} → ((y : T) → P y) → IfOk r P
-if_ok-always (Ok y) f = f y
-if_ok-always (Err e) f = tt
+if_ok-always r f = grind (arith, nat_tests)

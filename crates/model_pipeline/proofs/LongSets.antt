@@ -37,9 +37,7 @@ products_with-past d q t (u ∷ us) h short room =
 
 past_step : (m q own off rest all : ℕ) → own ≤ q → off ≤ q * m → rest ≤ m * m * q
     → all ≡ own + (off + rest) → all ≤ suc m * suc m * q
-past_step m q own off rest all h k l e =
-    let one : suc m ≡ m + 1 = omega arith in
-    rw one (omega (arith, e, h, k, l))
+past_step m q own off rest all h k l e = grind (arith, nat_tests)
 
 -- where no set has more than d literals, a union has at most q past its second
 square_terms-past : (n d q : ℕ) (ts : List Term) → AreShort d ts → 2 * d ≤ q + 2
@@ -104,8 +102,7 @@ constraint-past n first k = go (nat_le d 1) refl
 abbrev counted : Normal → List Literal → ℕ
 counted normal ls = factor normal (complements ls) * past ls
 
-counted-append : (normal : Normal) (ts us : List Term)
-    → sets_sum (counted normal) (ts ++ us)
+counted-append : (normal : Normal) (ts us : List Term) → sets_sum (counted normal) (ts ++ us)
     ≡ sets_sum (counted normal) ts + sets_sum (counted normal) us
 counted-append normal ts us = sum_by-append (λ (t : Term). counted normal t.0) ts us
 
@@ -139,14 +136,12 @@ clauses-counted normal n [] = refl
 clauses-counted normal n (c ∷ cs) =
     sets_sum-cons (counted normal) (clause_term n c) (map (clause_term n) cs)
     ∙ (λ i. factor normal (complements-opposites c.literals i) * (opposites_length c.literals i - 2)
-    + clauses-counted normal n cs i)
-    ∙ sym (sum_by-cons (clause_bits normal) c cs)
+    + clauses-counted normal n cs i) ∙ sym (sum_by-cons (clause_bits normal) c cs)
 
 -- ---- constraints
 
 -- a product of two terms of a constraint has twice the complements
-summands-scaled : (k : Constraint) (q : ℕ)
-    → summands normals.Multilinear k ^ 2 * q
+summands-scaled : (k : Constraint) (q : ℕ) → summands normals.Multilinear k ^ 2 * q
     ≡ 2 ^ (2 * most_complements k) * (summands normals.Literal k ^ 2 * q)
 summands-scaled k q =
     let m = most_complements k in

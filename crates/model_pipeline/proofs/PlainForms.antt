@@ -1,6 +1,6 @@
 -- What a problem contributes is small. Multiplied out as it comes, it has the problem's multilinear
 -- table.
-use Rattle.model_pipeline.proofs.Common.{◌≡◌, ◌++◌, None, List, [], length, All, refl, sym, ◌∙◌, subst, arith, append-nil, recursion_from_All, ProblemContent, IsNormal, limit_fault, Normal, High, Term, IsTermSet, with_additions, TableContent, coefficient_of-with_additions, OfSet, All-with_additions, AreTerms-with_additions, contributions-sets, same_tables, contribution_sets, multiplied, IsSmall, penalty_admits, AreAdditions-multiplied_out, small-additions, total-multiplied, size_within, image_size, AreAdditions-of, total-additions, table_of, additions_of, HeldContent, HasPlaces, sum_for-with_additions, places_at_first, terms_of, AddTo}
+use Rattle.model_pipeline.proofs.Common.{nat_tests, ◌≡◌, ◌++◌, None, List, [], length, All, refl, sym, ◌∙◌, subst, arith, append-nil, recursion_from_All, ProblemContent, IsNormal, limit_fault, Normal, High, Term, IsTermSet, with_additions, TableContent, coefficient_of-with_additions, OfSet, All-with_additions, AreTerms-with_additions, contributions-sets, same_tables, contribution_sets, multiplied, IsSmall, penalty_admits, AreAdditions-multiplied_out, small-additions, total-multiplied, size_within, image_size, AreAdditions-of, total-additions, table_of, additions_of, HeldContent, HasPlaces, sum_for-with_additions, places_at_first, terms_of, AddTo}
 use Rattle.problem_form.specs.declared.limits.Normal.TheVariants.{Literal, Multilinear}
 use Rattle.term_table.specs.MultipliedOut.{contributions}
 use Rattle.normal_form.specs.Multilinear.{Admits}
@@ -25,10 +25,8 @@ table_of-plain p admitted =
     let same : with_additions [] (contributions ts) ≡ with_additions [] (contributions (with_additions [] ts)) =
     same_tables width (with_additions [] (contributions ts)) (with_additions [] (contributions (with_additions [] ts)))
     (AreTerms-with_additions width (contributions ts) additions.sets)
-    (AreTerms-with_additions width (contributions (with_additions [] ts)) summed)
-    (λ ls.
-    coefficient_of-with_additions ls (contributions ts)
-    ∙ sym (sum_for-with_additions ls ts)
+    (AreTerms-with_additions width (contributions (with_additions [] ts)) summed) (λ ls.
+    coefficient_of-with_additions ls (contributions ts) ∙ sym (sum_for-with_additions ls ts)
     ∙ sym (coefficient_of-with_additions ls (contributions (with_additions [] ts)))) in
     λ i. record { width = width; terms = same i }
 
@@ -36,8 +34,7 @@ table_of-plain p admitted =
 
 -- there is room for it where nothing is held
 pub room-plain : (p : ProblemContent) (h : HeldContent) → Admits p → length h.weights ≡ penalty.node_count p
-    → h.total ≡ 0
-    → (more : List Term)
+    → h.total ≡ 0 → (more : List Term)
     × (HasPlaces h (contributions (penalty.contributions p ++ more)) × All IsSmall (penalty.contributions p ++ more))
 room-plain p h admitted wide total =
     let ts = penalty.contributions p in
@@ -52,8 +49,7 @@ room-plain p h admitted wide total =
 -- the penalty method admits it
 pub admits_of : (normal : Normal) (p : ProblemContent) → IsNormal p → limit_fault normal p ≡ None
     → penalty.Admits p
-admits_of Literal p normal within = record { normal = normal; within = within }
-admits_of Multilinear p normal within = penalty_admits p (record { normal = normal; within = within })
+admits_of normal p is within = grind (arith, nat_tests, penalty_admits)
 
 -- what it adds in a normal form
 abbrev pub additions_by : Normal → ProblemContent → TableContent

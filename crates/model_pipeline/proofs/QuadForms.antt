@@ -1,6 +1,6 @@
 -- From additions that are small to their quadratic form: all that is made on the way is well formed
 -- and has room.
-use Rattle.model_pipeline.proofs.Common.{◌≤◌, ◌+◌, ◌^◌, refl, sym, ap, subst, arith, BitsLink, High, TableContent, IsTable, table_size, terms_total-with_additions, all_nodes-le, IsSound-run, IsLow-image, size-image, QuadContent, IsQuad, quad_size, quad_total, quad_total-image, quad_size-image, IsQuad-image, table_of, IsTable-table_of, IsTable-low_of, image-quad, nodes-table, size-grows, total-grows, IsWithin, FitsByPairs, low_terms_of, LowFits, AddTo}
+use Rattle.model_pipeline.proofs.Common.{◌≤◌, ◌+◌, ◌^◌, refl, sym, ap, subst, arith, BitsLink, High, TableContent, IsTable, table_size, terms_total-with_additions, all_nodes-le, IsSound-run, IsLow-image, size-image, QuadContent, IsQuad, quad_size, quad_total, quad_total-image, quad_size-image, IsQuad-image, table_of, IsTable-table_of, IsTable-low_of, image-quad, nodes-table, size-grows, total-grows, IsWithin, low_terms_of, LowFits, AddTo}
 use Rattle.problem_form.specs.declared.limits.High.TheVariants.{Monomial, Rosenberg}
 use Rattle.term_table.specs.Tables.{IsLow}
 use Rattle.monomial_layer.specs.Monomials as monomials
@@ -30,13 +30,6 @@ IsWithin-small t u adds = record {
   narrow =
       omega (arith, adds.size, ap table_size adds.table, nodes-table u, all_nodes-le (table_of u).terms);
   total = omega (arith, adds.total);
-}
-
-pub FitsByPairs-small : (t u : TableContent) → AddTo t u → FitsByPairs u
-FitsByPairs-small t u adds = record {
-  additions = adds.additions;
-  total = omega (arith, adds.total);
-  size = omega (arith, adds.size, ap table_size adds.table);
 }
 
 sums_have_quad : (high : High) (u : TableContent) → AddTo (table_of u) u → HasQuad high (table_of u)

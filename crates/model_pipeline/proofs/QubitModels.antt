@@ -39,23 +39,19 @@ moved_within n r most more h are = record {
 
 -- what the ties of a form with room for the layer cost
 offset_within : (ties : ChainStrength) (e : Embedding) → IsEmbedding e
-    → (ising_total e.ising + 1) * 2 ^ 21 ≤ 2 ^ 124
-    → unsigned_abs (offset_tied ties e) ≤ 2 ^ 123
+    → (ising_total e.ising + 1) * 2 ^ 21 ≤ 2 ^ 124 → unsigned_abs (offset_tied ties e) ≤ 2 ^ 123
 offset_within ties e kept small = omega (arith, tied_offset e kept ties, small)
 
 -- a figure, moved by it
 tied_low : (z b : ℤ) → unsigned_abs z < 2 ^ 122 → unsigned_abs b ≤ 2 ^ 123
     → unsigned_abs (pos 1 *ℤ z +ℤ b) < 2 ^ 124
-tied_low z b h k =
-    let once : pos 1 *ℤ z +ℤ b ≡ z +ℤ b = omega (arith, ints) in
-    omega (arith, ap unsigned_abs once, sum_low z b (2 ^ 122) (2 ^ 123) (omega (arith, h)) k)
+tied_low z b h k = grind (arith, nat_tests, ints)
 
 -- the same with what the ties of an embedded form give
 pub tied_figure : (ties : ChainStrength) (e : Embedding) (z b : ℤ) → IsEmbedding e
     → (ising_total e.ising + 1) * 2 ^ 21 ≤ 2 ^ 124 → unsigned_abs z < 2 ^ 122
     → b ≡ offset_tied ties e → unsigned_abs (pos 1 *ℤ z +ℤ b) < 2 ^ 124
-tied_figure ties e z b kept small low tied =
-    rw tied (tied_low z (offset_tied ties e) low (offset_within ties e kept small))
+tied_figure ties e z b kept small low tied = grind (arith, nat_tests, ints, tied_low, offset_within)
 
 pub tied_fits : (ties : ChainStrength) (e : Embedding) (z b : ℤ) → IsEmbedding e
     → (ising_total e.ising + 1) * 2 ^ 21 ≤ 2 ^ 124 → unsigned_abs z < 2 ^ 122
@@ -71,13 +67,7 @@ pub moved_by_ties : (ties : ChainStrength) (n : Figures) (e : Embedding) → IsE
     → AreMoved n (chained_figures ties e n) (2 ^ 124)
 moved_by_ties ties n e kept small offset_low threshold_low =
     let tied = offset_within ties e kept small in
-    let b = offset_tied ties e in
-    record {
-      scale = omega (arith, ints);
-      threshold = omega (arith, ints);
-      offset_low = omega (arith, tied_low n.offset b offset_low tied);
-      threshold_low = omega (arith, tied_low n.threshold b threshold_low tied);
-    }
+    grind (arith, nat_tests, tied_low)
 
 -- figures fit their fields
 figures_fit : (n r : Figures) (most : ℕ) → unsigned_abs n.scale ≤ 2 ^ 127 → AreMoved n r most
@@ -116,8 +106,7 @@ module _ (f : IsingContent) (n : Figures) (own : ℕ) (ties : ChainStrength) (gr
   -- ---- in any unit
 
   stands_in : (choice : UnitChoice) (g : IsingContent) (u : ℤ) (r : Figures) → IsIsing g
-      → FitsOutput (kind_of graph) e.chains own g
-      → All (AreEndsJoined fabric.joined) g.couplings
+      → FitsOutput (kind_of graph) e.chains own g → All (AreEndsJoined fabric.joined) g.couplings
       → pos 1 ≤ℤ u → unsigned_abs u ≤ 2 ^ 125 → AreMoved n r (2 ^ 125)
       → StandsForWhat ties f n (written_of g own r u (kind_of graph) e.chains)
       → (HasChainRoom f n → HasBounds g u r)
@@ -142,8 +131,7 @@ module _ (f : IsingContent) (n : Figures) (own : ℕ) (ties : ChainStrength) (gr
         };
         well_formed =
             written_is_well_formed g own r u (kind_of graph) e.chains ising on_chains
-            (subst (λ z. pos 1 ≤ℤ z) (sym are.scale) positive)
-            one;
+            (subst (λ z. pos 1 ≤ℤ z) (sym are.scale) positive) one;
         variables = refl;
         scale = moved.scale;
         threshold = moved.threshold;
@@ -156,8 +144,7 @@ module _ (f : IsingContent) (n : Figures) (own : ℕ) (ties : ChainStrength) (gr
               subst (λ cs. All (IsConnected fabric.joined) cs) (sym checked.chains)
               valid.0.connected;
           apart = kept.once;
-          joined =
-              written_joined fabric.joined graph.rows graph.cols graph.shore e.chains g joined;
+          joined = written_joined fabric.joined graph.rows graph.cols graph.shore e.chains g joined;
         };
         stands = stands;
         bounded = λ room.
@@ -182,8 +169,7 @@ module _ (f : IsingContent) (n : Figures) (own : ℕ) (ties : ChainStrength) (gr
   tied_joined = tied_is_joined ties fabric.joined fabric.qubits f map e both_ways checked
 
   image_low : HasChainRoom f n → ising_total tied < 2 ^ 121
-  image_low room =
-      omega (arith, tied_total e kept ties, ap ising_total checked.ising, room.total)
+  image_low room = grind (arith, nat_tests, tied_total)
 
   -- a figure on chains, without the constant
   figure_low : HasChainRoom f n → (z : ℤ) → unsigned_abs z < 2 ^ 122
@@ -191,19 +177,9 @@ module _ (f : IsingContent) (n : Figures) (own : ℕ) (ties : ChainStrength) (gr
   figure_low room z low = grind (arith, nat_tests, ints, image_low room, tied_offset e kept ties)
 
   image_bounds : HasChainRoom f n → HasBounds tied (pos 1) (chained_figures ties e n)
-  image_bounds room =
-      let same : n.scale *ℤ pos 1 ≡ n.scale = omega (arith, ints) in record {
-        total = image_low room;
-        unit = omega (arith, ints);
-        figures = record {
-          scale = omega (arith, ap unsigned_abs same, room.figures.scale);
-          offset = figure_low room n.offset room.figures.offset;
-          threshold = figure_low room n.threshold room.figures.threshold;
-        };
-      }
+  image_bounds room = grind (arith, nat_tests, ints, image_low, figure_low)
 
-  reduced_bounds : HasChainRoom f n
-      → HasBounds (reduced tied) (ising_unit tied)
+  reduced_bounds : HasChainRoom f n → HasBounds (reduced tied) (ising_unit tied)
       (figures_moved (chained_figures ties e n) (neg_ℤ tied.constant))
   reduced_bounds room =
       let u = ising_unit tied in
@@ -247,14 +223,8 @@ module _ (f : IsingContent) (n : Figures) (own : ℕ) (ties : ChainStrength) (gr
       (qubit_model choice ties e own n (kind_of graph))
   model_stands One small are =
       stands_in One tied (pos 1) (chained_figures ties e n) (tied_is_ising e kept ties small)
-      tied_on_chains
-      tied_joined
-      (omega (arith, ints))
-      (omega (arith, ints))
-      (moved_within n _ _ _ (omega arith) are)
-      (stands_for One)
-      image_bounds
-      refl
+      tied_on_chains tied_joined (omega (arith, ints)) (omega (arith, ints))
+      (moved_within n _ _ _ (omega arith) are) (stands_for One) image_bounds refl
   model_stands Reduce small are =
       let u = ising_unit tied in
       let c = neg_ℤ tied.constant in
@@ -263,12 +233,9 @@ module _ (f : IsingContent) (n : Figures) (own : ℕ) (ties : ChainStrength) (gr
       let light = ising.small in
       let unit = unit_low tied.fields tied.couplings (2 ^ 124) (omega (arith, light)) in
       let fits = reduced_fits (kind_of graph) own e.chains tied tied_on_chains in
-      stands_in Reduce (reduced tied) u r (reduced_is_ising tied ising)
-      fits
-      (reduced_joined fabric.joined tied tied_joined)
-      (one_le_ising_unit tied)
+      stands_in Reduce (reduced tied) u r (reduced_is_ising tied ising) fits
+      (reduced_joined fabric.joined tied tied_joined) (one_le_ising_unit tied)
       (omega (arith, unit, light))
       (moved_once n _ _ _ c are (minus_low tied.constant (2 ^ 124) (omega (arith, light))))
-      (stands_for Reduce)
-      reduced_bounds
+      (stands_for Reduce) reduced_bounds
       (made_is_reduced tied (reduced tied) u refl refl own r (kind_of graph) e.chains fits)

@@ -6,8 +6,7 @@ use Rattle.model_pipeline.specs.declared.site.ChainSource.TheVariants.{Clique, M
 -- ---- the qubits
 
 pub sized_in : (qubits : Qubits) → (fabric_in qubits).qubits ≡ qubits_of (graph_in qubits)
-sized_in (which.All graph) = refl
-sized_in (which.Working w) = refl
+sized_in qubits = grind (arith, nat_tests)
 
 pub joined_both_ways : (qubits : Qubits) (a b : ℕ)
     → (fabric_in qubits).joined a b ≡ (fabric_in qubits).joined b a
@@ -15,8 +14,7 @@ joined_both_ways (which.All graph) a b = are_joined-comm (place_of graph a) (pla
 joined_both_ways (which.Working w) a b = joined_in-comm w a b
 
 pub few_in : (qubits : Qubits) → (fabric_in qubits).qubits ≤ 2 ^ 20
-few_in (which.All graph) = omega (arith, graph.shape.few)
-few_in (which.Working w) = omega (arith, w.graph.shape.few)
+few_in qubits = grind (arith, nat_tests)
 
 -- ---- maps on all qubits of a graph
 

@@ -1,5 +1,5 @@
 -- The model of a problem: what it promises of the problem.
-use Rattle.model_pipeline.proofs.Common.{nat_tests, ◌≡◌, ◌≤◌, ◌<◌, ◌^◌, ◌*◌, ℕ, ℤ, pos, ◌+ℤ◌, ◌*ℤ◌, None, length, take, refl, sym, ap, ◌∙◌, subst, arith, FitsSigned, unsigned_abs, w128, ints, take-take, Figures, BitsLink, UnitChoice, Decoding, Keeps, Relaxes, decoding_after, figures_after, keeps_after_relaxes, first_bits, fits_below, Normal, High, Choices, ProblemContent, IsNormal, form_of, upper, limit_fault, NodeModel, figures, node_count, penalty_relaxes, threshold_within, TableContent, multilinear_relaxes, mono_keeps, excess, rosen_keeps, width-run-le, QuadContent, IsQuad, same_bits, length-image, flat_keeps, coupled, length-fields, spins_keeps, image_is_ising, total-image, IsModelOf, form_model, ising_figures, low_terms_of, quad_by, quad_of, terms_of, HaveRoom, HasRoom, IsQuadratized, Stands, LowFits}
+use Rattle.model_pipeline.proofs.Common.{nat_tests, ◌≡◌, ◌≤◌, ◌<◌, ◌^◌, ◌*◌, ℕ, ℤ, pos, ◌+ℤ◌, ◌*ℤ◌, None, length, refl, ap, ◌∙◌, arith, FitsSigned, unsigned_abs, w128, ints, take-take, Figures, BitsLink, UnitChoice, Decoding, Keeps, Relaxes, decoding_after, figures_after, keeps_after_relaxes, first_bits, Normal, High, Choices, ProblemContent, IsNormal, form_of, upper, limit_fault, NodeModel, figures, node_count, penalty_relaxes, threshold_within, TableContent, multilinear_relaxes, mono_keeps, rosen_keeps, width-run-le, QuadContent, IsQuad, same_bits, length-image, flat_keeps, coupled, length-fields, spins_keeps, image_is_ising, total-image, IsModelOf, form_model, ising_figures, low_terms_of, quad_by, quad_of, terms_of, HaveRoom, HasRoom, IsQuadratized, Stands, LowFits}
 use Rattle.problem_form.specs.declared.limits.Normal.TheVariants.{Literal, Multilinear}
 use Rattle.problem_form.specs.declared.limits.High.TheVariants.{Monomial, Rosenberg}
 use Rattle.command_words.specs.declared.commands.NodeModel.TheVariants.{Qubo, Ising}
@@ -32,9 +32,7 @@ formed_have_room p q n formed = record {
 -- the same form, with the same figures
 pub formed_as : (p : ProblemContent) (q r : QuadContent) (n : Figures) → q ≡ r → n ≡ figures p
     → IsQuadratized p r (figures p) → IsQuadratized p q n
-formed_as p q r n form figured made =
-    subst (λ m. IsQuadratized p q m) (sym figured)
-    (subst (λ f. IsQuadratized p f (figures p)) (sym form) made)
+formed_as p q r n form figured made = grind (arith, nat_tests)
 
 -- a step that neither scales nor moves keeps the figures
 pub figures-still : (n : Figures) → figures_after n (pos 1) (pos 0) ≡ n
@@ -53,13 +51,11 @@ terms_relax Literal a p fits = penalty_relaxes a p fits
 terms_relax Multilinear a p fits = multilinear_relaxes a p fits
 
 pub terms_width : (normal : Normal) (p : ProblemContent) → (terms_of normal p).width ≡ node_count p
-terms_width Literal p = refl
-terms_width Multilinear p = refl
+terms_width normal p = grind (arith, nat_tests)
 
 pub low_source : (high : High) (b : BitsLink) (t : TableContent) → LowFits high b t
     → b.source_width ≡ t.width
-low_source Monomial b t fits = fits.source
-low_source Rosenberg b t fits = fits.source
+low_source high b t fits = grind (arith, nat_tests)
 
 pub low_keeps : (high : High) (b : BitsLink) (t : TableContent) → LowFits high b t
     → Keeps (tables.form_of t) (tables.form_of (low_terms_of high t)) (first_bits b) (pos 1) (pos 0)
@@ -67,8 +63,7 @@ low_keeps Monomial b t fits = mono_keeps b t fits
 low_keeps Rosenberg b t fits = rosen_keeps b t fits
 
 low_wider : (high : High) (t : TableContent) → t.width ≤ (low_terms_of high t).width
-low_wider Monomial t = omega arith
-low_wider Rosenberg t = width-run-le (excess t.terms) t
+low_wider high t = grind (arith, nat_tests, width-run-le)
 
 -- states are decoded step by step
 abbrev pub steps : BitsLink → BitsLink → BitsLink → Decoding
@@ -76,8 +71,7 @@ steps a b c = decoding_after (decoding_after (first_bits a) (first_bits b)) (sam
 
 module _ (normal : Normal) (high : High) (p : ProblemContent) where
   pub steps_enough : p.variables ≤ length (quad_by normal high p).diagonal
-  steps_enough =
-      omega (arith, length-image (low_terms_of high (terms_of normal p)), low_wider high (terms_of normal p), terms_width normal p)
+  steps_enough = grind (arith, nat_tests, length-image, low_wider, terms_width)
 
   -- with the links of the steps
   module _ (normal_is : IsNormal p) (on : HasQuad high (terms_of normal p)) where
@@ -98,27 +92,11 @@ module _ (normal : Normal) (high : High) (p : ProblemContent) where
         let c = flat_link high t on in
         let low = keeps_after_relaxes (terms_relax normal a.0 p a.1) (low_keeps high b.0 t b.1) in
         let whole = keeps_after_relaxes low (flat_keeps c.0 (low_terms_of high t) c.1) in
-        let still : figures_after (figures_after (figures p) (pos 1) (pos 0)) (pos 1) (pos 0) ≡ figures p =
-        ap (λ n. figures_after n (pos 1) (pos 0)) (figures-still (figures p)) ∙ figures-still (figures p) in
-        let source = low_source high b.0 t b.1 ∙ terms_width normal p in
-        record {
-          figures = refl;
-          threshold = threshold;
-          enough = steps_enough;
-          total = omega (arith, on.total);
-          size = omega (arith, on.size);
-          total_low = on.total;
-          size_low = on.size;
-          stands = (
-            steps a.0 b.0 c.0,
-            record {
-              relaxes = subst (λ n. Relaxes f g (steps a.0 b.0 c.0) (pos 1) n) still whole;
-              decodes = λ y.
-                  (λ i. take p.variables (take (source i) y))
-                  ∙ take-take p.variables (node_count p) y (omega arith);
-            },
-          );
-        }
+        let still : figures_after (figures_after (figures p) (pos 1) (pos 0)) (pos 1) (pos 0) ≡
+        figures p =
+        ap (λ n. figures_after n (pos 1) (pos 0)) (figures-still (figures p)) ∙ figures-still
+        (figures p) in
+        grind (arith, nat_tests, low_source, terms_width, steps_enough, take-take)
 
 -- the form of a problem within the limits stands for it
 pub problem_formed : (choices : Choices) (p : ProblemContent) → IsNormal p
@@ -154,14 +132,10 @@ four_times_low z most h = omega (arith, ints)
 -- a small number fits four times
 module _ (z s : ℤ) (four : s ≡ pos 4) (small : unsigned_abs z < 2 ^ 122) where
   pub fits-times : FitsSigned w128 (z *ℤ s)
-  fits-times =
-      subst (λ k. FitsSigned w128 (z *ℤ k)) (sym four)
-      (fits_below (z *ℤ pos 4) (2 ^ 124) (omega (arith, ints, small)) (omega arith))
+  fits-times = grind (arith, nat_tests, ints)
 
   pub fits-product : FitsSigned w128 (s *ℤ z)
-  fits-product =
-      subst (λ k. FitsSigned w128 (k *ℤ z)) (sym four)
-      (fits_below (pos 4 *ℤ z) (2 ^ 124) (omega (arith, ints, small)) (omega arith))
+  fits-product = grind (arith, nat_tests, ints)
 
   pub fits-sum : (b : ℤ) → b ≡ pos 0 → FitsSigned w128 (s *ℤ z +ℤ b)
   fits-sum b none = grind (arith, nat_tests, ints)
@@ -204,8 +178,7 @@ made_model Qubo choice p own q kept made few =
     let figured =
     figures_within (pos 1) p (figures p) _ _ (omega arith) (figures_are_stated p made.threshold) in
     qubo_stands p own made.stands.0 choice q (figures p) kept least (omega (arith, made.total_low))
-    figured
-    made.stands.1
+    figured made.stands.1
 made_model Ising choice p own q kept made few =
     let stands = spins_stand p q kept made.stands in
     let width = length-fields (coupled q.couplers) 0 q.diagonal in
@@ -220,6 +193,4 @@ made_model Ising choice p own q kept made few =
 pub formed_model : (target : NodeModel) (choice : UnitChoice) (p : ProblemContent) (own : ℕ)
     (q : QuadContent) (n : Figures) → IsQuad q → IsQuadratized p q n → own ≤ p.variables
     → IsModelOf p own target choice (form_model target choice q own n)
-formed_model target choice p own q n kept made few =
-    subst (λ m. IsModelOf p own target choice (form_model target choice q own m)) (sym made.figures)
-    (made_model target choice p own q kept (subst (λ m. IsQuadratized p q m) made.figures made) few)
+formed_model target choice p own q n kept made few = grind (arith, nat_tests, made_model)

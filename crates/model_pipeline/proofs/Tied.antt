@@ -18,8 +18,7 @@ module _ (e : Embedding) (kept : IsEmbedding e) where
 
   pub tied_total : (ties : ChainStrength)
       → ising_total (image_tied ties e) + 1 ≤ (ising_total e.ising + 1) * 2 ^ 21
-  tied_total Choi = choi_sizes.total_grows e kept
-  tied_total Cut = cut_total_grows e kept
+  tied_total ties = grind (arith, nat_tests, choi_sizes.total_grows e kept, cut_total_grows e kept)
 
   pub tied_offset : (ties : ChainStrength)
       → unsigned_abs (offset_tied ties e) ≤ (ising_total e.ising + 1) * 2 ^ 20
@@ -45,8 +44,7 @@ tied_is_joined Cut joined n f map e both_ways checked =
 
 -- it has a field for each qubit
 pub tied_width : (ties : ChainStrength) (e : Embedding) → length (image_tied ties e).fields ≡ e.qubits
-tied_width Choi e = length-map-range_with_len (chains.field_at (chains.all_shares e)) 0 e.qubits
-tied_width Cut e = length-map-range_with_len (chains.field_at (chains.all_shares e)) 0 e.qubits
+tied_width ties e = grind (arith, nat_tests, length-map-range_with_len)
 
 -- ---- what it stands for
 
@@ -88,8 +86,7 @@ least_stand_by Cut f g d u n stands = stands
 
 -- counted in a unit it stands for the same
 pub stands_reduced : (ties : ChainStrength) (f g h : Form) (d : Decoding) (n : Figures) (u b : ℤ)
-    → StandsBy ties f g d (pos 1) n → Reduces g h u b
-    → StandsBy ties f h d u (figures_moved n b)
+    → StandsBy ties f g d (pos 1) n → Reduces g h u b → StandsBy ties f h d u (figures_moved n b)
 stands_reduced Choi f g h d n u b stands reduces = reduces_after_relaxes stands reduces
 stands_reduced Cut f g h d n u b stands reduces = reduced_stands f g h d n u b stands reduces
 

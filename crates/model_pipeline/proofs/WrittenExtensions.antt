@@ -68,8 +68,7 @@ module _ (choices : Choices) (p : ProblemContent) (room : HasRoom (quad_of choic
 
   module _ (own : ℕ) (few : own ≤ p.variables) where
     on_nodes : (target : NodeModel) (unit : UnitChoice) (x y : List Bool)
-        → IsLeastExtension choices p x y
-        → ExtendsBest (model choices target unit own p) x
+        → IsLeastExtension choices p x y → ExtendsBest (model choices target unit own p) x
         (state_on (model choices target unit own p) y)
     on_nodes Qubo unit x y least =
         subst (ExtendsBest (model choices Qubo unit own p) x) (sym (kept_on Qubo unit own y))
@@ -79,8 +78,7 @@ module _ (choices : Choices) (p : ProblemContent) (room : HasRoom (quad_of choic
         subst (ExtendsBest (model choices Ising unit own p) x) (sym (kept_on Ising unit own y))
         (best _ after_spins spun_figures _ x y
         (chained_counts unit ising own p.variables spun_figures kinds.Ising [] after_spins (λ z. refl)
-        (refl, omega (arith, same_width, enough, few)))
-        (spun_least x y least))
+        (refl, omega (arith, same_width, enough, few))) (spun_least x y least))
 
     -- ---- on chains
 
@@ -100,11 +98,8 @@ module _ (choices : Choices) (p : ProblemContent) (room : HasRoom (quad_of choic
       wide = least.width ∙ sym same_width ∙ sym (ap (λ (f : IsingContent). length f.fields) same)
 
       -- the embedded form has the state y
-      embedded_least :
-          ExtendsLeast source (isings.form_of e.ising) after_spins spun_figures x y
-      embedded_least =
-          subst (λ f. ExtendsLeast source (isings.form_of f) after_spins spun_figures x y) (sym same)
-          (spun_least x y least)
+      embedded_least : ExtendsLeast source (isings.form_of e.ising) after_spins spun_figures x y
+      embedded_least = grind (arith, nat_tests, spun_least x y least)
 
       chained_follows :
           Follows source (isings.form_of (image_tied ties e)) after_chains tied_figures x z
@@ -126,9 +121,7 @@ module _ (choices : Choices) (p : ProblemContent) (room : HasRoom (quad_of choic
       counts : (unit : UnitChoice)
           → Counts p.variables (isings.form_of (image_tied ties e)) tied_figures after_chains
           (qubit_model unit ties e own spun_figures (kind_of graph))
-      counts unit =
-          chained_counts unit (image_tied ties e) own p.variables tied_figures (kind_of graph) e.chains
-          after_chains reads on_graph
+      counts unit = grind (arith, nat_tests, chained_counts, reads, on_graph)
 
       model_width : (unit : UnitChoice)
           → (qubit_model unit ties e own spun_figures (kind_of graph)).nodes ≡ e.qubits
@@ -140,8 +133,7 @@ module _ (choices : Choices) (p : ProblemContent) (room : HasRoom (quad_of choic
       -- the state on the qubits is the extension
       state_is : (unit : UnitChoice)
           → state_on (qubit_model unit ties e own spun_figures (kind_of graph)) y ≡ z
-      state_is One = ap (λ n. chains.on_chains e.chains n y) (model_width One)
-      state_is Reduce = ap (λ n. chains.on_chains e.chains n y) (model_width Reduce)
+      state_is unit = grind (arith, nat_tests, model_width)
 
       on_chains : (unit : UnitChoice)
           → ExtendsTo p.variables source (qubit_model unit ties e own spun_figures (kind_of graph))
@@ -158,8 +150,7 @@ module _ (choices : Choices) (p : ProblemContent) (room : HasRoom (quad_of choic
 
       fits_chains : (unit : UnitChoice)
           → FitsState (qubit_model unit ties e own spun_figures (kind_of graph)) y
-      fits_chains One = fits_qubits _ (tied_width ties e)
-      fits_chains Reduce = fits_qubits _ (model_width Reduce)
+      fits_chains unit = grind (arith, nat_tests, fits_qubits, tied_width, model_width)
 
     -- chains that no state should break keep every state
     module _ (graph : Chimera) (e : Embedding) (kept : IsEmbedding e) (same : e.ising ≡ ising)
@@ -184,15 +175,10 @@ module _ (choices : Choices) (p : ProblemContent) (room : HasRoom (quad_of choic
 
   -- ---- each model of the problem
 
-  fits_nodes : (target : NodeModel) (unit : UnitChoice) (own : ℕ) (y : List Bool)
-      → FitsState (model choices target unit own p) y
-  fits_nodes target unit own y = grind (arith, nat_tests)
-
   -- what a check gives of a valid map is an embedding
   embeds : (qubits : Qubits) (map : List (List ℕ)) (e : Embedding)
       → IsValidOn (fabric_in qubits) ising map
-      → IsChecked (fabric_in qubits).joined (fabric_in qubits).qubits ising map e
-      → IsEmbedding e
+      → IsChecked (fabric_in qubits).joined (fabric_in qubits).qubits ising map e → IsEmbedding e
   embeds qubits map e valid checked =
       checked_embeds (fabric_in qubits).joined (fabric_in qubits).qubits ising map e (few_in qubits)
       (image_is_ising (quad_of choices p) room.quad room.total) valid.0 checked
@@ -200,8 +186,7 @@ module _ (choices : Choices) (p : ProblemContent) (room : HasRoom (quad_of choic
   pub made_extends : (m : Written) (x y : List Bool) → IsMade choices p m
       → IsLeastExtension choices p x y → ExtendsTo p.variables source m x (state_on m y)
   made_extends m x y (ties, own, (few, inl (target, unit, same))) least =
-      subst (λ w. ExtendsTo p.variables source w x (state_on w y)) (sym same)
-      ((on_nodes own few target unit x y least).0)
+      grind (arith, nat_tests, on_nodes own few target unit x y least)
   made_extends m x y (ties, own, (few, inr (unit, qubits, all, valid, (e, checked, same)))) least =
       subst (λ w. ExtendsTo p.variables source w x (state_on w y)) (sym same)
       (on_chains own few ties (graph_in qubits) e (embeds qubits all e valid checked) checked.ising
@@ -210,8 +195,7 @@ module _ (choices : Choices) (p : ProblemContent) (room : HasRoom (quad_of choic
   pub made_least : (m : Written) (x y : List Bool) (own : ℕ) → IsMadeOf Choi own choices p m
       → IsLeastExtension choices p x y → IsLeastTo p.variables m x (state_on m y)
   made_least m x y own (few, inl (target, unit, same)) least =
-      subst (λ w. IsLeastTo p.variables w x (state_on w y)) (sym same)
-      ((on_nodes own few target unit x y least).1)
+      grind (arith, nat_tests, on_nodes own few target unit x y least)
   made_least m x y own (few, inr (unit, qubits, all, valid, (e, checked, same))) least =
       subst (λ w. IsLeastTo p.variables w x (state_on w y)) (sym same)
       (least_on_chains own few (graph_in qubits) e (embeds qubits all e valid checked) checked.ising
@@ -219,8 +203,7 @@ module _ (choices : Choices) (p : ProblemContent) (room : HasRoom (quad_of choic
 
   pub made_fits : (m : Written) (x y : List Bool) → IsMade choices p m
       → IsLeastExtension choices p x y → FitsState m y
-  made_fits m x y (ties, own, (few, inl (target, unit, same))) least =
-      subst (λ w. FitsState w y) (sym same) (fits_nodes target unit own y)
+  made_fits m x y (ties, own, (few, inl (target, unit, same))) least = grind (arith, nat_tests)
   made_fits m x y (ties, own, (few, inr (unit, qubits, all, valid, (e, checked, same)))) least =
       subst (λ w. FitsState w y) (sym same)
       (fits_chains own few ties (graph_in qubits) e (embeds qubits all e valid checked)

@@ -1,6 +1,6 @@
 -- A written model has the energies of its form, counted in its unit and moved: so a state that is
 -- least for the form is least for the model, and what the form stands for the model does.
-use Rattle.model_pipeline.proofs.Common.{◌≡◌, ◌⊎◌, inl, inr, ℕ, ℤ, pos, negsuc, ◌+ℤ◌, ◌*ℤ◌, ◌≤ℤ◌, ◌<ℤ◌, Bool, List, take, refl, sym, ap, ◌∙◌, subst, arith, neg_ℤ, ints, total_by, times-lt, Figures, Kind, UnitChoice, Form, IsOf, energy, Written, bits_energy, read_off, spins_energy, Decoding, ExtendsLeast, Reaches, Reduces, decoding_after, figures_after, figures_moved, QuadContent, one_le_quad_unit, IsingContent, FitsOutput, ising_unit, reduced, one_le_ising_unit, made_reduces, written_energy, ChainStrength, decoding_to, chained_model, qubo_model, StandsBy, ExtendsTo, IsLeastTo}
+use Rattle.model_pipeline.proofs.Common.{nat_tests, ◌≡◌, ◌⊎◌, inl, inr, ℕ, ℤ, pos, negsuc, ◌+ℤ◌, ◌*ℤ◌, ◌≤ℤ◌, ◌<ℤ◌, Bool, List, take, refl, sym, ap, ◌∙◌, subst, arith, neg_ℤ, ints, total_by, times-lt, Figures, Kind, UnitChoice, Form, IsOf, energy, Written, bits_energy, read_off, spins_energy, Decoding, ExtendsLeast, Reaches, Reduces, decoding_after, figures_after, figures_moved, QuadContent, one_le_quad_unit, IsingContent, FitsOutput, ising_unit, reduced, one_le_ising_unit, made_reduces, written_energy, ChainStrength, decoding_to, chained_model, qubo_model, StandsBy, ExtendsTo, IsLeastTo}
 use Rattle.base.specs.declared.costs.Cost.TheVariants.{Whole}
 use Rattle.base.specs.declared.unit.UnitChoice.TheVariants.{One, Reduce}
 use Rattle.bits_model.specs.Output.{form_of}
@@ -72,31 +72,14 @@ module _ (variables : ℕ) (f g : Form) (d : Decoding) (n : Figures) (m : Writte
     (counts : Counts variables g n d m) where
   -- a state extends for the model what it extends for the form
   pub extends_written : (x y : List Bool) → Follows f g d n x y → ExtendsTo variables f m x y
-  extends_written x y follows =
-      let reduces = counts.reduces in
-      record {
-        width = follows.width ∙ sym reduces.width;
-        decodes = sym (counts.reads y) ∙ follows.decodes;
-        scaled = λ v whole.
-            omega (
-              arith,
-              ints,
-              reduces.energy y follows.width,
-              follows.scaled v whole,
-              ap (λ (r : Figures). r.scale *ℤ v) counts.figures,
-              ap (λ (r : Figures). r.offset) counts.figures,
-            );
-      }
+  extends_written x y follows = grind (arith, nat_tests, ints)
 
   pub least_written : (x y : List Bool) → ExtendsLeast f g d n x y → IsLeastTo variables m x y
   least_written x y least = λ z w same.
       let reduces = counts.reduces in
       let wide = w ∙ reduces.width in
       counted_le m.unit (energy (form_of m) y) (energy (form_of m) z) (energy g y) (energy g z)
-      counts.moved
-      reduces.positive
-      (reduces.energy y least.width)
-      (reduces.energy z wide)
+      counts.moved reduces.positive (reduces.energy y least.width) (reduces.energy z wide)
       (least.least z wide (counts.reads z ∙ same))
 
 -- what the form stands for, the model does
@@ -171,8 +154,7 @@ module _ (f : IsingContent) (own variables : ℕ) (n : Figures) (kind : Kind)
     reduces = record {
       positive = omega (arith, ints);
       width = refl;
-      energy = λ y w.
-          ap (λ z. pos 1 *ℤ z) (written_energy f own kind chains fits y)
+      energy = λ y w. ap (λ z. pos 1 *ℤ z) (written_energy f own kind chains fits y)
           ∙ once_moved f.constant (total_by (spins_energy y) (isings.entries_of f));
     };
     figures = refl;
@@ -180,8 +162,7 @@ module _ (f : IsingContent) (own variables : ℕ) (n : Figures) (kind : Kind)
   }
 
   -- .. and counted in its unit
-  reduced_counts : FitsOutput kind chains own (reduced f)
-      → Counts variables (isings.form_of f) n d
+  reduced_counts : FitsOutput kind chains own (reduced f) → Counts variables (isings.form_of f) n d
       (outputs.written_of (reduced f) own (figures_moved n (neg_ℤ f.constant)) (ising_unit f) kind
       chains)
   reduced_counts fits =
@@ -193,8 +174,7 @@ module _ (f : IsingContent) (own variables : ℕ) (n : Figures) (kind : Kind)
         reduces = record {
           positive = one_le_ising_unit f;
           width = is.width;
-          energy = λ y w.
-              ap (λ z. u *ℤ z) (written_energy g own kind chains fits y)
+          energy = λ y w. ap (λ z. u *ℤ z) (written_energy g own kind chains fits y)
               ∙ sym (ap (λ z. u *ℤ z) (nothing_more (total_by (spins_energy y) (isings.entries_of g))))
               ∙ is.energy y w;
         };

@@ -1,14 +1,31 @@
 -- Steps of the additions that stand for a term.
-use Rattle.monomial_layer.proofs.Common.{nat_tests, ints, ◌≡◌, Bool, ℕ, zero, suc, ◌+◌, ◌-◌, ◌*◌, ◌<◌, ◌≤◌, ◌^◌, List, [], ◌∷◌, ◌++◌, length, map, take, drop, get_or, ℤ, refl, sym, ap, ◌∙◌, arith, Result, IfOk, OnOk, flat_map, sum_by, append_assoc, append-nil, drop_more, take_rest, recursion_from_All, sum_by-cons, on_ok_weaker, Literal, Term, terms_total, IsTermSet, TableContent, AreAdditions, IsTable, with_appended, with_more, Fills, HasRoomFor, fills_as, fills_more, room_first, room_next, room_same, OfSet, room-additions, node, with_each, pair_terms, node_term, node_terms, new_nodes, new_bits, all_new_terms}
+use Rattle.monomial_layer.proofs.Common.{nat_tests, ints, ◌≡◌, Bool, ℕ, zero, suc, ◌+◌, ◌-◌, ◌*◌, ◌<◌, ◌≤◌, ◌^◌, List, [], ◌∷◌, ◌++◌, length, map, take, drop, get_or, ℤ, refl, sym, ap, ◌∙◌, arith, Result, OnOk, flat_map, sum_by, append_assoc, append-nil, drop_more, take_rest, recursion_from_All, sum_by-cons, on_ok_weaker, Literal, Term, terms_total, IsTermSet, TableContent, AreAdditions, IsTable, with_appended, with_more, Fills, HasRoomFor, fills_as, fills_more, room_first, room_next, room_same, OfSet, room-additions, node, with_each, pair_terms, node_term, node_terms, new_nodes, new_bits, all_new_terms, Rest, rest_room}
+use Rattle.term_table.proofs.Filling as filling
 use Rattle.monomial_layer.proofs.NewSets.{sets-all_new_terms}
 use Rattle.monomial_layer.proofs.Sizes.{total-image}
 
 -- ---- a term for each element
 
 -- what is left begins with the term of the next element
-pub map_left : {X : Type 0} (f : X → Term) (xs : List X) (i : ℕ) (d : X) → i < length xs
+map_left : {X : Type 0} (f : X → Term) (xs : List X) (i : ℕ) (d : X) → i < length xs
     → map f (drop i xs) ≡ (f (get_or xs i d) ∷ []) ++ map f (drop (i + 1) xs)
 map_left f xs i d inside = ap (map f) (drop_more xs i d inside)
+
+module _ {S : Type 0} (takes : S → List Term → Type 0) (holds : S → TableContent → Type 0)
+    (start now : S)
+    (f : Literal → Term) (ls : List Literal) (i : ℕ) (d : Literal) (inside : i < length ls)
+    (so_far : Rest takes holds start now (map f (drop i ls)) (map f ls)) where
+  -- there is room for it
+  pub each_room : HasRoomFor takes start (map f ls) → HasRoomFor takes now (f (get_or ls i d) ∷ [])
+  each_room =
+      rest_room takes holds start now _ (map f (drop (i + 1) ls)) _ (f (get_or ls i d) ∷ [])
+      (map_left f ls i d inside) so_far
+
+  -- and with it one more is taken in
+  pub each_more : (next : S) → Fills takes holds now next (f (get_or ls i d) ∷ [])
+      → Rest takes holds start next (map f (drop (i + 1) ls)) (map f ls)
+  each_more next one =
+      filling.rest_more takes holds start now next _ _ _ _ (map_left f ls i d inside) one so_far
 
 -- ---- the products of pairs
 
@@ -115,8 +132,3 @@ room_for_all t table total =
     (recursion_from_All (OfSet (IsTermSet t.width)) t.terms table.terms.sets) in
     room-additions e.width ts e
     (record { sets = sets; small = omega (arith, total-image t table, total) }) refl
-
--- what follows from what holds of an answer
-pub if_ok-then : {T E : Type 0} (r : Result T E) {P Q : T → Type 0} → IfOk r P
-    → ((x : T) → P x → Q x) → IfOk r Q
-if_ok-then r p f = grind (arith, nat_tests)

@@ -1,11 +1,11 @@
 -- What the proofs of this crate stand on, of std and of the crates below.
 pub use Rattle.std.proofs.Common.{◌≡◌, Bool, ℕ, zero, suc, ◌+◌, ◌-◌, ◌*◌, ◌<◌, ◌≤◌, ◌^◌, List, [], ◌∷◌, ◌++◌, length, map, take, drop, get_or, ℤ, refl, sym, ap, ◌∙◌, arith, true, false, cond, leb, int_lt, pos, ◌⊎◌, inl, inr, subst, ◌*ℤ◌, neg_ℤ, unsigned_abs, ◌-ℤ◌, FitsSigned, to_z, of_z, add-one, rules}
-pub use Rattle.std.specs.Prelude.{Result, IfOk, OnOk, All}
+pub use Rattle.std.specs.Prelude.{Result, OnOk, All}
 pub use Rattle.std.specs.List.{flat_map, sum_by, AllByRecursion}
 pub use Rattle.std.proofs.lemmas.List.{append_assoc, append-nil, drop_more, take_rest}
 pub use Rattle.std.proofs.lemmas.List.Elements.{recursion_from_All, All-nil, All-cons, All-append, All-rest}
 pub use Rattle.std.proofs.lemmas.List.Sums.{sum_by-cons, sum_by-append}
-pub use Rattle.std.proofs.lemmas.Result.{on_ok_weaker}
+pub use Rattle.std.proofs.lemmas.Result.{IfOk-weaker, on_ok_weaker}
 pub use Rattle.literal_lists.specs.declared.literal.Literal.{Literal}
 pub use Rattle.term_table.specs.Terms.{Term, terms_total, IsTermSet, terms_size, set_size, with_additions}
 pub use Rattle.term_table.specs.Tables.{TableContent, AreAdditions, IsTable, with_appended, with_more, IsLow, table_size, form_of, KeptTable, kept_at_once}

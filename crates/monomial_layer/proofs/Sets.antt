@@ -57,7 +57,3 @@ IsLow-image t =
 -- they stand for themselves
 pub new_terms-one : (t : Term) (n : ℕ) → OfSet IsShort t → new_terms t n ≡ t ∷ []
 new_terms-one t n few = grind (arith, nat_tests)
-
--- without new nodes
-pub new_nodes-one : (t : Term) → OfSet IsShort t → new_nodes t ≡ 0
-new_nodes-one t few = grind (arith, nat_tests)

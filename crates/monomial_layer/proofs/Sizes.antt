@@ -1,5 +1,5 @@
 -- How much a table grows: the sizes of the coefficients, the nodes, and the squares of the degrees.
-use Rattle.monomial_layer.proofs.Common.{cases_Bool, cases_lt, ◌≡◌, ℕ, zero, suc, ◌+◌, ◌-◌, ◌*◌, ◌^◌, ◌<◌, ◌≤◌, ◌⊎◌, inl, inr, arith, ap, ◌∙◌, refl, List, [], ◌∷◌, ◌++◌, length, ℤ, pos, ◌*ℤ◌, neg_ℤ, unsigned_abs, int_lt, AllByRecursion, sum_by, recursion_from_All, sum_by-cons, sum_by-append, nat_tests, ints, unsigned_abs-mul, mul-le-mul_left, mul-le-mul_right, pow-succ', pow-zero, Literal, Term, terms_total, terms_size, set_size, IsTermSet, TableContent, IsTable, table_size, terms_total-cons, terms_total-append, terms_size-cons, terms_total-with_additions, terms_size-with_additions, node, with_each, each_with, pair_terms, factor, node_term, node_terms, nodes_for, positive_terms, negative_terms, new_nodes, new_terms, all_new_terms, image, pairs, pairs_is, factor_cases}
+use Rattle.monomial_layer.proofs.Common.{cases_Bool, cases_lt, ◌≡◌, ℕ, zero, suc, ◌+◌, ◌-◌, ◌*◌, ◌^◌, ◌<◌, ◌≤◌, ◌⊎◌, inl, inr, arith, ap, ◌∙◌, refl, List, [], ◌∷◌, ◌++◌, length, ℤ, pos, ◌*ℤ◌, neg_ℤ, unsigned_abs, int_lt, AllByRecursion, sum_by, recursion_from_All, sum_by-cons, sum_by-append, nat_tests, ints, unsigned_abs-mul, mul-le-mul_left, mul-le-mul_right, pow-succ', pow-zero, Literal, Term, terms_total, terms_size, set_size, IsTermSet, TableContent, IsTable, table_size, terms_total-cons, terms_total-append, terms_size-cons, terms_total-with_additions, terms_size-with_additions, node, each_with, pair_terms, factor, node_term, node_terms, nodes_for, positive_terms, negative_terms, new_nodes, new_terms, all_new_terms, image, pairs, pairs_is, factor_cases, map}
 
 -- ---- the sizes of the coefficients
 
@@ -9,23 +9,18 @@ abs_neg c = omega (arith, ints)
 pub abs_times : (c : ℤ) (n : ℕ) → unsigned_abs (c *ℤ pos n) ≡ unsigned_abs c * n
 abs_times c n = unsigned_abs-mul c (pos n)
 
-total-with_each : (l : Literal) (c : ℤ) (ks : List Literal)
-    → terms_total (with_each l c ks) ≡ unsigned_abs c * length ks
-total-with_each l c [] = omega arith
-total-with_each l c (k ∷ ks) =
-    omega (arith, total-with_each l c ks, terms_total-cons (l ∷ k ∷ [], c) (with_each l c ks))
-
-total-each_with : (l : Literal) (c : ℤ) (ks : List Literal)
-    → terms_total (each_with ks l c) ≡ unsigned_abs c * length ks
-total-each_with l c [] = omega arith
-total-each_with l c (k ∷ ks) =
-    omega (arith, total-each_with l c ks, terms_total-cons (k ∷ l ∷ [], c) (each_with ks l c))
+-- of the same coefficient with each set
+total-each : (f : Literal → List Literal) (c : ℤ) (ks : List Literal)
+    → terms_total (map (λ k. (f k, c)) ks) ≡ unsigned_abs c * length ks
+total-each f c [] = omega arith
+total-each f c (k ∷ ks) =
+    omega (arith, total-each f c ks, terms_total-cons (f k, c) (map (λ l. (f l, c)) ks))
 
 total-pair_terms : (ls : List Literal) (c : ℤ)
     → terms_total (pair_terms ls c) ≡ unsigned_abs c * pairs (length ls)
 total-pair_terms [] c = omega arith
 total-pair_terms (l ∷ ls) c =
-    omega (arith, total-pair_terms ls c, total-with_each, terms_total-append)
+    omega (arith, total-pair_terms ls c, total-each (λ k. l ∷ k ∷ []) c ls, terms_total-append)
 
 total-node_term : (ls : List Literal) (c : ℤ) (w : Literal) (k : ℕ)
     → terms_total (node_term ls c w k)
@@ -36,7 +31,7 @@ total-node_term ls c w k =
     let head : Term = (w ∷ [], c *ℤ pos (f * (2 * k + 2) - 1)) in
     let tail = each_with ls w (neg_ℤ (c *ℤ pos f)) in
     let each : terms_total tail ≡ unsigned_abs c * f * length ls =
-    total-each_with w (neg_ℤ (c *ℤ pos f)) ls
+    total-each (λ k. k ∷ w ∷ []) (neg_ℤ (c *ℤ pos f)) ls
     ∙ ap (λ x. x * length ls) (abs_neg (c *ℤ pos f) ∙ abs_times c f) in
     omega (arith, terms_total-cons head tail, abs_times c (f * (2 * k + 2) - 1), each)
 
@@ -110,7 +105,8 @@ total-negative_terms ls c n some =
     let head : unsigned_abs (neg_ℤ (c *ℤ pos (d - 1))) ≡ unsigned_abs c * (d - 1) =
     abs_neg (c *ℤ pos (d - 1)) ∙ abs_times c (d - 1) in
     let one : (d - 1) + 1 ≡ d = omega arith in
-    omega (arith, terms_total-cons, head, total-each_with, ap (λ m. unsigned_abs c * m) one)
+    let each = total-each (λ k. k ∷ node n ∷ []) c ls in
+    omega (arith, terms_total-cons, head, ap (λ m. unsigned_abs c * m) one)
 
 squared : (d : ℕ) → d ≤ 2048 → 2 * (d * d) ≤ 2 ^ 24
 squared d short = grind (arith, nat_tests)
@@ -135,28 +131,23 @@ nodes-few t high =
 size-append : (ts us : List Term) → terms_size (ts ++ us) ≡ terms_size ts + terms_size us
 size-append ts us = sum_by-append (λ (t : Term). set_size t.0) ts us
 
-size-with_each : (l : Literal) (c : ℤ) (ks : List Literal)
-    → terms_size (with_each l c ks) ≡ 4 * length ks
-size-with_each l c [] = refl
-size-with_each l c (k ∷ ks) =
-    omega (arith, size-with_each l c ks, terms_size-cons (l ∷ k ∷ [], c) (with_each l c ks))
-
-size-each_with : (l : Literal) (c : ℤ) (ks : List Literal)
-    → terms_size (each_with ks l c) ≡ 4 * length ks
-size-each_with l c [] = refl
-size-each_with l c (k ∷ ks) =
-    omega (arith, size-each_with l c ks, terms_size-cons (k ∷ l ∷ [], c) (each_with ks l c))
+size-each : (f : Literal → List Literal) (c : ℤ) (ks : List Literal)
+    → ((k : Literal) → set_size (f k) ≡ 4) → terms_size (map (λ k. (f k, c)) ks) ≡ 4 * length ks
+size-each f c [] two = refl
+size-each f c (k ∷ ks) two =
+    omega (arith, two k, size-each f c ks two, terms_size-cons (f k, c) (map (λ l. (f l, c)) ks))
 
 size-pair_terms : (ls : List Literal) (c : ℤ) → terms_size (pair_terms ls c) ≡ 4 * pairs (length ls)
 size-pair_terms [] c = refl
-size-pair_terms (l ∷ ls) c = omega (arith, size-pair_terms ls c, size-with_each, size-append)
+size-pair_terms (l ∷ ls) c =
+    let each = size-each (λ k. l ∷ k ∷ []) c ls (λ k. refl) in
+    omega (arith, size-pair_terms ls c, size-append)
 
 size-node_term : (ls : List Literal) (c : ℤ) (w : Literal) (k : ℕ)
     → terms_size (node_term ls c w k) ≡ 1 + 4 * length ls
 size-node_term ls c w k =
-    let f = factor (length ls) k in
-    let tail = each_with ls w (neg_ℤ (c *ℤ pos f)) in
-    omega (arith, terms_size-cons, size-each_with)
+    let each = size-each (λ l. l ∷ w ∷ []) (neg_ℤ (c *ℤ pos (factor (length ls) k))) ls (λ l. refl) in
+    omega (arith, terms_size-cons)
 
 size-node_terms : (ls : List Literal) (c : ℤ) (n k : ℕ)
     → terms_size (node_terms ls c n k) ≡ k * (1 + 4 * length ls)
@@ -177,7 +168,8 @@ size-negative_terms : (ls : List Literal) (c : ℤ) (n : ℕ) → 3 ≤ length l
     → terms_size (negative_terms ls c n) + 1 ≤ 4 * (length ls * length ls)
 size-negative_terms ls c n high =
     let d = length ls in
-    simp terms_size-cons (omega (arith, size-each_with (node n) c ls, mul-le-mul_right d high))
+    let each = size-each (λ k. k ∷ node n ∷ []) c ls (λ k. refl) in
+    simp terms_size-cons (omega (arith, mul-le-mul_right d high))
 
 square_is : (n : ℕ) → n ^ 2 ≡ n * n
 square_is n = pow-succ' n 1 ∙ ap (λ m. n * m) (pow-succ' n 0 ∙ ap (λ m. n * m) (pow-zero n) ∙ omega arith)

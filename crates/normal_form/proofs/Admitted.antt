@@ -1,5 +1,5 @@
 -- What the guard makes of a problem that it admits.
-use Rattle.normal_form.proofs.Common.{nat_tests, ◌≡◌, ◌+◌, ◌≤◌, ◌^◌, pos, sym, ap, subst, arith, All, All-from_recursion, recursion_from_All, Figures, BitsLink, first_bits, Relaxes, ProblemContent, Term, terms_total, KeptTable, kept_at_once, table_size, complements, contributions, terms_total-with_additions, All-with_additions, contributions-grow, expanded, image, Admits, multilinear_relaxes}
+use Rattle.normal_form.proofs.Common.{nat_tests, ◌≡◌, ◌+◌, ◌≤◌, ◌^◌, pos, ap, arith, All, All-from_recursion, recursion_from_All, Figures, BitsLink, first_bits, Relaxes, ProblemContent, Term, terms_total, KeptTable, kept_at_once, table_size, complements, contributions, terms_total-with_additions, All-with_additions, contributions-grow, expanded, image, Admits, multilinear_relaxes}
 use Rattle.problem_form.specs.Problems as problems
 use Rattle.term_table.specs.Tables as tables
 use Rattle.penalty_layer.specs.Penalty as penalty
@@ -11,8 +11,7 @@ use Rattle.normal_form.proofs.Sizes.{size_within}
 pub few-image : (p : ProblemContent) (t : KeptTable) → Admits p
     → t ≡ kept_at_once (penalty.image p) → All (λ (u : Term). complements u.0 ≤ 8) t.content.terms
 few-image p t admitted made =
-    subst (λ (s : KeptTable). All (λ (u : Term). complements u.0 ≤ 8) s.content.terms) (sym made)
-    (All-with_additions (λ ls. complements ls ≤ 8) (penalty.contributions p)
+    rw made (All-with_additions (λ ls. complements ls ≤ 8) (penalty.contributions p)
     (All-from_recursion _ (penalty.contributions p)
     (few-contributions p (within_limits p admitted.within).negations)))
 
@@ -21,13 +20,10 @@ pub total-expanded : (t made : KeptTable) → All (λ (u : Term). complements u.
     → terms_total t.content.terms + 1 ≤ 2 ^ 64 → made ≡ kept_at_once (expanded t.content)
     → terms_total made.content.terms + 1 ≤ 2 ^ 72
 total-expanded t made few small same =
-    omega (
-      arith,
-      small,
-      ap (λ (s : KeptTable). terms_total s.content.terms) same,
-      terms_total-with_additions (contributions t.content.terms),
-      contributions-grow 8 t.content.terms (recursion_from_All (λ (u : Term). complements u.0 ≤ 8) t.content.terms few),
-    )
+    let most = recursion_from_All (λ (u : Term). complements u.0 ≤ 8) t.content.terms few in
+    let size = ap (λ (s : KeptTable). terms_total s.content.terms) same in
+    let added = terms_total-with_additions (contributions t.content.terms) in
+    omega (arith, small, size, added, contributions-grow 8 t.content.terms most)
 
 -- what is equal to the image relaxes the problem, with figures that are equal to the guard's
 pub relaxes-made : (link : BitsLink) (p : ProblemContent) (made : KeptTable) (n : Figures)
@@ -38,5 +34,4 @@ relaxes-made link p made n fits same figures =
 
 pub size-made : (p : ProblemContent) (made : KeptTable) → Admits p
     → made ≡ kept_at_once (image p) → table_size made.content ≤ 2 ^ 26
-size-made p made admitted same =
-    subst (λ (t : KeptTable). table_size t.content ≤ 2 ^ 26) (sym same) (size_within p admitted.within)
+size-made p made admitted same = rw same (size_within p admitted.within)

@@ -18,7 +18,7 @@ pub use Rattle.std.specs.Prelude.{if◌then◌else◌, nat_le}
 pub use Rattle.std.specs.List.{AllByRecursion, sum_by}
 pub use Rattle.std.specs.Ordering.{match_ordering}
 pub use Rattle.std.specs.declared.cmp.Ordering.{Ordering}
-pub use Rattle.std.proofs.lemmas.List.{append-nil, take_all, append_assoc, map-append, take-append-drop, length-drop}
+pub use Rattle.std.proofs.lemmas.List.{drop_more, append-nil, take_all, append_assoc, map-append, take-append-drop, length-drop}
 pub use Rattle.std.proofs.lemmas.List.Sums.{sum_by-cons, sum_by-append}
 pub use Rattle.literal_lists.specs.declared.literal.Literal.{Literal}
 pub use Rattle.problem_form.specs.declared.terms.Product.{Product}

@@ -2,8 +2,7 @@
 --
 -- A union has no more than both sets together, so the square of a constraint has at most twice as
 -- many as its products.
-use Rattle.normal_form.proofs.Common.{nat_tests, ◌≡◌, ℕ, suc, ◌+◌, ◌*◌, ◌≤◌, not, cond, pos, List, [], ◌∷◌, ◌++◌, map, fold, max, count_by, refl, sym, subst, arith, AllByRecursion, match_ordering, Ordering, append-nil, sum_by-cons, sum_by-append, Literal, Product, Clause, Constraint, literal_cmp, with_literal, literal_set, ProblemContent, clause_complements, most_complements, negations, penalty, slack_range, slack_bits, Term, union, scaled, product_terms, products_with, complements, AreFew, complements-cons, opposite, clause_term, slack_weights, product_term, square_terms, node, slack_terms, slack_form, constraint_terms, AtMost, most_of, of_map, raised}
-use Rattle.std.specs.declared.cmp.Ordering.TheVariants.{Less, Equal, Greater}
+use Rattle.normal_form.proofs.Common.{nat_tests, ◌≡◌, ℕ, suc, ◌+◌, ◌*◌, ◌≤◌, not, cond, pos, List, [], ◌∷◌, ◌++◌, map, fold, max, count_by, refl, sym, subst, arith, AllByRecursion, append-nil, sum_by-cons, sum_by-append, Literal, Product, Clause, Constraint, with_literal, literal_set, ProblemContent, clause_complements, most_complements, negations, penalty, slack_range, slack_bits, Term, union, scaled, product_terms, products_with, complements, AreFew, complements-cons, opposite, clause_term, slack_weights, product_term, square_terms, node, slack_terms, slack_form, constraint_terms, AtMost, most_of, of_map, raised}
 use Rattle.problem_form.specs.declared.limits.Normal.TheVariants as normals
 use Rattle.problem_form.specs.Limits as limits
 use Rattle.penalty_layer.specs.Penalty.{plain_terms, contributions}
@@ -13,14 +12,12 @@ use Rattle.penalty_layer.specs.Penalty.{plain_terms, contributions}
 complements-with_literal : (l : Literal) (ks : List Literal)
     → complements (with_literal l ks) ≤ cond l.negated 1 0 + complements ks
 complements-with_literal l [] = omega (arith, complements-cons l [])
-complements-with_literal l (k ∷ ks) = go (literal_cmp l k) (complements-with_literal l ks)
-  where
-    go : (o : Ordering) → complements (with_literal l ks) ≤ cond l.negated 1 0 + complements ks
-        → complements (match_ordering o (l ∷ k ∷ ks) (k ∷ ks) (k ∷ with_literal l ks))
-        ≤ cond l.negated 1 0 + complements (k ∷ ks)
-    go Less h = omega (arith, complements-cons l (k ∷ ks))
-    go Equal h = omega arith
-    go Greater h = omega (arith, h, complements-cons k (with_literal l ks), complements-cons k ks)
+complements-with_literal l (k ∷ ks) =
+    let rest = complements-with_literal l ks in
+    let front = complements-cons l (k ∷ ks) in
+    let more = complements-cons k (with_literal l ks) in
+    let here = complements-cons k ks in
+    grind (arith, nat_tests)
 
 complements-literal_set : (ls : List Literal) → complements (literal_set ls) ≤ complements ls
 complements-literal_set [] = omega arith
@@ -94,10 +91,9 @@ at_most_all f xs most h =
 -- what is squared for a constraint has no more complements than its products
 pub few-slack_form : (first : ℕ) (k : Constraint) → AreFew (most_complements k) (slack_form first k)
 few-slack_form first k =
-    let most = most_complements k in
-    few-append most (map product_term k.products) _
-    (few-products most k.products (at_most_all limits.complements k.products most (omega arith)))
-    (omega arith, few-slack most first (slack_weights (slack_range k)))
+    few-append _ (map product_term k.products) _
+    (few-products _ k.products (at_most_all limits.complements k.products _ (omega arith)))
+    (omega arith, few-slack _ first (slack_weights (slack_range k)))
 
 few-constraints : (most n first : ℕ) (ks : List Constraint)
     → AtMost (λ k. 2 * most_complements k) most ks → AreFew most (constraint_terms n first ks)
@@ -123,9 +119,9 @@ few-contributions p h =
     few-append 8 (plain_terms p) (constraint_terms (penalty p) p.variables p.constraints) (
       omega arith,
       few-append 8 (map product_term p.objective) (map (clause_term (penalty p)) p.clauses)
-          (few-products 8 p.objective (raised _ _ _ p.objective low products.0))
-          (few-clauses 8 (penalty p) p.clauses (raised _ _ _ p.clauses low clauses.0)),
-    ) (few-constraints 8 (penalty p) p.variables p.constraints (raised _ _ _ p.constraints high
+          (few-products 8 p.objective (raised _ _ _ p.objective (omega (arith, h)) products.0))
+          (few-clauses 8 (penalty p) p.clauses (raised _ _ _ p.clauses (omega (arith, h)) clauses.0)),
+    ) (few-constraints 8 (penalty p) p.variables p.constraints (raised _ _ _ p.constraints (omega (arith, h))
     (twice_most square p.constraints (at_most_all most_complements p.constraints square (omega arith)))))
   where
     sums : List ℕ
@@ -133,9 +129,3 @@ few-contributions p h =
 
     square : ℕ
     square = fold max 0 (map most_complements p.constraints)
-
-    low : fold max 0 sums ≤ 8
-    low = omega (arith, h)
-
-    high : 2 * square ≤ 8
-    high = omega (arith, h)

@@ -43,9 +43,8 @@ module _ {S : Type 0} (takes : S → List Term → Type 0) (holds : S → TableC
   pub held-alone : (old new : S) → ((t : TableContent) → holds old t → holds new (with_appended t ls c))
       → (t : TableContent) → holds old (multiplied t) → holds new (multiplied (with_appended t ls c))
   held-alone old new held t before =
-      subst (holds new)
-      (ap (with_more (multiplied t)) (sym (plain_alone ls n c short none) ∙ sym (behind-nothing (plain_terms ls c)))
-      ∙ multiplied-appended t [] ls c refl) (held (multiplied t) before)
+      let same = plain_alone ls n c short none in
+      rw (← multiplied-appended t [] ls c refl, behind-nothing, same) (held (multiplied t) before)
 
   pub takes-alone : (old new : S) → ((more : List Term) → takes old ((ls, c) ∷ more) → takes new more)
       → (more : List Term) → takes old (contributions ((ls, c) ∷ more)) → takes new (contributions more)

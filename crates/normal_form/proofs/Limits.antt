@@ -1,7 +1,6 @@
 -- What the limits of the multilinear form say of a problem: they are no wider than those of the
 -- literal form.
-use Rattle.normal_form.proofs.Common.{nat_tests, ◌≡◌, ℕ, ◌+◌, ◌-◌, ◌*◌, ◌^◌, ◌≤◌, None, List, [], ◌∷◌, ap, ◌∙◌, arith, nat_le, sum_by, mul-le-mul_right, sum_by-cons, pow-add, one_le_pow, Constraint, ProblemContent, Counted, limit_fault, degree, negations, pairs, constraint_pairs, constraint_degree, most_complements, summands, weight, most_degree, within_first, spread, square_is, Admits}
-use Rattle.problem_form.specs.declared.limits.LimitKind.TheVariants.{Variables, Degree, Negations, Pairs, Weight}
+use Rattle.normal_form.proofs.Common.{nat_tests, ◌≡◌, ℕ, ◌+◌, ◌-◌, ◌*◌, ◌^◌, ◌≤◌, None, List, [], ◌∷◌, ap, ◌∙◌, arith, nat_le, sum_by, mul-le-mul_right, sum_by-cons, pow-add, one_le_pow, Constraint, ProblemContent, limit_fault, degree, negations, pairs, constraint_pairs, constraint_degree, most_complements, summands, weight, most_degree, spread, square_is, Admits}
 use Rattle.problem_form.specs.declared.limits.Normal.TheVariants as normals
 use Rattle.penalty_layer.specs.Penalty as penalty
 
@@ -14,24 +13,7 @@ pub record IsWithin (p : ProblemContent) : Type 0 where
   pub weight : weight p ≤ 2 ^ 64 - 1
 
 pub within_limits : (p : ProblemContent) → limit_fault normals.Multilinear p ≡ None → IsWithin p
-within_limits p none =
-    let variables : Counted = record { kind = Variables; number = p.variables; most = 2 ^ 20 } in
-    let degrees : Counted = record { kind = Degree; number = degree p; most = most_degree } in
-    let complements : Counted = record { kind = Negations; number = negations normals.Multilinear p; most = 8 } in
-    let all_pairs : Counted = record { kind = Pairs; number = pairs normals.Multilinear p; most = 2 ^ 24 } in
-    let weights : Counted = record { kind = Weight; number = weight p; most = 2 ^ 64 - 1 } in
-    let first = within_first variables (degrees ∷ complements ∷ all_pairs ∷ weights ∷ []) none in
-    let second = within_first degrees (complements ∷ all_pairs ∷ weights ∷ []) first.1 in
-    let third = within_first complements (all_pairs ∷ weights ∷ []) second.1 in
-    let fourth = within_first all_pairs (weights ∷ []) third.1 in
-    let fifth = within_first weights [] fourth.1 in
-    record {
-      variables = first.0;
-      degree = second.0;
-      negations = third.0;
-      pairs = fourth.0;
-      weight = fifth.0;
-    }
+within_limits p none = grind (arith, nat_tests)
 
 -- ---- pairs
 
@@ -41,8 +23,7 @@ factor_adds k n = mul-le-mul_right n (one_le_pow k)
 
 sums-le : {X : Type 0} (f g : X → ℕ) (xs : List X) → ((x : X) → f x ≤ g x) → sum_by f xs ≤ sum_by g xs
 sums-le f g [] le = omega arith
-sums-le f g (x ∷ xs) le =
-    omega (arith, le x, sums-le f g xs le, sum_by-cons f x xs, sum_by-cons g x xs)
+sums-le f g (x ∷ xs) le = omega (arith, le x, sums-le f g xs le, sum_by-cons)
 
 -- a product of two terms of a constraint has twice the complements
 pub constraint_pairs-scaled : (k : Constraint) → constraint_pairs normals.Multilinear k

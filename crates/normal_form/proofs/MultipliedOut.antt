@@ -17,10 +17,10 @@ pub AreAdditions-multiplied_out : (p : ProblemContent) → Admits p →
     AreAdditions (multiplied (record { width = penalty.node_count p; terms = penalty.contributions p }))
 AreAdditions-multiplied_out p admitted =
     let sets = contribution_sets p (penalty_admits p admitted) in
+    let P = OfSet (IsTermSet (penalty.node_count p)) in
+    let each = recursion_from_All P (penalty.contributions p) sets in
     record {
-      sets =
-          contributions-sets (penalty.node_count p) (penalty.contributions p)
-          (recursion_from_All (OfSet (IsTermSet (penalty.node_count p))) (penalty.contributions p) sets);
+      sets = contributions-sets (penalty.node_count p) (penalty.contributions p) each;
       small = omega (arith, total-multiplied p admitted);
     }
 

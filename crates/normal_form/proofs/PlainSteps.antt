@@ -1,6 +1,6 @@
 -- Steps that multiply a term out: what stands before its first complement stays in front, and the
 -- complement gives what is left without it, and with its variable and the other sign.
-use Rattle.normal_form.proofs.Common.{nat_tests, ints, ◌≡◌, ℕ, suc, ◌+◌, ◌<◌, ◌≤◌, ◌^◌, Bool, true, false, ℤ, neg_ℤ, unsigned_abs, List, [], ◌∷◌, ◌++◌, length, take, drop, get_or, refl, sym, ap, ◌∙◌, subst, arith, if◌then◌else◌, AllByRecursion, mul-le-mul_right, drop-cons, append_assoc, append-nil, map-append, take_all, take-append-drop, All-from_recursion, recursion_from_All, one_le_pow, Literal, Term, terms_total, IsTermSet, TableContent, with_more, AreAdditions, complements, ArePlain, plain, with_front, plain_terms, terms_total-append, terms_total-cons, OfSet, with_more-append, terms_total-plain_terms, HasRoomFor, behind}
+use Rattle.normal_form.proofs.Common.{drop_more, nat_tests, ints, ◌≡◌, ℕ, ◌+◌, ◌<◌, ◌≤◌, ◌^◌, true, false, ℤ, neg_ℤ, unsigned_abs, List, [], ◌∷◌, ◌++◌, length, take, drop, get_or, refl, sym, ap, ◌∙◌, subst, arith, AllByRecursion, mul-le-mul_right, append_assoc, append-nil, map-append, take_all, take-append-drop, All-from_recursion, recursion_from_All, one_le_pow, Literal, Term, terms_total, IsTermSet, TableContent, with_more, AreAdditions, complements, ArePlain, plain, with_front, plain_terms, terms_total-append, terms_total-cons, OfSet, with_more-append, terms_total-plain_terms, HasRoomFor, behind}
 
 -- ---- terms behind literals
 
@@ -27,19 +27,10 @@ plain_front : (fs ls : List Literal) (c : ℤ) → AllByRecursion (λ (l : Liter
     → plain_terms (fs ++ ls) c ≡ behind fs (plain_terms ls c)
 plain_front [] ls c h = sym (behind-nothing (plain_terms ls c))
 plain_front (f ∷ fs) ls c h =
-    front f.negated h.0 ∙ ap (λ l. with_front l rest) (same_literal f h.0)
-    ∙ ap (behind (f ∷ [])) (plain_front fs ls c h.1) ∙ behind-behind (f ∷ []) fs (plain_terms ls c)
-  where
-    rest : List Term
-    rest = plain_terms (fs ++ ls) c
-
-    less : List Term
-    less = with_front (plain f) (plain_terms (fs ++ ls) (neg_ℤ c))
-
-    front : (n : Bool) → n ≡ false
-        → (if n then rest ++ less else with_front (plain f) rest) ≡ with_front (plain f) rest
-    front true is = cc
-    front false is = refl
+    let rest = plain_front fs ls c h.1 in
+    let same = same_literal f h.0 in
+    let more = behind-behind (f ∷ []) fs (plain_terms ls c) in
+    grind (arith, nat_tests)
 
 -- a complement is 1 less its variable
 at_complement : (l : Literal) (ls : List Literal) (c : ℤ) → l.negated ≡ true
@@ -61,28 +52,18 @@ pub more_terms : (fs ls : List Literal) (n : ℕ) (d : Literal) (c : ℤ) → n 
     ≡ behind (fs ++ take n ls) (plain_terms (drop (n + 1) ls) c)
     ++ behind ((fs ++ take n ls) ++ plain (get_or ls n d) ∷ []) (plain_terms (drop (n + 1) ls) (neg_ℤ c))
 more_terms fs ls n d c inside none is =
-    ap (λ ks. behind fs (plain_terms ks c)) whole
-    ∙ ap (behind fs) (plain_front gs (l ∷ rest) c (recursion_from_All (λ (k : Literal). k.negated ≡ false) gs none))
-    ∙ behind-behind fs gs (plain_terms (l ∷ rest) c)
-    ∙ ap (behind (fs ++ gs)) (at_complement l rest c is)
-    ∙ behind-append (fs ++ gs) (plain_terms rest c) (with_front (plain l) (plain_terms rest (neg_ℤ c)))
-    ∙ ap (λ ts. behind (fs ++ gs) (plain_terms rest c) ++ ts)
-    (behind-behind (fs ++ gs) (plain l ∷ []) (plain_terms rest (neg_ℤ c)))
-  where
-    gs : List Literal
-    gs = take n ls
-
-    l : Literal
-    l = get_or ls n d
-
-    rest : List Literal
-    rest = drop (n + 1) ls
-
-    whole : ls ≡ gs ++ l ∷ rest
-    whole =
-        let next : suc n ≡ n + 1 = omega arith in
-        sym (take-append-drop n ls) ∙ ap (λ ks. gs ++ ks) (drop-cons ls n d inside)
-        ∙ ap (λ i. gs ++ l ∷ drop i ls) next
+    let gs = take n ls in
+    let l = get_or ls n d in
+    let rest = drop (n + 1) ls in
+    let whole = sym (take-append-drop n ls) ∙ ap (λ ks. gs ++ ks) (drop_more ls n d inside) in
+    let plain_gs = recursion_from_All (λ (k : Literal). k.negated ≡ false) gs none in
+    let front = plain_front gs (l ∷ rest) c plain_gs in
+    let first = behind-behind fs gs (plain_terms (l ∷ rest) c) in
+    let two = at_complement l rest c is in
+    let less = with_front (plain l) (plain_terms rest (neg_ℤ c)) in
+    let both = behind-append (fs ++ gs) (plain_terms rest c) less in
+    let second = behind-behind (fs ++ gs) (plain l ∷ []) (plain_terms rest (neg_ℤ c)) in
+    cc
 
 -- the coefficient of a term is no greater than what it adds
 pub coefficient_small : (t : TableContent) (fs ls : List Literal) (c : ℤ)
@@ -122,9 +103,8 @@ additions_before t us h = record {
 pub additions_first : (t : TableContent) (us vs ws : List Term) → ws ≡ us ++ vs
     → AreAdditions (with_more t ws) → AreAdditions (with_more t us)
 additions_first t us vs ws e h =
-    let both : AreAdditions (with_more t (us ++ vs)) = subst (λ ts. AreAdditions (with_more t ts)) e h in
     let parts = with_more-append t (with_more t us) (with_more (with_more t us) vs) us vs refl refl in
-    additions_before (with_more t us) vs (subst AreAdditions (sym parts) both)
+    additions_before (with_more t us) vs (subst AreAdditions (ap (with_more t) e ∙ sym parts) h)
 
 -- and the second, after the first
 pub additions_second : (t now : TableContent) (us vs ws : List Term) → ws ≡ us ++ vs
@@ -134,5 +114,4 @@ additions_second t now us vs ws e made h = grind (arith, nat_tests, with_more-ap
 -- both were made
 pub both_made : (t now next : TableContent) (us vs ws : List Term) → ws ≡ us ++ vs
     → now ≡ with_more t us → next ≡ with_more now vs → next ≡ with_more t ws
-both_made t now next us vs ws e first second =
-    with_more-append t now next us vs first second ∙ ap (with_more t) (sym e)
+both_made t now next us vs ws e first second = rw e (with_more-append t now next us vs first second)

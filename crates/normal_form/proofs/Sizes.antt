@@ -50,28 +50,19 @@ constraint-grown : (n first : ℕ) (k : Constraint)
     ≤ 2 * constraint_pairs normals.Multilinear k
 constraint-grown n first k =
     let m = most_complements k in
-    let ts = square_terms n (slack_form first k) in
-    omega (
-      arith,
-      grown-few (2 * m) ts (few-square m (2 * m) n (slack_form first k) (omega arith) (few-slack_form first k)),
-      mul-le-mul_left (2 ^ (2 * m)) (constraint-size n first k),
-      mul-le-mul_right (slack_bits k) (one_le_pow (2 * m)),
-      constraint_pairs-scaled k,
-    )
+    let few = few-square m (2 * m) n (slack_form first k) (omega arith) (few-slack_form first k) in
+    let most = grown-few (2 * m) (square_terms n (slack_form first k)) few in
+    let left = mul-le-mul_left (2 ^ (2 * m)) (constraint-size n first k) in
+    let right = mul-le-mul_right (slack_bits k) (one_le_pow (2 * m)) in
+    omega (arith, most, left, right, constraint_pairs-scaled k)
 
 constraints-grown : (n first : ℕ) (ks : List Constraint)
     → sets_sum grown (constraint_terms n first ks) + sum_by slack_bits ks
     ≤ 2 * sum_by (constraint_pairs normals.Multilinear) ks
 constraints-grown n first [] = omega arith
 constraints-grown n first (k ∷ ks) =
-    omega (
-      arith,
-      grown-append (square_terms n (slack_form first k)) (constraint_terms n (first + slack_bits k) ks),
-      constraint-grown n first k,
-      constraints-grown n (first + slack_bits k) ks,
-      sum_by-cons slack_bits k ks,
-      sum_by-cons (constraint_pairs normals.Multilinear) k ks,
-    )
+    let rest = constraints-grown n (first + slack_bits k) ks in
+    omega (arith, grown-append, constraint-grown n first k, rest, sum_by-cons)
 
 -- ---- the whole
 
@@ -84,15 +75,12 @@ pub size_within : (p : ProblemContent) → limit_fault normals.Multilinear p ≡
 size_within p none =
     let limits = within_limits p none in
     let first = (penalty_method.image p).terms in
-    omega (
-      arith,
-      limits.variables,
-      limits.pairs,
-      terms_size-once (image p).terms (Ascends-with_additions (multiplied.contributions first)),
-      sets_sum-with_additions square (multiplied.contributions first),
-      sets_sum-contributions (λ n. n ^ 2) square-mono first,
-      sets_sum-with_additions grown (contributions p),
-      grown-append (plain_terms p) (constraint_terms (penalty p) p.variables p.constraints),
-      plain-grown p,
-      constraints-grown (penalty p) p.variables p.constraints,
-    )
+    let once =
+    terms_size-once (image p).terms (Ascends-with_additions (multiplied.contributions first)) in
+    let sums = sets_sum-with_additions square (multiplied.contributions first) in
+    let grows = sets_sum-contributions (λ n. n ^ 2) square-mono first in
+    let all = sets_sum-with_additions grown (contributions p) in
+    let both =
+    grown-append (plain_terms p) (constraint_terms (penalty p) p.variables p.constraints) in
+    let rest = constraints-grown (penalty p) p.variables p.constraints in
+    omega (arith, limits.variables, limits.pairs, once, sums, grows, all, both, plain-grown p, rest)

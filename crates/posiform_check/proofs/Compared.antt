@@ -1,8 +1,7 @@
 -- The tables of a model and of a certificate have the coefficients of their bit forms, so the first
 -- difference of the one is that of the other.
-use Rattle.posiform_check.proofs.Common.{nat_tests, elements, ◌≡◌, ◌≢◌, Bool, false, List, [], ◌∷◌, ◌++◌, ℤ, pos, ◌+ℤ◌, ◌-ℤ◌, ◌≤ℤ◌, int_lt, Option, Some, None, refl, sym, ap, subst, ◌∙◌, arith, All, if◌then◌else◌, flat_map, AllByRecursion, is_eq, ints, All-from_recursion, recursion_from_All, if_so, total_by, total_by-append, Entry, Kind, energy, Written, form_of, Literal, Term, set_cmp, coefficient_of, with_additions, if_so-plus, weight-in_front, coefficient_of-with_additions, OfSet, Under, All-with_additions, nonzero-in_front, nonzero-with_additions, Ascends-in_front, Ascends-with_additions, Line, CertificateContent, bit_sets, spin_sets, entry_constant, entry_sets, entry_terms, model_list, model_terms, certificate_terms, AreSameForms, first_negative, IsRefusal, FaultsProveNothing, Proves, DifferAt, difference}
+use Rattle.posiform_check.proofs.Common.{nat_tests, elements, ◌≡◌, ◌≢◌, Bool, List, [], ◌∷◌, ℤ, pos, ◌+ℤ◌, ◌-ℤ◌, ◌≤ℤ◌, Option, Some, None, refl, sym, ap, subst, ◌∙◌, arith, All, flat_map, AllByRecursion, is_eq, ints, All-from_recursion, recursion_from_All, if_so, total_by, total_by-append, Entry, Kind, energy, Written, form_of, Literal, Term, set_cmp, coefficient_of, with_additions, if_so-plus, weight-in_front, coefficient_of-with_additions, OfSet, Under, All-with_additions, nonzero-in_front, nonzero-with_additions, Ascends-in_front, Ascends-with_additions, Line, CertificateContent, entry_constant, entry_sets, entry_terms, model_list, model_terms, certificate_terms, AreSameForms, first_negative, IsRefusal, FaultsProveNothing, Proves, DifferAt, difference}
 use Rattle.std.specs.declared.cmp.Ordering.TheVariants.{Less}
-use Rattle.bits_model.specs.declared.output.Kind.TheVariants.{Qubo, Ising, Chimera}
 use Rattle.posiform_check.specs.declared.faults.ProofFault.TheVariants.{NotZero}
 use Rattle.posiform_check.specs.declared.faults.ProofAnswer.TheVariants.{Fault}
 use Rattle.posiform_check.proofs.Energies.{model_value}
@@ -37,29 +36,10 @@ model_list-coefficients m set =
 abbrev IsAfterNone : List Literal → Type 0
 IsAfterNone ls = set_cmp [] ls ≡ Less
 
-bit_sets-after : (e : Entry) → AllByRecursion (OfSet IsAfterNone) (bit_sets e)
-bit_sets-after e = grind (arith, nat_tests)
-
-spin_sets-after : (e : Entry) → AllByRecursion (OfSet IsAfterNone) (spin_sets e)
-spin_sets-after e = grind (arith, nat_tests)
-
-entry_sets-after : (kind : Kind) (e : Entry)
-    → AllByRecursion (OfSet IsAfterNone) (entry_sets kind e)
-entry_sets-after Qubo e = bit_sets-after e
-entry_sets-after Ising e = spin_sets-after e
-entry_sets-after (Chimera rows cols shore) e = spin_sets-after e
-
-both_after : (ts us : List Term) → AllByRecursion (OfSet IsAfterNone) ts
-    → AllByRecursion (OfSet IsAfterNone) us → AllByRecursion (OfSet IsAfterNone) (ts ++ us)
-both_after [] us a b = b
-both_after (t ∷ ts) us a b = (a.0, both_after ts us a.1 b)
-
 all_after : (kind : Kind) (es : List Entry)
     → AllByRecursion (OfSet IsAfterNone) (flat_map (entry_sets kind) es)
 all_after kind [] = tt
-all_after kind (e ∷ es) =
-    both_after (entry_sets kind e) (flat_map (entry_sets kind) es) (entry_sets-after kind e)
-    (all_after kind es)
+all_after kind (e ∷ es) = grind (arith, nat_tests, all_after kind es)
 
 under_keys : (ts : List Term) → AllByRecursion (OfSet IsAfterNone) ts → Under [] ts
 under_keys [] h = tt
@@ -155,15 +135,10 @@ proved m c y e none same is bound = record {
 
 -- ---- a fault
 
-not_less : (c : ℤ) → pos 0 ≤ℤ c → int_lt c (pos 0) ≡ false
-not_less c h = grind (arith, ints)
-
 first_none : (ls : List Line) → AllByRecursion (λ (l : Line). pos 0 ≤ℤ l.coefficient) ls
     → first_negative ls ≡ None
 first_none [] h = refl
-first_none (l ∷ ls) h =
-    ap (λ b. if b then Some l.line else first_negative ls) (not_less l.coefficient h.0)
-    ∙ first_none ls h.1
+first_none (l ∷ ls) h = grind (arith, nat_tests, ints, first_none ls h.1)
 
 pub faults_prove_nothing : FaultsProveNothing
 faults_prove_nothing m c y is fault p = grind (arith, nat_tests, first_none, recursion_from_All)

@@ -1,6 +1,5 @@
 -- The bit form of a model is its energy.
 use Rattle.posiform_check.proofs.Common.{nat_tests, ◌≡◌, Bool, List, [], pos, ◌+ℤ◌, arith, ints, total_by-flat_map, total_by-same, Entry, Kind, energy, Written, form_of, bits_energy, spins_energy, entry_energy, terms_cost, bit_sets, spin_constant, spin_sets, entry_terms, model_terms}
-use Rattle.bits_model.specs.declared.output.Kind.TheVariants.{Qubo, Ising, Chimera}
 
 bits_value : (y : List Bool) (e : Entry) → pos 0 +ℤ terms_cost y (bit_sets e) ≡ bits_energy y e
 bits_value y e = grind (arith, nat_tests, ints)
@@ -12,9 +11,7 @@ spins_value y e = grind (arith, nat_tests, ints)
 
 entry_value : (kind : Kind) (y : List Bool) (e : Entry)
     → terms_cost y (entry_terms kind e) ≡ entry_energy kind y e
-entry_value Qubo y e = bits_value y e
-entry_value Ising y e = spins_value y e
-entry_value (Chimera rows cols shore) y e = spins_value y e
+entry_value kind y e = grind (arith, nat_tests, bits_value, spins_value)
 
 pub model_value : (m : Written) (y : List Bool)
     → terms_cost y (model_terms m) ≡ energy (form_of m) y

@@ -1,5 +1,5 @@
 -- The difference of two ascending lists without zeros is the first set whose coefficients differ.
-use Rattle.posiform_check.proofs.Common.{nat_tests, ◌≡◌, ◌≢◌, Bool, true, false, List, [], ◌∷◌, ℤ, pos, Option, Some, None, refl, sym, ap, subst, ◌∙◌, arith, All, if◌then◌else◌, IsStrictlySortedBy, int_eq, is_eq, match_ordering, Ordering, ints, Decides-int_eq, All-head, All-tail, if_so, Literal, Term, set_cmp, coefficient_of, Ascends, same_set, set_itself, Under, Under-further, greater_back, DifferAt, difference}
+use Rattle.posiform_check.proofs.Common.{nat_tests, ◌≡◌, ◌≢◌, Bool, true, false, List, [], ◌∷◌, ℤ, pos, Option, Some, None, refl, sym, subst, ◌∙◌, arith, All, if◌then◌else◌, IsStrictlySortedBy, int_eq, is_eq, match_ordering, Ordering, ints, Decides-int_eq, All-head, All-tail, if_so, Literal, Term, set_cmp, coefficient_of, Ascends, same_set, set_itself, Under, Under-further, greater_back, DifferAt, difference}
 use Rattle.std.specs.declared.cmp.Ordering.TheVariants.{Less, Equal, Greater}
 
 -- what the first term gives a set
@@ -12,14 +12,10 @@ IsNonzero t = t.1 ≢ pos 0
 -- a set that stands before all others has no coefficient
 none_under : (ls : List Literal) (ts : List Term) → Under ls ts → coefficient_of ls ts ≡ pos 0
 none_under ls [] under = refl
-none_under ls (t ∷ ts) under =
-    let none : given ls t ≡ pos 0 = ap (λ o. if_so (is_eq o) t.1) under.0 in
-    omega (arith, ints, none_under ls ts under.1)
+none_under ls (t ∷ ts) under = grind (arith, nat_tests, none_under ls ts under.1)
 
 first_given : (t : Term) (ts : List Term) → Under t.0 ts → coefficient_of t.0 (t ∷ ts) ≡ t.1
-first_given t ts under =
-    let whole : given t.0 t ≡ t.1 = ap (λ o. if_so (is_eq o) t.1) (set_itself t.0) in
-    omega (arith, ints, none_under t.0 ts under)
+first_given t ts under = grind (arith, nat_tests, set_itself, none_under)
 
 -- ---- the first set of the one list alone
 

@@ -1,14 +1,12 @@
 -- The first fault as it is computed: without one the state is proved, and each one is why it is not.
-use Rattle.posiform_check.proofs.Common.{◌≡◌, ◌≢◌, Bool, true, false, List, ℕ, ℤ, pos, ◌-ℤ◌, Option, Some, None, refl, ap, subst, arith, if◌then◌else◌, int_eq, ints, Decides-int_eq, energy, Written, form_of, ProofFault, CertificateContent, model_list, certificate_list, difference, first_negative, IsRefusal, first_of, proof_fault, FirstFaultsTell, Proves}
+use Rattle.posiform_check.proofs.Common.{nat_tests, ◌≡◌, ◌≢◌, Bool, true, false, List, ℕ, ℤ, pos, ◌-ℤ◌, Option, Some, None, refl, subst, arith, if◌then◌else◌, int_eq, ints, Decides-int_eq, energy, Written, form_of, ProofFault, CertificateContent, model_list, certificate_list, difference, first_negative, IsRefusal, first_of, proof_fault, FirstFaultsTell, Proves}
 use Rattle.posiform_check.specs.declared.faults.ProofFault.TheVariants.{NotZero}
 use Rattle.posiform_check.specs.declared.faults.ProofAnswer.TheVariants.{Fault}
 use Rattle.posiform_check.proofs.Compared.{comparison_says, not_zero, proved, faults_prove_nothing}
 
 -- a number that is not 0 is the fault, where none comes before it
 pub first_above : (a : ℤ) → a ≢ pos 0 → first_of None None a ≡ Some (NotZero a)
-first_above a h =
-    let test : int_eq a (pos 0) ≡ false = grind (arith, ints) in
-    ap (λ b. if b then None else Some (NotZero a)) test
+first_above a h = grind (arith, nat_tests, ints)
 
 module _ (m : Written) (c : CertificateContent) (y : List Bool) where
   abbrev above : ℤ
@@ -35,8 +33,7 @@ module _ (m : Written) (c : CertificateContent) (y : List Bool) where
       proved m c y (energy (form_of m) y) none (comparison_says m c None found) refl
       (omega (arith, ints, zero))
   told_last none found false e =
-      let apart : energy (form_of m) y ≢ c.bound = λ same.
-      let equal = (Decides-int_eq above (pos 0)).1 (omega (arith, ints, same)) in absurd cc in
+      let apart : energy (form_of m) y ≢ c.bound = grind (arith, nat_tests) in
       not_zero m c y (energy (form_of m) y) above none (comparison_says m c None found) refl apart
       refl
 
@@ -48,8 +45,7 @@ module _ (m : Written) (c : CertificateContent) (y : List Bool) where
   told None none None found = told_last none found (int_eq above (pos 0)) refl
 
   told_first : Told (proof_fault m c y)
-  told_first =
-      told (first_negative c.lines) refl (difference (model_list m) (certificate_list c)) refl
+  told_first = grind (arith, nat_tests, told)
 
   answer : (f : Option ProofFault) → proof_fault m c y ≡ f → Told f
   answer f e = subst Told e told_first

@@ -1,6 +1,5 @@
 -- The terms of a model and of a certificate, one after another, and that they fit a table.
-use Rattle.posiform_check.proofs.Common.{◌≡◌, fold, ℕ, ◌+◌, ◌*◌, ◌<◌, ◌≤◌, ◌^◌, Bool, true, false, List, [], ◌∷◌, ◌++◌, length, map, ℤ, pos, ◌*ℤ◌, neg_ℤ, unsigned_abs, None, refl, sym, ap, subst, ◌∙◌, arith, All, nat_lt, max, flat_map, sum_by, AllByRecursion, ints, nat_tests, sum_by-cons, All-from_recursion, recursion_from_All, Entry, Kind, is_node, weight_total, IsPlaced, Literal, Term, terms_total, IsTermSet, TableContent, AreAdditions, with_more, terms_total-append, terms_total-cons, OfSet, IsTermSet-none, IsTermSet-one, IsTermSet-two, AreFew, complements-cons, contributions-grow, contributions-sets, complements, contributions, behind, behind-nothing, additions_first, additions_second, both_made, Line, IsLine, IsCertificate, AreOfNodes, certificate_fault, most_literals, CertificateContent, line_terms, certificate_terms, bit, node_set, pair_set, coupling_sets, bit_sets, spin_constant, spin_sets, entry_constant, entry_sets}
-use Rattle.bits_model.specs.declared.output.Kind.TheVariants.{Qubo, Ising, Chimera}
+use Rattle.posiform_check.proofs.Common.{◌≡◌, fold, ℕ, ◌+◌, ◌*◌, ◌<◌, ◌≤◌, ◌^◌, Bool, true, false, List, [], ◌∷◌, ◌++◌, length, map, ℤ, pos, ◌*ℤ◌, neg_ℤ, unsigned_abs, None, refl, sym, ap, subst, ◌∙◌, arith, All, nat_lt, max, flat_map, sum_by, AllByRecursion, nat_tests, sum_by-cons, All-from_recursion, recursion_from_All, Entry, Kind, is_node, weight_total, IsPlaced, Literal, Term, terms_total, IsTermSet, TableContent, AreAdditions, with_more, terms_total-append, terms_total-cons, OfSet, IsTermSet-none, IsTermSet-one, IsTermSet-two, AreFew, complements-cons, contributions-grow, contributions-sets, complements, contributions, behind, behind-nothing, additions_first, additions_second, both_made, Line, IsLine, IsCertificate, AreOfNodes, certificate_fault, most_literals, CertificateContent, line_terms, certificate_terms, bit, node_set, pair_set, coupling_sets, bit_sets, spin_sets, entry_constant, entry_sets}
 
 -- ---- a coupling, term by term
 
@@ -65,38 +64,19 @@ abbrev AreSets : ℕ → List Term → Type 0
 AreSets n ts = AllByRecursion (OfSet (IsTermSet n)) ts
 
 bit_sets-sets : (n : ℕ) (e : Entry) → IsPlaced n e → AreSets n (bit_sets e)
-bit_sets-sets n e placed =
-    let below = below_one n e placed in
-    let pair = below_pair n e placed in
-    grind (arith, nat_tests)
+bit_sets-sets n e placed = grind (arith, nat_tests, below_one n e placed, below_pair n e placed)
 
 spin_sets-sets : (n : ℕ) (e : Entry) → IsPlaced n e → AreSets n (spin_sets e)
 spin_sets-sets n e placed =
-    let below = below_one n e placed in
-    let two = below_two n e placed in
-    let pair = below_pair n e placed in
-    grind (arith, nat_tests, ints)
+    grind (arith, nat_tests, below_one n e placed, below_two n e placed, below_pair n e placed)
 
 entry_sets-sets : (kind : Kind) (n : ℕ) (e : Entry) → IsPlaced n e → AreSets n (entry_sets kind e)
-entry_sets-sets Qubo n e placed = bit_sets-sets n e placed
-entry_sets-sets Ising n e placed = spin_sets-sets n e placed
-entry_sets-sets (Chimera rows cols shore) n e placed = spin_sets-sets n e placed
-
--- and at most eight times as large as its weight
-total_one : (ls : List Literal) (c : ℤ) → terms_total ((ls, c) ∷ []) ≡ unsigned_abs c
-total_one ls c = omega (arith, terms_total-cons (ls, c) [])
-
-bit_sets-total : (e : Entry) → terms_total (bit_sets e) ≤ 8 * unsigned_abs e.weight
-bit_sets-total e = omega (arith, total_one)
-
-spin_sets-total : (e : Entry) → terms_total (spin_sets e) ≤ 8 * unsigned_abs e.weight
-spin_sets-total e = grind (arith, nat_tests)
+entry_sets-sets kind n e placed =
+    grind (arith, nat_tests, bit_sets-sets n e placed, spin_sets-sets n e placed)
 
 entry_sets-total : (kind : Kind) (e : Entry)
     → terms_total (entry_sets kind e) ≤ 8 * unsigned_abs e.weight
-entry_sets-total Qubo e = bit_sets-total e
-entry_sets-total Ising e = spin_sets-total e
-entry_sets-total (Chimera rows cols shore) e = spin_sets-total e
+entry_sets-total kind e = grind (arith, nat_tests)
 
 both_sets : (n : ℕ) (ts us : List Term) → AreSets n ts → AreSets n us → AreSets n (ts ++ us)
 both_sets n [] us a b = b
@@ -199,9 +179,7 @@ certificate_fits n c is accepted within =
     let few = (none_above 0 8 c.lines (few_literals c accepted)).1 in
     let ts = map term_of c.lines in
     let same : flat_map line_terms c.lines ≡ contributions ts = lines_contribute c.lines in
-    let sets : AreSets n ts =
-    lines_sets n c.lines (recursion_from_All IsLine c.lines is.lines)
-    (recursion_from_All (λ (l : Line). All (λ k. k.variable < n) l.literals) c.lines within) few in
+    let sets : AreSets n ts = grind (arith, nat_tests, lines_sets, recursion_from_All) in
     let rest =
     recursion_from_All (OfSet (IsTermSet n)) (contributions ts) (contributions-sets n ts sets) in
     record {
@@ -240,14 +218,9 @@ lines_left now next all l left rest steps whole made =
 
 -- ---- the constants of a model's entries
 
-spin_constant-size : (e : Entry) → unsigned_abs (spin_constant e) ≤ unsigned_abs e.weight
-spin_constant-size e = grind (arith, nat_tests)
-
 pub constant-size : (kind : Kind) (e : Entry)
     → unsigned_abs (entry_constant kind e) ≤ unsigned_abs e.weight
-constant-size Qubo e = omega (arith, ints)
-constant-size Ising e = spin_constant-size e
-constant-size (Chimera rows cols shore) e = spin_constant-size e
+constant-size kind e = grind (arith, nat_tests)
 
 -- ---- the terms of a line, put behind an empty list
 
@@ -261,8 +234,7 @@ pub behind_fits : (now all : TableContent) (list : List Literal) (l : Line) (lef
     → left ≡ l ∷ rest → list ≡ [] → with_more now (flat_map line_terms left) ≡ all
     → AreAdditions all → AreAdditions (with_more now (behind list (line_terms l)))
 behind_fits now all list l left rest steps empty whole fits =
-    rw (ap (λ ls. behind ls (line_terms l)) empty ∙ behind-nothing (line_terms l))
-    (line_fits now all l left rest steps whole fits)
+    grind (arith, nat_tests, behind-nothing (line_terms l), line_fits now all l left rest steps whole fits)
 
 pub behind_left : (now next all : TableContent) (list : List Literal) (l : Line)
     (left rest : List Line)
@@ -270,5 +242,4 @@ pub behind_left : (now next all : TableContent) (list : List Literal) (l : Line)
     → next ≡ with_more now (behind list (line_terms l))
     → with_more next (flat_map line_terms rest) ≡ all
 behind_left now next all list l left rest steps empty whole made =
-    lines_left now next all l left rest steps whole (made ∙ ap (with_more now)
-    (ap (λ ls. behind ls (line_terms l)) empty ∙ behind-nothing (line_terms l)))
+    lines_left now next all l left rest steps whole (grind (arith, nat_tests, behind-nothing))

@@ -1,5 +1,5 @@
 -- Literals and lines, one after another: one more is read, it fails, or there are no more.
-use Rattle.posiform_check.proofs.Common.{nat_tests, ◌≡◌, ℕ, ℤ, pos, ◌+ℤ◌, true, false, List, [], ◌∷◌, ◌++◌, fold, Result, Ok, Err, refl, sym, ap, ◌∙◌, append-nil, append_assoc, ◌==◌, arith, Option, Some, None, MatchOption, flat_map, ints, total_by, TextFault, TextAnswer, WordRef, word_of, Word, ◌>>=◌, Fails, Literal, by_line, each, left, on_line, past_line, Line, CertificateContent, written, literal_at, line_at, bound_of, kept_line, content_of, reading_of_words, literals_read, line_read, with_line, blank, lines_put, row_of, by_line-first}
+use Rattle.posiform_check.proofs.Common.{nat_tests, ◌≡◌, ℕ, ℤ, ◌+ℤ◌, true, false, List, [], ◌∷◌, ◌++◌, fold, Result, Ok, Err, refl, ap, append-nil, append_assoc, ◌==◌, arith, Option, MatchOption, flat_map, ints, total_by, TextFault, TextAnswer, WordRef, word_of, Word, ◌>>=◌, Fails, Literal, by_line, each, left, on_line, past_line, Line, CertificateContent, written, literal_at, line_at, bound_of, kept_line, content_of, reading_of_words, literals_read, line_read, with_line, blank, lines_put, row_of, by_line-first}
 use Rattle.whole_text.specs.declared.faults.TextAnswer.TheVariants as answers
 
 -- ---- literals
@@ -16,17 +16,14 @@ put_behind front rest read = read >>= λ ls. Ok (front ++ ls, rest)
 put_literal : (l : Literal) (front : List Literal) (rest : List Word)
     (read : Result (List Literal) TextFault)
     → put_behind (front ++ l ∷ []) rest read ≡ put_behind front rest (first_before l read)
-put_literal l front rest (Err e) = refl
-put_literal l front rest (Ok ls) =
-    ap (λ (ks : List Literal). Ok (ks, rest)) (append_assoc front (l ∷ []) ls)
+put_literal l front rest read = grind (arith, nat_tests, append_assoc)
 
 pub literal_goes_on : (nodes line : ℕ) (front : List Literal) (w : Word) (ws : List Word)
     (l : Literal) → (w.line == line) ≡ true → literal_at nodes w ≡ Ok l
     → literals_read nodes line (front ++ l ∷ []) ws ≡ literals_read nodes line front (w ∷ ws)
 unfolding each
 literal_goes_on nodes line front w ws l here read =
-    rw (here, read)
-    (put_literal l front (past_line line ws) (each (literal_at nodes) (on_line line ws)))
+    grind (arith, nat_tests, put_literal l front (past_line line ws) (each (literal_at nodes) (on_line line ws)))
 
 pub literal_fails : (nodes line : ℕ) (front : List Literal) (w : Word) (ws : List Word)
     (f : TextFault) → (w.line == line) ≡ true → literal_at nodes w ≡ Err f
@@ -37,14 +34,12 @@ literal_fails nodes line front w ws f here read = rw (here, read) refl
 pub literals_stop : (nodes line : ℕ) (front : List Literal) (w : Word) (ws : List Word)
     → (w.line == line) ≡ false → literals_read nodes line front (w ∷ ws) ≡ Ok (front, w ∷ ws)
 unfolding each
-literals_stop nodes line front w ws past =
-    rw past (ap (λ (ks : List Literal). Ok (ks, w ∷ ws)) (append-nil front))
+literals_stop nodes line front w ws past = grind (arith, nat_tests, append-nil)
 
 pub literals_end : (nodes line : ℕ) (front : List Literal) (ws : List Word) → ws ≡ []
     → literals_read nodes line front ws ≡ Ok (front, [])
 unfolding each
-literals_end nodes line front ws none =
-    rw none (ap (λ (ks : List Literal). Ok (ks, [])) (append-nil front))
+literals_end nodes line front ws none = grind (arith, nat_tests, append-nil)
 
 -- ---- lines
 
@@ -110,20 +105,15 @@ lines_end nodes s ws none = rw none refl
 
 all_lines : (s : CertificateContent) (ls : List Line) → fold with_line s ls
     ≡ record { bound = s.bound +ℤ total_by bound_of ls; lines = s.lines ++ flat_map kept_line ls }
-all_lines s [] =
-    let same : s.bound ≡ s.bound +ℤ pos 0 = omega (arith, ints) in
-    λ i. record { bound = same i; lines = sym (append-nil s.lines) i }
+all_lines s [] = grind (arith, nat_tests, ints, append-nil)
 all_lines s (l ∷ ls) = grind (arith, nat_tests, ints, all_lines (with_line s l) ls, append_assoc)
 
 from_blank : (ls : List Line) → fold with_line blank ls ≡ content_of ls
-from_blank ls =
-    let same : pos 0 +ℤ total_by bound_of ls ≡ total_by bound_of ls = omega (arith, ints) in
-    all_lines blank ls ∙ (λ i. record { bound = same i; lines = flat_map kept_line ls })
+from_blank ls = grind (arith, nat_tests, all_lines)
 
 all_read : (read : Result (List Line) TextFault)
     → put_all blank read ≡ (read >>= λ ls. Ok (content_of ls))
-all_read (Err e) = refl
-all_read (Ok ls) = ap (λ (c : CertificateContent). Ok c) (from_blank ls)
+all_read read = grind (arith, nat_tests, from_blank)
 
 pub lines_all : (nodes : ℕ) (ws : List Word) → lines_put nodes blank ws ≡ reading_of_words nodes ws
 unfolding reading_of_words
@@ -133,5 +123,4 @@ lines_all nodes ws = all_read (lines_by nodes ws)
 
 pub next_left : (next : Option WordRef) (old new : List Word)
     → MatchOption next ((old ≡ []) × (new ≡ [])) (λ w. old ≡ word_of w ∷ new) → left next new ≡ old
-next_left None old new h = sym h.0
-next_left (Some w) old new h = sym h
+next_left next old new h = grind (arith, nat_tests)

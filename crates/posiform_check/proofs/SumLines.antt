@@ -1,5 +1,5 @@
 -- Lines that are added to sums, or to gathered terms beside them.
-use Rattle.posiform_check.proofs.Common.{nat_tests, ◌≡◌, ℕ, List, [], ◌∷◌, ◌++◌, ℤ, Option, Some, None, refl, ap, subst, ◌∙◌, arith, AllByRecursion, flat_map, All-from_recursion, recursion_from_All, Literal, Term, IsTermSet, TableContent, AreAdditions, with_more, terms_total-append, OfSet, behind, behind-nothing, additions_first, Written, Line, CertificateContent, line_terms, certificate_terms, certificate_list, model_terms, model_list, AreSameForms, IsCertificate, AreOfNodes, certificate_fault, difference, HasMore}
+use Rattle.posiform_check.proofs.Common.{nat_tests, ◌≡◌, ℕ, List, [], ◌∷◌, ◌++◌, ℤ, Option, Some, None, refl, ap, ◌∙◌, arith, AllByRecursion, flat_map, All-from_recursion, recursion_from_All, Literal, Term, IsTermSet, TableContent, AreAdditions, with_more, terms_total-append, OfSet, behind, behind-nothing, additions_first, Written, Line, CertificateContent, line_terms, certificate_terms, certificate_list, model_terms, model_list, AreSameForms, IsCertificate, AreOfNodes, certificate_fault, difference, HasMore}
 use Rattle.posiform_check.proofs.Compared.{comparison_says}
 use Rattle.posiform_check.proofs.Gathering.{certificate_fits}
 use Rattle.posiform_check.proofs.Sums.{coefficients-append}
@@ -56,8 +56,7 @@ next_line_fits now l left rest steps fits =
 pub split_lines : (now : TableContent) (l : Line) (left rest : List Line) → left ≡ l ∷ rest
     → AreAdditions (with_more now (flat_map line_terms left))
     → AreAdditions (with_more now (line_terms l ++ flat_map line_terms rest))
-split_lines now l left rest steps fits =
-    subst (λ (ls : List Line). AreAdditions (with_more now (flat_map line_terms ls))) steps fits
+split_lines now l left rest steps fits = grind (arith, nat_tests)
 
 -- ---- both forms
 

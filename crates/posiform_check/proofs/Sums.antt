@@ -1,5 +1,5 @@
 -- Forms that are gathered by adding to them.
-use Rattle.posiform_check.proofs.Common.{nat_tests, elements, ◌≡◌, ℕ, zero, suc, ◌+◌, ◌<◌, ◌≤◌, Bool, true, false, take, List, [], ◌∷◌, ◌++◌, map, length, ℤ, pos, ◌+ℤ◌, refl, ap, arith, All, slice_set, get_or, replicate, int_eq, is_eq, AllByRecursion, list_all, take_more, take_all, IsPermutation, ints, All-from_recursion, recursion_from_All, if_so, total_by-append, total_by-map, total_by-IsPermutation, Literal, Term, set_cmp, coefficient_of, node_set, AreSameForms, HasMore, HasNone, node_terms, pair_term, sum_term, sums_terms}
+use Rattle.posiform_check.proofs.Common.{nat_tests, elements, ◌≡◌, ℕ, zero, suc, ◌+◌, ◌<◌, ◌≤◌, Bool, true, take, List, [], ◌∷◌, ◌++◌, map, length, ℤ, pos, ◌+ℤ◌, refl, ap, arith, All, slice_set, get_or, replicate, int_eq, is_eq, AllByRecursion, list_all, take_more, take_all, IsPermutation, ints, All-from_recursion, recursion_from_All, if_so, total_by-append, total_by-map, total_by-IsPermutation, Literal, Term, set_cmp, coefficient_of, node_set, AreSameForms, HasMore, HasNone, node_terms, pair_term, sum_term, sums_terms}
 use Rattle.posiform_check.specs.declared.set_sums.PairSum.{PairSum}
 use Rattle.posiform_check.specs.declared.set_sums.PairTerm.{PairTerm}
 
@@ -12,8 +12,7 @@ pub coefficients-append : (set : List Literal) (ts us : List Term)
 coefficients-append set ts us = total_by-append (given set) ts us
 
 pub nothing-given : (b : Bool) → if_so b (pos 0) ≡ pos 0
-nothing-given true = refl
-nothing-given false = refl
+nothing-given b = grind (arith, nat_tests)
 
 -- one addition after another
 pub more_then : (a b c ts us : List Term) → HasMore a ts b → HasMore b us c → HasMore a (ts ++ us) c
@@ -85,9 +84,7 @@ pairs-permuted set ps qs h =
 pub sums_parts : (set : List Literal) (constant : ℤ) (ws : List ℤ) (ps : List PairTerm)
     → coefficient_of set (sums_terms constant ws ps) ≡ given set ([], constant)
     +ℤ (coefficient_of set (node_terms 0 ws) +ℤ coefficient_of set (map pair_term ps))
-sums_parts set constant ws ps =
-    ap (λ s. given set ([], constant) +ℤ s)
-    (coefficients-append set (node_terms 0 ws) (map pair_term ps))
+sums_parts set constant ws ps = grind (arith, nat_tests, ints, elements, coefficients-append)
 
 -- one node has more
 pub sums_node : (constant : ℤ) (ws : List ℤ) (ps : List PairTerm) (i : ℕ) (c new : ℤ)
@@ -131,15 +128,9 @@ sums_cancel constant ws ps qs all nothing tested moved none is set =
     let pairs_permuted = pairs-permuted set ps qs moved in
     omega (arith, ints, sums_parts set constant ws ps, none set, ap (coefficient_of set) is)
 
--- what was added with the other sign is taken away
-opposite_given : (b : Bool) (w less : ℤ) → less +ℤ w ≡ pos 0 → if_so b less +ℤ if_so b w ≡ pos 0
-opposite_given true w less h = h
-opposite_given false w less h = refl
-
 pub take_back : (a b : List Term) (k : List Literal) (w less : ℤ) → less +ℤ w ≡ pos 0
     → HasMore a ((k, less) ∷ []) b → HasMore b ((k, w) ∷ []) a
-take_back a b k w less h more set =
-    omega (arith, ints, more set, opposite_given (is_eq (set_cmp set k)) w less h)
+take_back a b k w less h more set = grind (arith, nat_tests, ints)
 
 -- two additions, and four
 pub two_more : (a b c : List Term) (t u : Term) → HasMore a (t ∷ []) b → HasMore b (u ∷ []) c

@@ -1,5 +1,5 @@
 -- The value of a certificate, and forms with the same coefficients, which have one value.
-use Rattle.posiform_check.proofs.Common.{nat_tests, ◌≡◌, Bool, List, [], ◌∷◌, ℤ, pos, ◌+ℤ◌, ◌≤ℤ◌, sym, ◌∙◌, arith, All, AllByRecursion, ints, recursion_from_All, if_so, total_by, total_by-flat_map, total_by-same, all_hold, Term, terms_cost, with_additions, terms_cost-plain_terms, terms_cost-with_additions, coefficient_of-with_additions, Ascends-with_additions, nonzero-with_additions, same_terms, Line, CertificateContent, certificate_terms, AreSameForms}
+use Rattle.posiform_check.proofs.Common.{elements, nat_tests, ◌≡◌, Bool, List, [], ◌∷◌, ℤ, pos, ◌+ℤ◌, ◌≤ℤ◌, arith, All, AllByRecursion, ints, recursion_from_All, if_so, total_by, total_by-flat_map, total_by-same, all_hold, Term, terms_cost, with_additions, terms_cost-plain_terms, terms_cost-with_additions, coefficient_of-with_additions, Ascends-with_additions, nonzero-with_additions, same_terms, Line, CertificateContent, certificate_terms, AreSameForms}
 
 -- forms with the same coefficients make one table
 pub same_table : (ts us : List Term) → AreSameForms ts us
@@ -7,8 +7,7 @@ pub same_table : (ts us : List Term) → AreSameForms ts us
 same_table ts us same =
     same_terms (with_additions [] ts) (with_additions [] us) (Ascends-with_additions ts)
     (Ascends-with_additions us) (nonzero-with_additions ts) (nonzero-with_additions us)
-    (λ set. coefficient_of-with_additions set ts ∙ same set
-    ∙ sym (coefficient_of-with_additions set us))
+    (λ set. grind (arith, nat_tests, elements, coefficient_of-with_additions))
 
 -- and have the same value for every list of bits
 pub same_value : (ts us : List Term) → AreSameForms ts us → (y : List Bool)

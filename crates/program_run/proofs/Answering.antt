@@ -1,5 +1,5 @@
 -- What is asked of the model of a command's plan answers the command.
-use Rattle.program_run.proofs.Common.{nat_tests, ◌≡◌, ℕ, ℤ, pos, ◌*ℤ◌, ◌≤ℤ◌, Bool, List, length, take, Ok, Some, None, refl, sym, ap, ◌∙◌, subst, arith, ints, by_lt_z, Option, NamedFiles, UnitChoice, Form, IsOf, Source, energy, times-lt, Relaxes, Written, IsWellFormed, form_of, decoding_of, Demand, Faithful, HasChains, IsLeastState, least_states_tell, length-read_off, Choices, ProblemContent, cut_off, own_cost, FitsFields, model_text, IsTextOf, texts_tell_models, decoding_text, extension_text, proof_text, solution_text, Format, NodeModel, Ask, WordAt, ChainStrength, most_of, text_at, Command, Read, CostsAs, StandsFor, bounded, carried, names_of, names_read, problem_stands, problem_costs, ising_of, ExtendsTo, IsLeastTo, IsMadeOf, Placement, Plan, ties_of, demand_of, form_in, StandsOn, Last, Nothing, Bits, InOrder, Several, bits_step, gives, checking, placing, planning, last_step, format_in, IsSmall, bounded_cost, judgement_by, read_cost, IsExtendedBy, IsModelled, IsModelText, IsOfModel, IsSolvedBy, IsTold, IsMadeText, EveryStateStands, judgement_of, IsFirstBy, Extends, IsAnswer, IsAskedOf, IsDecoded, IsExtended, IsLeastAsked, IsLeastExtension, IsLeastWhereWhole, IsModelFor, IsProved, IsSolved, TellsSource, bits_were, bound}
+use Rattle.program_run.proofs.Common.{nat_tests, ◌≡◌, ℕ, ℤ, pos, ◌*ℤ◌, ◌≤ℤ◌, Bool, List, length, take, Ok, Some, None, refl, sym, ap, ◌∙◌, subst, arith, ints, by_lt_z, Option, NamedFiles, UnitChoice, Form, IsOf, Source, energy, times-lt, Relaxes, Written, IsWellFormed, form_of, decoding_of, Demand, Faithful, HasChains, IsLeastState, least_states_tell, length-read_off, Choices, ProblemContent, FitsFields, model_text, IsTextOf, texts_tell_models, decoding_text, extension_text, proof_text, Format, NodeModel, Ask, WordAt, ChainStrength, most_of, text_at, Command, Read, CostsAs, StandsFor, bounded, carried, names_of, names_read, problem_stands, problem_costs, ising_of, ExtendsTo, IsLeastTo, IsMadeOf, Placement, Plan, ties_of, demand_of, form_in, StandsOn, Last, Nothing, Bits, InOrder, Several, bits_step, gives, checking, placing, planning, last_step, format_in, IsSmall, bounded_cost, judgement_by, read_cost, IsExtendedBy, IsModelled, IsModelText, IsOfModel, IsSolvedBy, IsTold, IsMadeText, EveryStateStands, judgement_of, IsFirstBy, Extends, IsAnswer, IsAskedOf, IsDecoded, IsExtended, IsLeastAsked, IsLeastExtension, IsLeastWhereWhole, IsModelFor, IsProved, IsSolved, TellsSource, bits_were, bound}
 use Rattle.problem_form.specs.Problems as problems
 use Rattle.command_words.specs.declared.commands.Format.TheVariants as formats
 use Rattle.command_words.specs.declared.commands.Ask.TheVariants.{Model, Summary, Size, Solve, Decode, Evaluate, Extend, Prove}
@@ -19,8 +19,7 @@ use Rattle.program_run.proofs.Stood.{alike, model_stands}
 
 -- the plan of what is read and chosen
 abbrev plan_of : Read → Choices → UnitChoice → Placement → Plan
-plan_of read choices unit base =
-    record { read = read; choices = choices; unit = unit; base = base }
+plan_of read choices unit base = record { read = read; choices = choices; unit = unit; base = base }
 
 -- the plan has what was read and chosen
 pub record IsPlanned (words : List (List ℕ)) (held : NamedFiles) (command : Command) (plan : Plan)
@@ -32,21 +31,7 @@ pub record IsPlanned (words : List (List ℕ)) (held : NamedFiles) (command : Co
 pub planned_is : (words : List (List ℕ)) (held : NamedFiles) (command : Command) (plan : Plan)
     → (planning words held command).end ≡ Some (Ok plan) → IsPlanned words held command plan
 unfolding planning
-planned_is words held command plan e =
-    let read = bound (checking words held command)
-    (λ read. placing words held command.target
-    >>= λ base. gives (plan_of read command.choices command.unit base)) plan e in
-    let base = bound (placing words held command.target)
-    (λ base. gives (plan_of read.0 command.choices command.unit base)) plan read.2 in
-    let same : plan_of read.0 command.choices command.unit base.0 ≡ plan =
-    let two = base.2 in cc in
-    record {
-      checked = subst (λ (p : Plan). (checking words held command).end ≡ Some (Ok p.read)) same
-          read.1;
-      placed = subst (λ (p : Plan). (placing words held command.target).end ≡ Some (Ok p.base)) same
-          base.1;
-      unit = sym (ap (λ (p : Plan). p.unit) same);
-    }
+planned_is words held command plan e = grind (arith, nat_tests, bound)
 
 -- ---- the model stands for the source
 
@@ -86,8 +71,7 @@ stands_on (Qubits site) choices unit s r m stands made =
 formed_on : (base : Placement) (choices : Choices) (unit : UnitChoice) (own : ℕ)
     (p : ProblemContent) (m : Written) → StandsOn base choices unit own p m
     → IsWellFormed m × FitsFields m
-formed_on (Nodes target) choices unit own p m made = (made.well_formed, made.fits)
-formed_on (Qubits site) choices unit own p m made = (made.well_formed, made.fits)
+formed_on base choices unit own p m made = grind (arith, nat_tests)
 
 -- ---- what is told of it
 
@@ -99,9 +83,7 @@ text_is_its m formed fits = record {
 
 tells_source : (s : Source) (demand : Demand) (m : Written) (state : List Bool)
     → Faithful s demand m → IsLeastState (form_of m) state → TellsSource s m state
-tells_source s demand m state faithful least =
-    let tells = least_states_tell s demand m state faithful least in
-    record { optimum = tells.0; infeasible = tells.1 }
+tells_source s demand m state faithful least = grind (arith, nat_tests, least_states_tell)
 
 unscaled-le : (a v w : ℤ) → pos 1 ≤ℤ a → (a *ℤ v) ≤ℤ (a *ℤ w) → v ≤ℤ w
 unscaled-le a v w p h =
@@ -110,8 +92,7 @@ unscaled-le a v w p h =
 -- a first least state is a least one, whatever the order
 first_is_least : (order : Option (List ℕ)) (g : Form) (y : List Bool) → IsFirstBy order g y
     → IsLeastState g y
-first_is_least None g y first = first.least
-first_is_least (Some order) g y first = first.least
+first_is_least order g y first = grind (arith, nat_tests)
 
 -- where every state stands for the source, one whose energy is the whole cost is a least one
 least_where_whole : (s : Source) (m : Written) (x state : List Bool)
@@ -132,14 +113,12 @@ module _ (plan : Plan) (s : Source) (m : Written) (names : Option (List (List �
   own = its.faithful.stated.variables
 
   -- what a state decodes to has the width of the source
-  decoded_width : (y : List Bool) → length y ≡ m.nodes
-      → IsOf s.form ((decoding_of m).decoded y)
+  decoded_width : (y : List Bool) → length y ≡ m.nodes → IsOf s.form ((decoding_of m).decoded y)
   decoded_width y w = length-read_off m y m.kind its.faithful.well_formed.kind w ∙ own
 
   -- and costs what the source says
   decoded_cost : (y : List Bool) → length y ≡ m.nodes
-      → read_cost plan.read ((decoding_of m).decoded y)
-      ≡ s.form.cost ((decoding_of m).decoded y)
+      → read_cost plan.read ((decoding_of m).decoded y) ≡ s.form.cost ((decoding_of m).decoded y)
   decoded_cost y w = costs.same ((decoding_of m).decoded y) (decoded_width y w)
 
   -- and with the bound what the bounded source says
@@ -150,21 +129,7 @@ module _ (plan : Plan) (s : Source) (m : Written) (names : Option (List (List �
 
   solved : (order : Option (List ℕ)) (text : List ℕ) → IsSolvedBy order plan.read m text
       → IsSolved order s most names m text
-  solved order text told =
-      let x = (decoding_of m).decoded told.state in
-      let value = energy (form_of m) told.state in
-      let demand = demand_of plan.unit plan.base (length (form_in plan).fields) in
-      let least = first_is_least order (form_of m) told.state told.first in
-      record {
-        state = told.state;
-        first = told.first;
-        tells = tells_source (bounded most s) demand m told.state its.faithful least;
-        said = told.said
-            ∙ ap (λ (n : Option (List (List ℕ))). solution_text told.state value x n
-            (bounded_cost plan.read x)) (sym named)
-            ∙ ap (λ c. solution_text told.state value x names c)
-            (decoded_bounded told.state least.width);
-      }
+  solved order text told = grind (arith, nat_tests, first_is_least, tells_source, decoded_bounded)
 
   proved : (bits : List Bool) (text : List ℕ) → IsProvedState m bits
       → text ≡ proof_text (energy (form_of m) bits) ((decoding_of m).decoded bits)
@@ -180,8 +145,7 @@ module _ (plan : Plan) (s : Source) (m : Written) (names : Option (List (List �
         tells = tells_source (bounded most s) demand m bits its.faithful least;
         said = told
             ∙ ap (λ (n : Option (List (List ℕ))). proof_text value x n (bounded_cost plan.read x))
-            (sym named)
-            ∙ ap (λ c. proof_text value x names c) (decoded_bounded bits is.width);
+            (sym named) ∙ ap (λ c. proof_text value x names c) (decoded_bounded bits is.width);
       }
 
   decoded : (bits : List Bool) (text : List ℕ) → length bits ≡ m.nodes
@@ -193,22 +157,18 @@ module _ (plan : Plan) (s : Source) (m : Written) (names : Option (List (List �
   -- ---- an assignment
 
   -- the first bits of what a state decodes to with all variables of the problem
-  first_bits : (y : List Bool) → length y ≡ m.nodes
-      → (decoding_of m).decoded y
+  first_bits : (y : List Bool) → length y ≡ m.nodes → (decoding_of m).decoded y
       ≡ take s.form.bits ((models.decoding_to plan.read.problem.variables m).decoded y)
   first_bits y w = alike plan.unit (bounded most s) plan.read m stands (own ∙ sym stands.variables) y w
 
   source_extends : (x state : List Bool) → IsOf s.form x
       → ExtendsTo plan.read.problem.variables (problems.form_of plan.read.problem) m
-      (carried plan.read.soft x) state
-      → Extends (bounded most s) m x state
+      (carried plan.read.soft x) state → Extends (bounded most s) m x state
   source_extends x state w extends = record {
     width = extends.width;
     decodes = first_bits state extends.width ∙ ap (take s.form.bits) extends.decodes
         ∙ costs.begins x w;
-    scaled = λ v whole. extends.scaled v
-        (ap (λ n. cut_off n (own_cost plan.read.problem (carried plan.read.soft x))) has
-        ∙ ap (cut_off most) (costs.same x w) ∙ whole);
+    scaled = λ v whole. extends.scaled v (grind (arith, nat_tests));
   }
 
   -- without soft constraints the problem has the source's variables
@@ -243,8 +203,7 @@ module _ (plan : Plan) (s : Source) (m : Written) (names : Option (List (List �
               (λ choi. told.least plan.read.variables
               (subst (λ ties. IsMadeOf ties plan.read.variables plan.choices plan.read.problem m) choi
               made.made));
-          said = told.said
-              ∙ ap (λ c. extension_text told.state c (energy (form_of m) told.state))
+          said = told.said ∙ ap (λ c. extension_text told.state c (energy (form_of m) told.state))
               (costs.same x w);
         };
         exact = told.exact;
@@ -291,8 +250,7 @@ module _ (plan : Plan) (s : Source) (m : Written) (names : Option (List (List �
   scored_asked words held at (Several states) text e told =
       let wide = scanned_widths held (text_at words at) m.nodes states e in
       scored_alike (judgement_by plan.read m) (judgement_of s m) m plan.read.names names states text
-      (sym named) (alike_where_wide m.nodes (judgement_by plan.read m) (judgement_of s m) states wide
-      (λ y w. decoded_cost y w) (λ y. refl)) told
+      (sym named) (grind (arith, nat_tests, alike_where_wide, decoded_cost)) told
   scored_asked words held at last text e told = absurd told
 
   alone_asked : (ask : Ask) (last : Last) (text : List ℕ) → IsOfModel ask → Nothing ≡ last
@@ -305,8 +263,7 @@ module _ (plan : Plan) (s : Source) (m : Written) (names : Option (List (List �
       → IsTold ask plan.read plan.choices m last text
       → IsAskedOf ask s most names ByPlan m last text
   asked_of words held Model last text e told = alone_asked Model last text tt (let two = e in cc) told
-  asked_of words held Summary last text e told =
-      alone_asked Summary last text tt (let two = e in cc) told
+  asked_of words held Summary last text e told = grind (arith, nat_tests)
   asked_of words held Size last text e told = alone_asked Size last text tt (let two = e in cc) told
   asked_of words held (Solve order) last text e told = solved_asked order last text told
   asked_of words held (Evaluate at) last text e told = scored_asked words held at last text e told
@@ -325,8 +282,7 @@ made_answers words held command plan text e made =
     let most = most_of command.bound in
     let s = problem_stands format taken.text taken.own taken.read in
     let m = made.model in
-    let costs = subst (CostsAs s.0) taken.given
-    (costs_wanted s.0 command taken.own
+    let costs = subst (CostsAs s.0) taken.given (costs_wanted s.0 command taken.own
     (λ bound. problem_costs format taken.text taken.own s.0 bound taken.read s.1)) in
     let own_stands = subst (StandsFor (bounded most s.0)) taken.given
     (stands_wanted s.0 command taken.own s.2) in
@@ -347,8 +303,7 @@ made_answers words held command plan text e made =
       by = made.made.by;
       stands = subst (λ u. IsModelFor plan.base u (length (form_in plan).fields) (bounded most s.0) m) planned.unit
           stands;
-      small = λ x wide.
-          subst IsSmall (costs.same x wide)
+      small = λ x wide. subst IsSmall (costs.same x wide)
           (cost_is_small command.choices.normal plan.read.problem (carried plan.read.soft x) taken.within);
       few = has_few_nodes plan m made.made.can_stand made.made.by made.made.stands;
       asked = record {

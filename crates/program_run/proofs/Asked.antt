@@ -1,5 +1,5 @@
 -- How many bits are read last, and that those of a proof are of a least state.
-use Rattle.program_run.proofs.Common.{nat_tests, arith, ◌≡◌, ℕ, Bool, List, length, Ok, Some, None, refl, subst, Option, NamedFiles, Written, form_of, IsLeastState, CertificateContent, proof_fault, ProofFault, first_faults_tell, proved_is_least, WordAt, text_at, ends, stating, certifying, certified, proving, proof_end, bound, state_is_taken, state_has_width}
+use Rattle.program_run.proofs.Common.{nat_tests, arith, ◌≡◌, ℕ, Bool, List, length, Ok, Some, None, subst, Option, NamedFiles, Written, form_of, IsLeastState, CertificateContent, proof_fault, ProofFault, first_faults_tell, proved_is_least, WordAt, text_at, ends, stating, certifying, certified, proving, proof_end, bound, state_is_taken, state_has_width}
 
 -- so many bits were read
 pub stated_width : (held : NamedFiles) (name : List ℕ) (width : ℕ) (bits : List Bool)
@@ -9,8 +9,7 @@ stated_width held name width bits e =
 
 proof_keeps : (bits : List Bool) (fault : Option ProofFault) (kept : List Bool)
     → proof_end bits fault ≡ Ok kept → (bits ≡ kept) × (fault ≡ None)
-proof_keeps bits None kept e = (cc, refl)
-proof_keeps bits (Some fault) kept e = absurd cc
+proof_keeps bits fault kept e = grind (arith, nat_tests)
 
 -- bits that a certificate proves are those of a state of the model, which has no fault
 pub record IsCertified (m : Written) (bits : List Bool) : Type 0 where

@@ -45,8 +45,7 @@ module _ (words : List (List ℕ)) (held : NamedFiles) (command : Command) (plan
 pub usual_end : (words : List (List ℕ)) (held : NamedFiles) (ask : Ask) (plan : Plan)
     → ask ≡ asks.Solve None → EndsOf Done plan (solving [] [] None)
     → EndsOf Done plan (last_step words held ask plan.read.variables)
-usual_end words held ask plan is ends =
-    subst (λ a. EndsOf Done plan (last_step words held a plan.read.variables)) (sym is) ends
+usual_end words held ask plan is ends = grind (arith, nat_tests)
 
 -- ---- files
 

@@ -1,5 +1,5 @@
 -- What states are worth to two judges who agree on them.
-use Rattle.program_run.proofs.Common.{nat_tests, arith, ◌≡◌, ℕ, ◌+◌, Bool, true, false, not, ◌&&◌, ◌||◌, cond, List, [], ◌∷◌, length, map, find, Ok, Some, Option, refl, sym, subst, ◌∙◌, AllByRecursion, length-map, eqb-true, Written, decoding_of, NamedFiles, StateLine, is_one, is_state, states_from, states_of, Score, IsEvaluation, Judgement, best_of, has_better, is_better, score_of, evaluation_text, Several, scanning, states_end, bound, IsScored}
+use Rattle.program_run.proofs.Common.{nat_tests, arith, ◌≡◌, ℕ, ◌+◌, Bool, true, not, ◌&&◌, ◌||◌, cond, List, [], ◌∷◌, length, map, find, Ok, Some, Option, refl, ◌∙◌, AllByRecursion, length-map, eqb-true, Written, decoding_of, NamedFiles, StateLine, is_one, is_state, states_from, states_of, Score, IsEvaluation, Judgement, best_of, has_better, is_better, score_of, evaluation_text, Several, scanning, states_end, bound, IsScored}
 
 -- judges who agree on each of these states
 abbrev pub AreAlike : Judgement → Judgement → List StateLine → Type 0
@@ -17,8 +17,7 @@ better_alike j k (other ∷ others) state alike same =
     λ i. is_better (alike.0 i) (same i) || better_alike j k others state alike.1 same i
 
 found_alike : (j k : Judgement) (all states : List StateLine) → AreAlike j k all
-    → AreAlike j k states
-    → find (λ state. not (has_better j all state)) states
+    → AreAlike j k states → find (λ state. not (has_better j all state)) states
     ≡ find (λ state. not (has_better k all state)) states
 found_alike j k all [] every alike = refl
 found_alike j k all (state ∷ states) every alike =
@@ -28,31 +27,20 @@ found_alike j k all (state ∷ states) every alike =
 found_on : (Q : StateLine → Type 0) (state : StateLine) (later : Option StateLine)
     (best : StateLine) (b : Bool) → cond b (Some state) later ≡ Some best → Q state
     → (later ≡ Some best → Q best) → Q best
-found_on Q state later best true e is rest = let same : state ≡ best = cc in subst Q same is
-found_on Q state later best false e is rest = rest e
+found_on Q state later best b e is rest = grind (arith, nat_tests)
 
 -- what holds of all holds of the one that is found
 found_is : (Q : StateLine → Type 0) (p : StateLine → Bool) (states : List StateLine)
     (best : StateLine) → find p states ≡ Some best → AllByRecursion Q states → Q best
 found_is Q p [] best e all = absurd cc
 found_is Q p (state ∷ states) best e all =
-    found_on Q state (find p states) best (p state) e all.0
-    (λ h. found_is Q p states best h all.1)
+    found_on Q state (find p states) best (p state) e all.0 (λ h. found_is Q p states best h all.1)
 
 pub scored_alike : (j k : Judgement) (m : Written) (names others : Option (List (List ℕ)))
     (states : List StateLine) (text : List ℕ) → names ≡ others → AreAlike j k states
     → IsScored j names m states text → IsScored k others m states text
 scored_alike j k m names others states text same alike told =
-    let best : score_of j told.best ≡ score_of k told.best =
-    found_is (λ (state : StateLine). score_of j state ≡ score_of k state)
-    (λ state. not (has_better j states state)) states told.best told.first alike in
-    record {
-      best = told.best;
-      first = sym (found_alike j k states states alike alike) ∙ told.first;
-      said = told.said
-          ∙ (λ i. evaluation_text (scores_alike j k states alike i) (best i)
-          ((decoding_of m).decoded told.best.1) (same i));
-    }
+    grind (arith, nat_tests, found_is, found_alike, scores_alike)
 
 -- ---- states of one width
 
@@ -69,8 +57,7 @@ alike_where_wide width j k (state ∷ states) wide costs energies =
     grind (arith, nat_tests, alike_where_wide width j k states wide.1 costs energies)
 
 both_true : (a b : Bool) → (a && b) ≡ true → a ≡ true
-both_true true b e = refl
-both_true false b e = absurd cc
+both_true a b e = grind (arith, nat_tests)
 
 wide_with : (width number : ℕ) (line : List ℕ) (later : List (ℕ × List ℕ)) (fits : Bool)
     → is_state width line ≡ fits
@@ -88,8 +75,7 @@ states_wide width number (line ∷ lines) =
 
 these_end : (width : ℕ) (found states : List StateLine)
     → states_end width found ≡ Ok (Several states) → found ≡ states
-these_end width [] states e = absurd cc
-these_end width (state ∷ found) states e = cc
+these_end width found states e = grind (arith, nat_tests)
 
 -- the states that are read have the width that was asked for
 pub scanned_widths : (held : NamedFiles) (name : List ℕ) (width : ℕ) (states : List StateLine)

@@ -1,13 +1,11 @@
 -- What costs within the limits come to: below 2 ^ 64 in size.
-use Rattle.program_run.proofs.Common.{[], length, get_or, subst, sym, Cost, Read, Written, carried, decoding_of, judgement_by, ◌≡◌, ◌-◌, ◌^◌, ◌≤◌, ℤ, ◌+ℤ◌, Bool, true, false, ◌||◌, List, None, arith, if◌then◌else◌, list_any, ints, total_by, Normal, ProblemContent, fails, fails_hard, own_cost, soft_cost, sum_of, limit_fault, weight, soft_costs-size, sum_of-size, within_limits, IsSmall, All, All-from_get_or, AreCosts, IsWithin}
+use Rattle.program_run.proofs.Common.{nat_tests, [], length, Cost, Read, Written, judgement_by, ◌≡◌, ◌-◌, ◌^◌, ◌≤◌, ℤ, ◌+ℤ◌, Bool, true, false, ◌||◌, List, None, arith, if◌then◌else◌, list_any, ints, total_by, Normal, ProblemContent, fails, fails_hard, own_cost, soft_cost, sum_of, limit_fault, weight, soft_costs-size, sum_of-size, IsSmall, All, All-from_get_or, AreCosts, IsWithin}
 use Rattle.base.specs.declared.costs.Cost.TheVariants.{Whole, Infinite}
-use Rattle.problem_form.specs.declared.limits.Normal.TheVariants.{Literal, Multilinear}
 use Rattle.normal_form.proofs.Limits as multilinear
 
 weight_is_small : (normal : Normal) (p : ProblemContent) → limit_fault normal p ≡ None
     → weight p ≤ 2 ^ 64 - 1
-weight_is_small Literal p none = (within_limits p none).weight
-weight_is_small Multilinear p none = (multilinear.within_limits p none).weight
+weight_is_small normal p none = grind (arith, nat_tests)
 
 pub cost_is_small : (normal : Normal) (p : ProblemContent) (x : List Bool)
     → limit_fault normal p ≡ None → IsSmall (own_cost p x)
@@ -32,6 +30,4 @@ pub costs_are_small : (read : Read) (m : Written) (states : List (List Bool)) (c
     → IsWithin read.problem → length costs ≡ length states → AreCosts (judgement_by read m) states costs
     → All IsSmall costs
 costs_are_small read m states costs within even are =
-    All-from_get_or IsSmall costs Infinite
-    (λ k below. subst IsSmall (sym (are k (omega (arith, even, below))))
-    (cost_is_small within.0 read.problem (carried read.soft ((decoding_of m).decoded (get_or states k []))) within.1))
+    All-from_get_or IsSmall costs Infinite (λ k below. grind (arith, nat_tests, cost_is_small))

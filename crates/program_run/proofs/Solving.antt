@@ -5,8 +5,7 @@ use Rattle.basic_solve.specs.declared.answer.SolveAnswer.TheVariants as solving
 use Rattle.run_steps.specs.Steps.{solving as solving_steps}
 
 -- no node below this one is too wide
-narrow_below : (m : Written) (n : ℕ) → ((v : ℕ) → v < n → width m v ≤ 16)
-    → wide_below m n ≡ None
+narrow_below : (m : Written) (n : ℕ) → ((v : ℕ) → v < n → width m v ≤ 16) → wide_below m n ≡ None
 narrow_below m zero narrow = refl
 narrow_below m (suc v) narrow =
     rw (le-ltb 16 (width m v) (narrow v (omega arith)))
@@ -63,11 +62,9 @@ module _ (words : List (List ℕ)) (held : NamedFiles) (at : WordAt) (m : Writte
   abbrev rest : List ℕ → Steps Last
   rest order = ends (width_end (InOrder order) (first_wide 16 m [] order))
 
-  pub order_refuses : (status : Status)
-      → Refuses status (ordered held (text_at words at) m.nodes)
+  pub order_refuses : (status : Status) → Refuses status (ordered held (text_at words at) m.nodes)
       → Refuses status (solving_steps words held (Some at) m)
-  order_refuses status refused =
-      refuses_on status (ordered held (text_at words at) m.nodes) rest refused
+  order_refuses status refused = grind (arith, nat_tests, refuses_on)
 
   module _ (order : List ℕ)
       (e : (ordered held (text_at words at) m.nodes).end ≡ Some (Ok order)) where
@@ -76,5 +73,4 @@ module _ (words : List (List ℕ)) (held : NamedFiles) (at : WordAt) (m : Writte
     order_gives narrow = grind (arith, nat_tests)
 
 pub unsolved_is : (answer : SolveAnswer) → IsUnsolved (unsolved answer)
-unsolved_is (solving.TooWide v w) = tt
-unsolved_is solving.NoMemory = tt
+unsolved_is answer = grind (arith, nat_tests)

@@ -1,5 +1,5 @@
 -- No answer is empty.
-use Rattle.program_run.proofs.Common.{nat_tests, ◌≡◌, ◌≢◌, ℕ, Bool, List, [], ◌∷◌, ◌++◌, length, length-append, ℤ, Option, refl, sym, ap, ◌∙◌, arith, join_with_byte, Cost, Written, Choices, Row, rows_text, model_text, summary_text, energy_row, optimum_rows, solution_text, state_row, size_text, Ask, Read, Bits, StateLine, Judgement, IsScored, IsModelText, IsSolvedBy, IsTold}
+use Rattle.program_run.proofs.Common.{ints, nat_tests, ◌≡◌, ◌≢◌, ℕ, Bool, List, [], ◌∷◌, ◌++◌, length, length-append, ℤ, Option, refl, sym, ap, ◌∙◌, arith, join_with_byte, Cost, Written, Choices, Row, rows_text, model_text, summary_text, solution_text, size_text, Ask, Read, Bits, StateLine, Judgement, IsScored, IsModelText, IsSolvedBy, IsTold}
 
 -- a row ends with a line feed
 some_rows : (row : Row) (rows : List Row) → rows_text (row ∷ rows) ≢ []
@@ -25,8 +25,7 @@ summary_some m none = grind (arith, nat_tests)
 
 solution_some : (y : List Bool) (energy : ℤ) (x : List Bool) (names : Option (List (List ℕ)))
     (cost : Cost) → solution_text y energy x names cost ≢ []
-solution_some y energy x names cost =
-    some_rows (state_row y) (energy_row energy ∷ optimum_rows x names cost)
+solution_some y energy x names cost = grind (arith, nat_tests, ints)
 
 -- a text begins with nothing where it is empty
 empty_front : (front rest : List ℕ) → front ++ rest ≡ [] → front ≡ []

@@ -18,8 +18,7 @@ stands_alike f g d d' u n alike p = record {
         let y = (p.exact feasible x).0 least in (y.0, y.1, alike y.0 y.1.width ∙ y.2),
     λ e. (p.exact feasible x).1 (e.0, e.1, sym (alike e.0 e.1.width) ∙ e.2),
   );
-  decodes = λ feasible y l.
-      subst (IsLeast f) (sym (alike y l.width)) (p.decodes feasible y l);
+  decodes = λ feasible y l. subst (IsLeast f) (sym (alike y l.width)) (p.decodes feasible y l);
   least_energy = p.least_energy;
   infeasible = p.infeasible;
 }
@@ -60,22 +59,18 @@ module _ (unit : UnitChoice) (s : Source) (r : Read) (m : Written) (stands : Sta
   source_stands at_least =
       stands_alike s.form (form_of m)
       (first_decoded s.form.bits (decoding_to r.problem.variables m)) (decoding_of m)
-      m.unit m.figures alike
-      (rewritten_stands s.form (problems.form_of r.problem) (form_of m)
+      m.unit m.figures alike (rewritten_stands s.form (problems.form_of r.problem) (form_of m)
       (decoding_to r.problem.variables m) m.unit m.figures stands.rewrites at_least)
 
   -- as its ties allow
   every : (ties : ChainStrength)
       → StandsBy ties (problems.form_of r.problem) (form_of m) (decoding_to r.problem.variables m)
-      m.unit m.figures
-      → EveryStateStands ties s m
-  every Choi relaxes = source_relaxed relaxes
-  every Cut at_least = tt
+      m.unit m.figures → EveryStateStands ties s m
+  every ties relaxes = grind (arith, nat_tests, source_relaxed)
 
   at_least : (ties : ChainStrength)
       → StandsBy ties (problems.form_of r.problem) (form_of m) (decoding_to r.problem.variables m)
-      m.unit m.figures
-      → StandsAtLeast s.form (form_of m) (decoding_of m) m.unit m.figures
+      m.unit m.figures → StandsAtLeast s.form (form_of m) (decoding_of m) m.unit m.figures
   at_least Choi relaxes =
       relaxed_stands s.form (form_of m) (decoding_of m) m.unit m.figures (source_relaxed relaxes)
   at_least Cut standing = source_stands standing

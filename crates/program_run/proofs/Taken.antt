@@ -1,16 +1,10 @@
 -- What the steps that take a file have found where they succeed.
-use Rattle.program_run.proofs.Common.{nat_tests, arith, ◌≡◌, ℕ, List, Ok, Err, Some, None, Result, refl, subst, Option, NamedFiles, TextFault, LimitFault, limit_fault, Which, Origin, Command, Read, problem_of, ends, text_end, limited, limits_end, format_in, sourcing, reading_source, checking, wanted, IsTextIn, bound}
+use Rattle.program_run.proofs.Common.{nat_tests, arith, ◌≡◌, ℕ, List, Ok, Some, None, Result, NamedFiles, TextFault, limit_fault, Which, Origin, Command, Read, problem_of, ends, text_end, limited, format_in, sourcing, reading_source, checking, wanted, IsTextIn, bound}
 use Rattle.command_words.specs.declared.names.Which.TheVariants.{Source}
 
 pub text_is_read : {A : Type 0} (which : Which) (read : Result A TextFault) (x : A)
     → text_end which read ≡ Ok x → read ≡ Ok x
-text_is_read which (Ok y) x e = cc
-text_is_read which (Err fault) x e = absurd cc
-
-limits_keep : {A : Type 0} (which : Which) (x y : A) (fault : Option LimitFault)
-    → limits_end which x fault ≡ Ok y → (x ≡ y) × (fault ≡ None)
-limits_keep which x y None e = (cc, refl)
-limits_keep which x y (Some fault) e = absurd cc
+text_is_read which read x e = grind (arith, nat_tests)
 
 sourced_is_held : (words : List (List ℕ)) (held : NamedFiles) (origin : Origin) (text : List ℕ)
     → (sourcing words held origin).end ≡ Some (Ok text) → IsTextIn words held origin text
@@ -28,24 +22,12 @@ pub record IsTaken (words : List (List ℕ)) (held : NamedFiles) (command : Comm
   pub within : limit_fault command.choices.normal made.problem ≡ None
 
 pub source_is_taken : (words : List (List ℕ)) (held : NamedFiles) (command : Command) (read : Read)
-    → (checking words held command).end ≡ Some (Ok read)
-    → IsTaken words held command read
+    → (checking words held command).end ≡ Some (Ok read) → IsTaken words held command read
 unfolding checking reading_source
 source_is_taken words held command read e =
     let origin = command.origin in
     let checked = bound (reading_source words held origin) (λ r. ends (limited command r)) read e in
     let within : limited command checked.0 ≡ Ok read = let two = checked.2 in cc in
-    let same = limits_keep Source (wanted command checked.0) read
-    (limit_fault command.choices.normal (wanted command checked.0).problem) within in
     let taken = bound (sourcing words held origin)
     (λ text. ends (text_end Source (problem_of (format_in origin) text))) checked.0 checked.1 in
-    let said : text_end Source (problem_of (format_in origin) taken.0) ≡ Ok checked.0 =
-    let two = taken.2 in cc in
-    record {
-      text = taken.0;
-      found = sourced_is_held words held origin taken.0 taken.1;
-      own = checked.0;
-      read = text_is_read Source (problem_of (format_in origin) taken.0) checked.0 said;
-      given = same.0;
-      within = subst (λ (r : Read). limit_fault command.choices.normal r.problem ≡ None) same.0 same.1;
-    }
+    grind (arith, nat_tests, sourced_is_held, text_is_read)

@@ -1,13 +1,12 @@
 -- By what the rows that a least state ends with are chosen.
-use Rattle.program_run.proofs.Common.{◌≡◌, ◌∙◌, ℤ, Bool, List, ◌∷◌, [], ℕ, Option, ap, refl, codes, Cost, Form, HasCost, IsFeasible, decoding_of, optimum_rows, length-read_off, below, above, RowsGoByTheThreshold}
-use Rattle.base.specs.declared.costs.Cost.TheVariants.{Whole, Infinite}
+use Rattle.program_run.proofs.Common.{nat_tests, ints, arith, ◌≡◌, ◌∙◌, ℤ, Bool, List, ◌∷◌, [], ℕ, Option, ap, refl, codes, Cost, Form, HasCost, IsFeasible, decoding_of, optimum_rows, length-read_off, below, above, RowsGoByTheThreshold}
+use Rattle.base.specs.declared.costs.Cost.TheVariants.{Whole}
 
 -- an assignment of a form that is not feasible is told as that
 none_whole : (f : Form) (names : Option (List (List ℕ))) (x : List Bool) (c : Cost)
     → ((v : ℤ) → HasCost f x v → IsFeasible f) → f.cost x ≡ c → ((v : ℤ) → f.cost x ≡ Whole v → HasCost f x v)
     → ¬ (IsFeasible f) → optimum_rows x names c ≡ (codes "infeasible" ∷ []) ∷ []
-none_whole f names x (Whole v) some e has never = absurd (never (some v (has v e)))
-none_whole f names x Infinite some e has never = refl
+none_whole f names x c some e has never = grind (arith, nat_tests, ints)
 
 pub rows_by_threshold : RowsGoByTheThreshold
 rows_by_threshold source demand m names y f l = record {

@@ -1,12 +1,11 @@
 -- What a command wants of what was read stands for the source and costs as it does.
-use Rattle.program_run.proofs.Common.{nat_tests, arith, ⊤, ◌≡◌, ℕ, ℤ, List, None, Ok, Option, refl, sym, ap, ◌∙◌, subst, Source, WboContent, Format, Slack, Command, most_of, Read, CostsAs, StandsBounded, StandsFor, bounded, bounded_read, problem_of, cleared_costs, cleared_stands, slacked, wanted}
+use Rattle.program_run.proofs.Common.{nat_tests, arith, ⊤, ◌≡◌, ℕ, ℤ, List, None, Ok, Option, Source, WboContent, Format, Slack, Command, most_of, Read, CostsAs, StandsBounded, StandsFor, bounded, bounded_read, problem_of, cleared_costs, cleared_stands, slacked, wanted}
 use Rattle.command_words.specs.declared.commands.Format.TheVariants.{Wbo}
 use Rattle.command_words.specs.declared.commands.Slack.TheVariants.{Bits, Pairs}
 
 slacked_stands : (s : Source) (slack : Slack) (own : Read) → StandsBounded s own
     → StandsBounded s (slacked slack own)
-slacked_stands s Bits own stands = stands
-slacked_stands s Pairs own stands = cleared_stands s own stands
+slacked_stands s slack own stands = grind (arith, nat_tests, cleared_stands s own stands)
 
 slacked_costs : (s : Source) (slack : Slack) (own : Read) (most : Option ℤ)
     → CostsAs s (bounded_read most own) → CostsAs s (bounded_read most (slacked slack own))
@@ -14,8 +13,7 @@ slacked_costs s Bits own most costs = costs
 slacked_costs s Pairs own most costs = cleared_costs s (bounded_read most own) costs
 
 slacked_names : (slack : Slack) (own : Read) → (slacked slack own).names ≡ own.names
-slacked_names Bits own = refl
-slacked_names Pairs own = refl
+slacked_names slack own = grind (arith, nat_tests)
 
 pub stands_wanted : (s : Source) (command : Command) (own : Read) → StandsBounded s own
     → StandsFor (bounded (most_of command.bound) s) (wanted command own)
@@ -41,11 +39,6 @@ pub soft_read : (format : Format) (text : List ℕ) (r : Read) → problem_of fo
     → HasSoft format r.soft
 soft_read format text r e = grind (arith, nat_tests)
 
-slacked_soft : (slack : Slack) (own : Read) → (slacked slack own).soft ≡ own.soft
-slacked_soft Bits own = refl
-slacked_soft Pairs own = refl
-
 pub soft_wanted : (format : Format) (command : Command) (own made : Read)
     → wanted command own ≡ made → HasSoft format own.soft → HasSoft format made.soft
-soft_wanted format command own made given has =
-    subst (HasSoft format) (sym (slacked_soft command.slack own) ∙ ap (λ (r : Read). r.soft) given) has
+soft_wanted format command own made given has = grind (arith, nat_tests)

@@ -1,7 +1,6 @@
 -- How many variables and nodes the model of a plan has.
-use Rattle.program_run.proofs.Common.{nat_tests, ◌≡◌, ℕ, ◌+◌, ◌≤◌, length, ap, arith, length-map, length-take-le, length-map-range_with_len, Figures, UnitChoice, Written, Choices, ProblemContent, auxiliary_bits, QuadContent, IsingContent, length-fields, NodeModel, form_model, nodes_are_few, form_nodes_by, form_nodes, Qubits, ChainSource, chains_of, CanStandAt, ising_of, Placement, Plan, CanStandOn, CanStand, IsModelOn, IsModelBy, StandsOn, Stands}
+use Rattle.program_run.proofs.Common.{nat_tests, ◌≡◌, ℕ, ◌+◌, ◌≤◌, length, arith, length-map, length-take-le, length-map-range_with_len, Figures, UnitChoice, Written, Choices, ProblemContent, auxiliary_bits, QuadContent, IsingContent, length-fields, NodeModel, form_model, nodes_are_few, form_nodes, Qubits, ChainSource, chains_of, CanStandAt, ising_of, Placement, Plan, CanStandOn, CanStand, IsModelOn, IsModelBy, StandsOn, Stands}
 use Rattle.ising_form.specs.Spins as spins
-use Rattle.command_words.specs.declared.commands.NodeModel.TheVariants.{Qubo, Ising}
 use Rattle.model_pipeline.specs.Models.{kind_of}
 
 model_nodes : (target : NodeModel) (unit : UnitChoice) (q : QuadContent) (variables : ℕ)
@@ -10,8 +9,7 @@ model_nodes : (target : NodeModel) (unit : UnitChoice) (q : QuadContent) (variab
 model_nodes target unit q variables figures = grind (arith, nat_tests, length-fields, length-map)
 
 plain_nodes : (target : NodeModel) (m : Written) → m.kind ≡ kind_of target → form_nodes m ≡ m.nodes
-plain_nodes Qubo m kind = ap (λ k. form_nodes_by k m) kind
-plain_nodes Ising m kind = ap (λ k. form_nodes_by k m) kind
+plain_nodes target m kind = grind (arith, nat_tests)
 
 -- there is a chain for each node
 chains_are_nodes : (qubits : Qubits) (chain_source : ChainSource) (form : IsingContent)

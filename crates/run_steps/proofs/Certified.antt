@@ -1,7 +1,6 @@
 -- A certificate that is read, and a state that it proves or does not; the last step of a command.
-use Rattle.run_steps.proofs.Common.{nat_tests, arith, ◌≡◌, ℕ, Bool, List, [], ◌++◌, Ok, Err, Some, None, Result, IfErr, NamedFiles, Counts, Written, CertificateContent, proof_fault, Which, WordAt, Ask, text_at, certificate_of, Status, asked_width, bits_at, Steps, ends, stating, certifying, certified, proving, proof_end, Bits, last_step, Meets, Refuses, IsReading, IsUnproved, ended, AreRead, AreRefused, AreFilesOf}
+use Rattle.run_steps.proofs.Common.{nat_tests, arith, ◌≡◌, ℕ, Bool, List, [], ◌++◌, Ok, Some, None, Result, IfErr, NamedFiles, Counts, Written, CertificateContent, proof_fault, Which, WordAt, Ask, text_at, certificate_of, Status, asked_width, bits_at, Steps, ends, stating, certifying, certified, proving, proof_end, Bits, last_step, Meets, Refuses, IsReading, IsUnproved, ended, AreRead, AreRefused, AreFilesOf}
 use Rattle.command_words.specs.declared.commands.Ask.TheVariants.{Prove}
-use Rattle.run_steps.specs.declared.status.Status.TheVariants.{NotEmbedded}
 use Rattle.run_steps.proofs.FilesRead.{made_then, read_then, read_wanting}
 use Rattle.run_steps.proofs.Stepping.{bits_meet, meets_next, refuses_on}
 
@@ -35,15 +34,13 @@ unproved_read name files status a b is read = grind (arith, nat_tests, read_want
 pub proved_files : {X : Type 0} (result : Result X Status) (name : Which → List ℕ)
     (files : List Which) (a b : Counts) → IfErr result IsUnproved → AreRead name files a b
     → AreFilesOf name [] files (ended result) a b
-proved_files (Ok x) name files a b is read = read
-proved_files (Err status) name files a b is read = unproved_read name files status a b is read
+proved_files result name files a b is read = grind (arith, nat_tests, unproved_read)
 
 -- files were read, and then come others
 pub then_last : (name : Which → List ℕ) (first last : List Which) (status : Status)
     (a b c : Counts) → IsReading status → AreRead name first a b
     → AreFilesOf name [] last status b c → AreFilesOf name [] (first ++ last) status a c
-then_last name first last (NotEmbedded fault) a b c is some at = absurd is
-then_last name first last status a b c is some at = made_then name first last status a b c some at
+then_last name first last status a b c is some same = grind (arith, nat_tests, made_then)
 
 -- ---- the bits of a command
 

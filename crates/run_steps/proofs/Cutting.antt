@@ -16,14 +16,7 @@ pub cut_more : (held : Option NamedFiles) (name : List ℕ) (taken count : ℕ) 
     → ((text : List ℕ) → StandsFor old text → StandsFor new (text ++ take count (bytes ++ behind)))
     → IsCut held name (taken + count) left new
 cut_more held name taken count bytes behind rest left old new cut within consumed fed =
-    let piece = take count bytes in
-    record {
-      text = cut.text ++ piece;
-      stands = subst (λ l. StandsFor new (cut.text ++ l)) (take-append-le count bytes behind within)
-          (fed cut.text cut.stands);
-      counted = omega (arith, length-append cut.text piece, length-take count bytes, cut.counted);
-      front = front_more held name cut.text piece rest left cut.front consumed;
-    }
+    grind (arith, nat_tests, take-append-le, length-append, length-take, front_more)
 
 -- a lexer of no text, at the start of the file
 pub cut_none : (held : Option NamedFiles) (name : List ℕ) (rest : Option (List ℕ))
@@ -45,8 +38,7 @@ words_cut held name limit taken style rest lexer words cut ended few styled said
 pub begun_held : (P : Type 0) (held : Option NamedFiles) (name front : List ℕ)
     (rest : Option (List ℕ)) → IsFront held name front rest
     → WhereTold held (λ h. find_file h name ≡ None → P)
-begun_held P None name front rest is = tt
-begun_held P (Some files) name front rest is = λ none. let some = is.1 in absurd cc
+begun_held P held name front rest is = grind (arith, nat_tests)
 
 -- ---- reading what was cut
 

@@ -1,21 +1,18 @@
 -- How the taking of a begun file ended.
-use Rattle.run_steps.proofs.Common.{nat_tests, ◌≡◌, ℕ, ◌+◌, ◌≤◌, Ok, Err, Result, arith, ◌↔◌, IsErrOf, OnOk, ReadAnswer, Counts, Rose, HasEnded}
+use Rattle.run_steps.proofs.Common.{nat_tests, ◌≡◌, ℕ, ◌+◌, ◌≤◌, Result, arith, ◌↔◌, IsErrOf, OnOk, ReadAnswer, Counts, Rose, HasEnded}
 use Rattle.edge_io.specs.declared.whole.ReadAnswer.TheVariants.{ReadFault, TooLong}
 
 pub ended_to_end : {T : Type 0} (limit faults : ℕ) (now : Counts) (result : Result T ReadAnswer)
     → HasEnded limit faults now result → OnOk result (now.empty_reads ≡ 1)
-ended_to_end limit faults now (Ok value) ended = ended.1
-ended_to_end limit faults now (Err answer) ended = tt
+ended_to_end limit faults now result ended = grind (arith, nat_tests)
 
 pub ended_too_long : {T : Type 0} (limit faults : ℕ) (now : Counts) (result : Result T ReadAnswer)
     → HasEnded limit faults now result → IsErrOf result TooLong → now.empty_reads ≡ 0
-ended_too_long limit faults now (Err TooLong) ended is = ended.1
-ended_too_long limit faults now result ended is = absurd cc
+ended_too_long limit faults now result ended is = grind (arith, nat_tests)
 
 pub ended_fault : {T : Type 0} (limit faults : ℕ) (now : Counts) (result : Result T ReadAnswer)
     → HasEnded limit faults now result → IsErrOf result ReadFault → Rose faults now.faults
-ended_fault limit faults now (Err ReadFault) ended is = ended.1
-ended_fault limit faults now result ended is = absurd cc
+ended_fault limit faults now result ended is = grind (arith, nat_tests)
 
 pub ended_taken : {T : Type 0} (limit faults : ℕ) (now : Counts) (result : Result T ReadAnswer)
     → HasEnded limit faults now result

@@ -1,6 +1,5 @@
 -- What the store of files counts where files are taken, and then others.
-use Rattle.run_steps.proofs.Common.{nat_tests, ◌≡◌, ◌≤◌, ℕ, suc, ◌+◌, List, [], ◌∷◌, ◌++◌, length, refl, sym, ap, ◌∙◌, subst, append_assoc, arith, inl, inr, append-nil, length-append, Counts, LimitKind, Which, Status, AreBegun, IsBegun, AreWanting, IsReadTo, IsTooLong, IsCause, IsLimited, last_of, AreRead, IsAt, AreRefused, AreFilesOf, IsRefusedBy}
-use Rattle.problem_form.specs.declared.limits.LimitKind.TheVariants.{Bytes}
+use Rattle.run_steps.proofs.Common.{nat_tests, ◌≡◌, ◌≤◌, ℕ, suc, ◌+◌, List, [], ◌∷◌, ◌++◌, length, refl, sym, ap, ◌∙◌, subst, append_assoc, arith, inl, inr, append-nil, length-append, Counts, LimitKind, Which, Status, AreBegun, IsBegun, AreWanting, IsReadTo, IsCause, IsLimited, last_of, AreRead, IsAt, AreRefused, AreFilesOf, IsRefusedBy}
 use Rattle.command_words.specs.declared.names.Which.TheVariants.{State}
 use Rattle.run_steps.specs.declared.status.Status.TheVariants.{Done, Usage, ReadFault, WriteFault, BadText, Limit, NotEmbedded, TooWide, NotProved, NoState, NoMemory}
 
@@ -28,14 +27,6 @@ module _ (n k : ℕ) (a b c : Counts) (some : IsMoved n a b) where
     later = omega (arith, some.later, read.later);
   }
 
-  long_more : (name : List ℕ) → IsTooLong name (suc k) b c → IsTooLong name (n + suc k) a c
-  long_more name long = record {
-    begun = begun_more n k a b c some.begun long.begun;
-    named = long.named;
-    taken = long.taken;
-    filled = long.filled;
-  }
-
   cause_more : (name : List ℕ) → IsCause name (suc k) b c → IsCause name (n + suc k) a c
   cause_more name cause = record {
     rose = cause.rose;
@@ -52,8 +43,7 @@ module _ (n k : ℕ) (a b c : Counts) (some : IsMoved n a b) where
 
   limited_more : (kind : LimitKind) (number : ℕ) (name : List ℕ)
       → IsLimited kind number name (suc k) b c → IsLimited kind number name (n + suc k) a c
-  limited_more Bytes number name is = (is.0, long_more name is.1)
-  limited_more kind number name is = read_more name is
+  limited_more kind number name is = grind (arith, nat_tests)
 
 at_seam : (first before : List Which)
     → length first + suc (length before) ≡ suc (length (first ++ before))
@@ -206,6 +196,5 @@ made_then name made last WriteFault a b c some read = read_then name made last a
 made_then name made last (TooWide node width) a b c some read = read_then name made last a b c some read
 made_then name made last (NotProved fault) a b c some read = read_then name made last a b c some read
 made_then name made last (Usage position) a b c some at = tt
-made_then name made last (NotEmbedded fault) a b c some same =
-    subst (λ (n : Counts). AreRead name made a n) (sym same) some
+made_then name made last (NotEmbedded fault) a b c some same = grind (arith, nat_tests)
 made_then name made last status a b c some at = refused_then name made last status a b c some at

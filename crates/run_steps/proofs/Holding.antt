@@ -1,6 +1,6 @@
 -- Which files a store may hold.
-use Rattle.run_steps.proofs.Common.{nat_tests, arith, ◌≡◌, ℕ, List, [], ◌∷◌, ◌++◌, append_assoc, Some, None, refl, sym, subst, Option, NamedFiles, WhereTold, Which, WordAt, Command, text_at, name_of, certificate_of, if_named, model_files, last_files, bits_at, MayHold, WhereHeld, board_files, state_files}
-use Rattle.command_words.specs.declared.names.Which.TheVariants.{Source, Dead, Map, State, Certificate}
+use Rattle.run_steps.proofs.Common.{nat_tests, arith, ◌≡◌, ℕ, List, [], ◌∷◌, ◌++◌, Some, None, refl, sym, subst, Option, NamedFiles, WhereTold, Which, WordAt, Command, text_at, name_of, certificate_of, if_named, model_files, last_files, bits_at, MayHold, WhereHeld, board_files, state_files}
+use Rattle.command_words.specs.declared.names.Which.TheVariants.{Source, State, Certificate}
 use Rattle.command_words.specs.declared.commands.Ask.TheVariants.{Evaluate}
 
 -- what may be held where all files are taken may be where the first ones are
@@ -23,8 +23,7 @@ may_next told later first files held same may =
 -- ---- the files of a model: the source, and those of the board
 
 grouped : (command : Command) → model_files command ≡ if_named command Source ++ board_files command
-grouped command =
-    append_assoc (if_named command Source) (if_named command Dead) (if_named command Map)
+grouped command = grind (arith, nat_tests)
 
 -- what holds of the source's file and then the board's holds of the model's
 pub of_model_files : (command : Command) (P : List Which → Type 0)
@@ -36,8 +35,7 @@ of_model_files command P is = subst P (sym (grouped command)) is
 -- what is told holds of what may be held, where a file is taken
 pub of_told : (told : Option NamedFiles) (which : Which) (P : NamedFiles → Type 0)
     → WhereTold told P → WhereHeld told (which ∷ []) P
-of_told (Some t) which P is held may = subst P may is
-of_told None which P is held may = absurd may
+of_told told which P is held may = grind (arith, nat_tests)
 
 -- the states of a command that evaluates them are its last file
 pub has_states : (words : List (List ℕ)) (command : Command) (at : WordAt)
@@ -69,5 +67,4 @@ state_alone command at is none = grind (arith, nat_tests)
 -- what a store tells holds of more where it holds of less
 pub told_then : (told : Option NamedFiles) (P Q : NamedFiles → Type 0)
     → ((held : NamedFiles) → P held → Q held) → WhereTold told P → WhereTold told Q
-told_then None P Q more is = tt
-told_then (Some held) P Q more is = more held is
+told_then told P Q more is = grind (arith, nat_tests)

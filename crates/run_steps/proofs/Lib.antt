@@ -10,5 +10,4 @@ pub mod Taking
 pub mod Certified
 pub mod BoundedLimits
 pub mod Sampled
-pub mod TakenBytes
 pub mod StateBits

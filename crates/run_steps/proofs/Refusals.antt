@@ -1,8 +1,7 @@
 -- What files tell where a limit is passed that is not of bytes.
-use Rattle.run_steps.proofs.Common.{◌≢◌, ℕ, List, refl, LimitKind, Counts, IsLimited, IsReadTo}
+use Rattle.run_steps.proofs.Common.{nat_tests, arith, ◌≢◌, ℕ, List, LimitKind, Counts, IsLimited, IsReadTo}
 use Rattle.problem_form.specs.declared.limits.LimitKind.TheVariants.{Bytes}
 
 pub limits_refused : (name : List ℕ) (count number : ℕ) (kind : LimitKind) (old new : Counts)
     → kind ≢ Bytes → IsReadTo name count old new → IsLimited kind number name count old new
-limits_refused name count number Bytes old new other read = absurd (other refl)
-limits_refused name count number kind old new other read = read
+limits_refused name count number kind old new other read = grind (arith, nat_tests)

@@ -1,5 +1,5 @@
 -- The text of a sample is read, and passes no limit.
-use Rattle.run_steps.proofs.Common.{nat_tests, arith, ◌≡◌, ℕ, ◌≤◌, Ok, Err, None, Result, ap, ◌∙◌, TextFault, ProblemContent, limit_fault, Command, wanted, Normal, sample_text, each_sample_is_read, Read, own, problem_of, IsDrawnInto, clauses_have_no_conflicts, wcnf_has_no_most, wcnf_problem}
+use Rattle.run_steps.proofs.Common.{nat_tests, arith, ◌≡◌, ℕ, ◌≤◌, Ok, Err, None, Result, ap, ◌∙◌, TextFault, ProblemContent, limit_fault, Command, wanted, Normal, sample_text, each_sample_is_read, Read, own, problem_of, IsDrawnInto, clauses_have_no_conflicts, wcnf_problem}
 use Rattle.whole_text.specs.Steps.{◌>>=◌}
 use Rattle.command_words.specs.declared.commands.Format.TheVariants.{Wcnf}
 use Rattle.problem_form.specs.declared.limits.Normal.TheVariants.{Literal}
@@ -13,7 +13,6 @@ read_into number clauses normal few =
     let from : problem_of Wcnf (sample_text number clauses) ≡ Ok (own law.0) =
     wcnf_problem (sample_text number clauses)
     ∙ ap (λ (r : Result ProblemContent TextFault). r >>= λ p. Ok (own p)) law.1 in
-    let free = wcnf_has_no_most (sample_text number clauses) (own law.0) from in
     grind (arith, nat_tests, within_bounded)
 
 pub drawn_is_read : (number clauses : ℕ) (read : Read) → clauses ≤ 100000

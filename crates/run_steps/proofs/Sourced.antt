@@ -28,8 +28,7 @@ module _ (held : NamedFiles) (name : List ℕ) (format : Format) (command : Comm
   pub file_refuses : (status : Status) → Refuses status (reading_file held name format)
       → Refuses status (checking_file held name format command)
   unfolding checking_file
-  file_refuses status refused =
-      refuses_on status (reading_file held name format) (λ read. ends (limited command read)) refused
+  file_refuses status refused = grind (arith, nat_tests, refuses_on)
 
 file_is_read : (words : List (List ℕ)) (held : NamedFiles) (format : Format) (at : WordAt)
     → reading_source words held (File format at) ≡ reading_file held (text_at words at) format

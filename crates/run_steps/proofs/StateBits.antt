@@ -1,24 +1,17 @@
 -- The bits that a text has, and the file that they are taken from.
-use Rattle.run_steps.proofs.Common.{nat_tests, arith, ◌≡◌, ℕ, Bool, true, false, ◌&&◌, cond, List, [], ◌∷◌, length, map, find, Ok, Some, refl, length-map, eqb-true, Option, option_map, NamedFiles, find_file, is_one, is_state, lines_of, stating}
+use Rattle.run_steps.proofs.Common.{nat_tests, arith, ◌≡◌, ℕ, Bool, true, ◌&&◌, List, [], ◌∷◌, length, map, find, Ok, Some, length-map, eqb-true, Option, option_map, NamedFiles, find_file, is_one, is_state, lines_of, stating}
 use Rattle.state_file.specs.States.{state_of}
 
 -- ---- how many they are
-
-found_at : (p : List ℕ → Bool) (first line : List ℕ) (rest : Option (List ℕ)) (b : Bool)
-    → p first ≡ b → (rest ≡ Some line → p line ≡ true) → cond b (Some first) rest ≡ Some line
-    → p line ≡ true
-found_at p first line rest b is later e = grind (arith, nat_tests)
 
 -- the line that is found passes
 line_passes : (p : List ℕ → Bool) (lines : List (List ℕ)) (line : List ℕ)
     → find p lines ≡ Some line → p line ≡ true
 line_passes p [] line e = absurd cc
-line_passes p (first ∷ rest) line e =
-    found_at p first line (find p rest) (p first) refl (line_passes p rest line) e
+line_passes p (first ∷ rest) line e = grind (arith, nat_tests, line_passes p rest line)
 
 first_true : (a b : Bool) → (a && b) ≡ true → a ≡ true
-first_true true b e = refl
-first_true false b e = absurd cc
+first_true a b e = grind (arith, nat_tests)
 
 fitting_width : (width : ℕ) (found : Option (List ℕ)) (bits : List Bool)
     → ((line : List ℕ) → found ≡ Some line → is_state width line ≡ true)

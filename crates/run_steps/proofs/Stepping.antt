@@ -1,5 +1,5 @@
 -- Steps that are taken one after another.
-use Rattle.run_steps.proofs.Common.{nat_tests, arith, ◌≡◌, Bool, List, Ok, Err, Some, None, Result, refl, ◌∙◌, Option, Contains, Contains-append_left, Contains-append_right, Which, Status, Steps, Last, Bits, go_on, gives, ◌>>=◌, Meets, Refuses}
+use Rattle.run_steps.proofs.Common.{nat_tests, arith, ◌≡◌, Bool, List, Ok, Err, Some, None, Result, refl, Option, Contains, Contains-append_left, Contains-append_right, Which, Status, Steps, Last, Bits, go_on, gives, ◌>>=◌, Meets, Refuses}
 use Rattle.run_steps.specs.declared.status.Status.TheVariants.{ReadFault, NoMemory}
 
 bound_on : {A B : Type 0} (taken : List Which) (end : Option (Result A Status)) (f : A → Steps B)
@@ -55,16 +55,14 @@ refuses_next status m f a e refused = rw e refused
 pub meets_next : {X A B : Type 0} (view : X → B) (result : Result X Status) (m : Steps A)
     (f : A → Steps B) (a : A) → m.end ≡ Some (Ok a) → Meets view result (f a)
     → Meets view result (m >>= f)
-meets_next view (Ok x) m f a e meets = next_end m f a e ∙ meets
-meets_next view (Err status) m f a e refused = refuses_next status m f a e refused
+meets_next view result m f a e meets = grind (arith, nat_tests, next_end, refuses_next)
 
 -- ---- bits that are read last
 
 -- what is bits of a step is what is read last
 pub bits_meet : {X : Type 0} (view : X → List Bool) (result : Result X Status) (m : Steps (List Bool))
     → Meets view result m → Meets (λ x. Bits (view x)) result (m >>= λ bits. gives (Bits bits))
-bits_meet view (Ok x) m meets = next_end m (λ bits. gives (Bits bits)) (view x) meets
-bits_meet view (Err status) m refused = refuses_on status m (λ bits. gives (Bits bits)) refused
+bits_meet view result m meets = grind (arith, nat_tests, next_end, refuses_on)
 
 -- and what is read last is bits of the step
 pub bits_were : (m : Steps (List Bool)) (last : Last)

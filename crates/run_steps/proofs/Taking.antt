@@ -15,8 +15,7 @@ judged_meets view which read said gives = grind (arith, nat_tests)
 
 -- its file was read to its end, and a fault is one of its text
 pub judged_passes : {X : Type 0} (which : Which) (read : Result X TextAnswer) (name : List ℕ)
-    (a b : Counts) → IsReadTo name 1 a b
-    → OnOk (judged which read) (IsReadTo name 1 a b)
+    (a b : Counts) → IsReadTo name 1 a b → OnOk (judged which read) (IsReadTo name 1 a b)
     × IfErr (judged which read) (λ status. IsRefusedBy which name status a b)
 judged_passes which read name a b is = grind (arith, nat_tests)
 
@@ -91,8 +90,7 @@ pub first_refuses : {X Y A B : Type 0} {told mid : Option NamedFiles} {name : Wh
     → Takes told mid name (first ++ next) other result (λ held. m held >>= f held) a b
 first_refuses {told = told} {mid = mid} {name = name} {first = first} {other = other} {status = status} {result = result} {m = m} {a = a} {b = b} next f is took =
     subst (λ r. Takes told mid name (first ++ next) other r (λ held. m held >>= f held) a b)
-    (sym (returned is))
-    (record {
+    (sym (returned is)) (record {
       step = λ held may.
           refuses_on status (m held) (f held) (took.step held (may_first told first next held may));
       held = took.held;
@@ -109,8 +107,7 @@ pub then_takes : {X Y A B : Type 0} {told mid later : Option NamedFiles} {name :
     → Takes told later name (first ++ next) other result (λ held. m held >>= f held) a c
 then_takes {Y = Y} {told = told} {mid = mid} {name = name} {first = first} {next = next} {view = view} {other = other} {x = x} {result = result} {m = m} {a = a} {b = b} {c = c} f took more =
     record {
-      step = λ held may.
-          meets_next other result (m held) (f held) (view x)
+      step = λ held may. meets_next other result (m held) (f held) (view x)
           (took.step held (may_first told first next held may))
           (more.step held (may_next told mid first next held took.held may));
       held = more.held ∙ took.held;
@@ -131,8 +128,7 @@ pub takes_given : {X Y A B : Type 0} {told later : Option NamedFiles} {name : Wh
     → Takes told later name files view (Ok x) m a b
     → Takes told later name files other (Ok y) (λ held. m held >>= λ z. gives (k z)) a b
 takes_given {view = view} {x = x} {m = m} k same took = record {
-  step = λ held may.
-      next_end (m held) (λ z. gives (k z)) (view x) (took.step held may)
+  step = λ held may. next_end (m held) (λ z. gives (k z)) (view x) (took.step held may)
       ∙ ap (λ z. Some (Ok z)) same;
   held = took.held;
   passed = took.passed;
@@ -147,8 +143,7 @@ pub still_refuses : {X Y A B : Type 0} {told later : Option NamedFiles} {name : 
     → Takes told later name files other result (λ held. m held >>= f held) a b
 still_refuses {told = told} {later = later} {name = name} {files = files} {other = other} {status = status} {m = m} {a = a} {b = b} f is took =
     subst (λ r. Takes told later name files other r (λ held. m held >>= f held) a b)
-    (sym (returned is))
-    (record {
+    (sym (returned is)) (record {
       step = λ held may. refuses_on status (m held) (f held) (took.step held may);
       held = took.held;
       passed = tt;

@@ -1,6 +1,6 @@
 -- Clauses of at most three literals and of small weights pass no limit: their normal form has no
 -- more clauses, no more literals in one, and no greater weights.
-use Rattle.sample_text.proofs.Common.{nat_tests, ◌≡◌, ℕ, suc, ◌+◌, ◌*◌, ◌-◌, ◌≤◌, ◌^◌, not, List, [], ◌∷◌, length, map, fold, max, None, ℤ, pos, ◌+ℤ◌, unsigned_abs, arith, append-nil, AllByRecursion, sum_by, flat_map, pow-le-pow_left, pow_mono, ints, mul-le, All-from_recursion, sum_by-append, sum_by-le, count_by-le-length, total_by, size-plus, all_append, Literal, Clause, Normal, with_literal, literal_set, ProblemContent, soft_weight, kept_clause, clause_constant, normal_form, blank, with_variables, degree, clause_complements, negations, clause_pairs, pairs, weight, limit_fault, kept_clause-size}
+use Rattle.sample_text.proofs.Common.{nat_tests, ◌≡◌, ℕ, suc, ◌+◌, ◌*◌, ◌-◌, ◌≤◌, ◌^◌, List, [], ◌∷◌, length, map, fold, max, None, ℤ, pos, ◌+ℤ◌, unsigned_abs, arith, append-nil, AllByRecursion, sum_by, flat_map, pow-le-pow_left, pow_mono, ints, mul-le, All-from_recursion, sum_by-append, sum_by-le, count_by-le-length, total_by, size-plus, all_append, Literal, Clause, Normal, with_literal, literal_set, ProblemContent, soft_weight, kept_clause, clause_constant, normal_form, blank, with_variables, degree, clause_complements, negations, clause_pairs, pairs, weight, limit_fault, kept_clause-size}
 use Rattle.problem_form.specs.declared.limits.Normal.TheVariants as normals
 
 -- ---- what is kept of a clause
@@ -21,8 +21,7 @@ length-with_literal l (k ∷ ks) = grind (arith, nat_tests, length-with_literal 
 
 length-literal_set : (ls : List Literal) → length (literal_set ls) ≤ length ls
 length-literal_set [] = omega arith
-length-literal_set (l ∷ ls) =
-    omega (arith, length-with_literal l (literal_set ls), length-literal_set ls)
+length-literal_set (l ∷ ls) = grind (arith, nat_tests, length-literal_set ls, length-with_literal)
 
 kept_short : (c : Clause) → IsShort c → AllByRecursion IsShort (kept_clause c)
 kept_short c h = grind (arith, nat_tests, length-literal_set)
@@ -54,8 +53,7 @@ max_within f most start (c ∷ cs) low h =
     max_within f most (max start (f c)) cs (omega (arith, low, h.0)) h.1
 
 complements_within : (c : Clause) → IsShort c → clause_complements c ≤ 3
-complements_within c h =
-    omega (arith, h, count_by-le-length (λ (l : Literal). not l.negated) c.literals)
+complements_within c h = grind (arith, nat_tests, count_by-le-length)
 
 all_complements_within : (cs : List Clause) → AllByRecursion IsShort cs
     → AllByRecursion (λ c. clause_complements c ≤ 3) cs

@@ -1,32 +1,20 @@
 -- What the proofs of this crate stand on, of std and of the crates below.
-pub use Rattle.std.proofs.Common.{◌≡◌, ℕ, suc, ◌+◌, ◌*◌, ◌-◌, ◌≤◌, ◌^◌, Bool, true, false, cond, not, List, [], ◌∷◌, length, map, fold, max, None, ℤ, pos, ◌+ℤ◌, unsigned_abs, arith, refl, sym, append-nil, length-append, ◌++◌, ap, ◌∙◌, append_assoc, zero, Some, Result, Ok, unwrap_or, ◌%◌, ◌<◌, eqb, neg_ℤ, rules}
-pub use Rattle.std.specs.Prelude.{codes, nat_le, nat_abs}
-pub use Rattle.std.specs.List.{AllByRecursion, sum_by, flat_map}
+pub use Rattle.std.proofs.Common.{◌≡◌, ℕ, suc, ◌+◌, ◌*◌, ◌-◌, ◌≤◌, ◌^◌, Bool, true, false, cond, List, [], ◌∷◌, length, map, fold, max, None, ℤ, pos, ◌+ℤ◌, unsigned_abs, arith, refl, sym, append-nil, length-append, ◌++◌, ap, ◌∙◌, append_assoc, zero, Some, Result, Ok, unwrap_or, ◌<◌, neg_ℤ, rules}
+pub use Rattle.problem_form.proofs.Common.{AllByRecursion, sum_by, flat_map, ints, All-from_recursion, total_by, size-plus, with_literal, literal_set, ProblemContent, soft_weight, kept_clause, clause_constant, normal_form, blank, with_variables, nat_tests}
+pub use Rattle.wcnf_reader.proofs.Common.{◌>>=◌, Wcnf, Header, Listed, clause_of, problem_of}
+pub use Rattle.std.specs.Prelude.{codes, nat_abs}
 pub use Rattle.std.proofs.Math.Nat.{pow-le-pow_left, mod-lt}
 pub use Rattle.std.proofs.Math.Pow.{pow_mono}
 pub use Rattle.std.proofs.lemmas.Bool.{ne_eqb, le-leb}
-pub use Rattle.std.proofs.lemmas.Int.{ints}
 pub use Rattle.std.proofs.lemmas.Nat.{mul-le}
-pub use Rattle.std.proofs.lemmas.List.Elements.{All-from_recursion}
 pub use Rattle.std.proofs.lemmas.List.Sums.{sum_by-append, sum_by-le, count_by-le-length}
-pub use Rattle.base.specs.Sums.{total_by}
-pub use Rattle.base.proofs.Totals.{size-plus}
 pub use Rattle.whole_text.proofs.LineTokens.{all_append, IsInk, AreInk, tokens_after, no_lines, words_then}
-pub use Rattle.literal_lists.specs.declared.literal.Literal.{Literal}
-pub use Rattle.problem_form.specs.declared.terms.Clause.{Clause}
 pub use Rattle.problem_form.specs.declared.limits.Normal.{Normal}
-pub use Rattle.literal_lists.specs.Literals.{with_literal, literal_set}
-pub use Rattle.problem_form.specs.Problems.{ProblemContent, soft_weight}
-pub use Rattle.problem_form.specs.NormalForm.{kept_clause, clause_constant, normal_form, blank, with_variables}
 pub use Rattle.problem_form.specs.Limits.{degree, clause_complements, negations, clause_pairs, pairs, weight, limit_fault}
 pub use Rattle.problem_form.proofs.KeptClauses.{kept_clause-size}
-pub use Rattle.sample_text.specs.Sample.{after, clause_words, drawn_clauses, line, seed, drawn_weight, variables_of, top_of, drawn, drawn_literal, header_words}
+pub use Rattle.sample_text.specs.Sample.{after, clause_words, drawn_clauses, line, seed, drawn_weight, variables_of, top_of, drawn_literal, header_words}
 unfoldable pub use Rattle.sample_text.specs.Sample.{sample_text}
-pub use Rattle.whole_text.specs.declared.faults.TextFault.{TextFault}
-pub use Rattle.whole_text.specs.Steps.{◌>>=◌}
-pub use Rattle.wcnf_reader.specs.Wcnf.{Wcnf, Header, Listed}
 unfoldable pub use Rattle.wcnf_reader.specs.Wcnf.{weight_of, literal_at, literals_at, clause_at, wanted_word, header_number, at_line_end, top_at, header_at, clauses_at, older_of, reading_of_words, reading}
-pub use Rattle.wcnf_reader.specs.Cost.{clause_of, problem_of}
 unfoldable pub use Rattle.wcnf_reader.specs.Cost.{normal_reading}
 pub use Rattle.sample_text.specs.Read.{EachSampleIsRead}
 pub use Rattle.std.specs.Fmt.{decimal, signed_decimal}
@@ -36,4 +24,6 @@ unfoldable pub use Rattle.whole_text.specs.Tokens.{tokens_of}
 pub use Rattle.whole_text.proofs.WordsAgain.{decimal_ink, signed_ink, number_first, integer_again, natural_again}
 pub use Rattle.std.specs.Int.Signed.{mag}
 pub use Rattle.std.proofs.lemmas.Fmt.{length-decimal-le, length_signed_le}
-pub use Rattle.std.proofs.lemmas.Bool.Decides.{nat_tests}
+pub use Rattle.literal_lists.specs.declared.literal.Literal.{Literal}
+pub use Rattle.problem_form.specs.declared.terms.Clause.{Clause}
+pub use Rattle.whole_text.specs.declared.faults.TextFault.{TextFault}

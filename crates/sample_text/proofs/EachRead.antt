@@ -1,22 +1,16 @@
 -- Each sample text is read, and what it says passes no limit.
-use Rattle.sample_text.proofs.Common.{◌≡◌, ℕ, zero, suc, ◌≤◌, Bool, true, false, cond, length, map, Some, None, Result, Ok, ap, unwrap_or, arith, nat_le, AllByRecursion, TextFault, ◌>>=◌, normal_form, Wcnf, clause_of, problem_of, normal_reading, seed, after, drawn_weight, variables_of, top_of, EachSampleIsRead}
+use Rattle.sample_text.proofs.Common.{nat_tests, ◌≡◌, ℕ, zero, suc, ◌≤◌, Bool, cond, length, map, Some, None, Result, Ok, ap, unwrap_or, arith, AllByRecursion, TextFault, ◌>>=◌, normal_form, Wcnf, clause_of, problem_of, normal_reading, seed, after, variables_of, top_of, EachSampleIsRead}
 use Rattle.wcnf_reader.specs.declared.layout.ClauseLayout.TheVariants.{Older}
 use Rattle.sample_text.proofs.Sizes.{weight_small}
 use Rattle.sample_text.proofs.Readings.{listed_clause, listed_clauses, sample, sample_again}
 use Rattle.sample_text.proofs.Bounds.{IsSmall, clauses_pass_none}
 
 soft_part : (hard : Bool) (w : ℕ) → unwrap_or (cond hard None (Some w)) 0 ≤ w
-soft_part true w = omega arith
-soft_part false w = omega arith
+soft_part hard w = grind (arith, nat_tests)
 
 clause_small : (variables top state : ℕ) → top ≤ 1000001
     → IsSmall (clause_of (Older (Some top)) (listed_clause variables top state))
-clause_small variables top state light =
-    let w = drawn_weight top state in
-    record {
-      short = omega arith;
-      light = omega (arith, soft_part (nat_le top w) w, weight_small top state);
-    }
+clause_small variables top state light = grind (arith, nat_tests, soft_part, weight_small)
 
 all_small : (count variables top state : ℕ) → top ≤ 1000001 → AllByRecursion IsSmall
     (map (clause_of (Older (Some top))) (listed_clauses count variables top state))

@@ -21,8 +21,7 @@ literal_drawn variables state some = grind (arith, nat_tests)
 literal_again : (variables line : ℕ) (z : ℤ) → nat_abs z ≤ variables → variables < 2 ^ 64
     → literal_at (Some variables) (word line (signed_decimal z)) ≡ Ok z
 unfolding literal_at
-literal_again variables line z within small =
-    rw (integer_again line z (omega arith), le-leb (nat_abs z) variables within) refl
+literal_again variables line z within small = grind (arith, nat_tests, ints, integer_again, le-leb)
 
 -- literals, and what is left
 abbrev Literals : Type 0
@@ -123,8 +122,7 @@ tokens_again n zero variables top state h = no_lines n
 tokens_again n (suc count) variables top state h =
     words_then n (decimal (drawn_weight top state)) (later_words variables state)
     (drawn_clauses count variables top (after 7 state)) (clause_ink variables top state h)
-    (number_first (drawn_weight top state) (later_words variables state)
-    (omega (arith, weight_small top state, h.light)))
+    (grind (arith, nat_tests, number_first, weight_small))
     ∙ ap (λ (rest : List Word). map (word n) (clause_words variables top state) ++ rest)
     (tokens_again (n + 1) count variables top (after 7 state) h)
 
@@ -160,8 +158,7 @@ line_ended : {A : Type 0} (x : A) (count variables top state : ℕ)
     → at_line_end 1 x (clause_tokens 2 count variables top state)
     ≡ Ok (x, clause_tokens 2 count variables top state)
 unfolding at_line_end
-line_ended x zero variables top state = refl
-line_ended x (suc count) variables top state = refl
+line_ended x count variables top state = grind (arith, nat_tests)
 
 header_again : (variables clauses top end : ℕ) (ws : List Word) → IsLawful variables top
     → clauses ≤ 100000 → 1 ≤ top → at_line_end 1 (Some top) ws ≡ Ok (Some top, ws)

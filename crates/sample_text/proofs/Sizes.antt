@@ -1,5 +1,5 @@
 -- The bytes of a text: a clause of a lawful sample has at most 38.
-use Rattle.sample_text.proofs.Common.{nat_tests, ints, ◌≡◌, ℕ, zero, suc, ◌+◌, ◌*◌, ◌%◌, ◌^◌, ◌<◌, ◌≤◌, Bool, true, false, cond, eqb, pos, neg_ℤ, List, [], ◌∷◌, ◌++◌, length, arith, length-append, mag, mod-lt, codes, flat_map, decimal, signed_decimal, length-decimal-le, length_signed_le, drawn, after, drawn_weight, drawn_literal, line, clause_words, drawn_clauses, header_words, sample_text}
+use Rattle.sample_text.proofs.Common.{nat_tests, ints, ◌≡◌, ℕ, zero, suc, ◌+◌, ◌*◌, ◌^◌, ◌<◌, ◌≤◌, Bool, true, false, cond, pos, neg_ℤ, List, [], ◌∷◌, ◌++◌, length, arith, length-append, mag, mod-lt, codes, flat_map, decimal, signed_decimal, length-decimal-le, length_signed_le, after, drawn_weight, drawn_literal, line, clause_words, drawn_clauses, header_words, sample_text}
 
 -- ---- lines
 
@@ -16,13 +16,8 @@ length-header a b c = grind (arith, nat_tests, length-append, length-two)
 
 -- ---- numbers
 
-either_small : (b : Bool) (top rest : ℕ) → rest < 9 → cond b top (1 + rest) ≤ top + 9
-either_small true top rest h = omega arith
-either_small false top rest h = omega arith
-
 pub weight_small : (top state : ℕ) → drawn_weight top state ≤ top + 9
-weight_small top state =
-    either_small (eqb (drawn state % 8) 0) top (drawn state % 9) (mod-lt (drawn state) (omega arith))
+weight_small top state = grind (arith, nat_tests)
 
 number_short : (n : ℕ) → n < 10 ^ 8 → length (decimal n) ≤ 8
 number_short n h = length-decimal-le 8 n (omega arith) h (omega arith)

@@ -1,5 +1,5 @@
 -- What stands for a source stands for it still where assignments of both may cost at most the same.
-use Rattle.source_texts.proofs.Common.{nat_tests, ◌≡◌, ℤ, ◌≤ℤ◌, Option, ap, arith, ints, Cost, Form, Source, Rewrites, ProblemContent, cut_off, own_cost, lesser_of, own_upper, Read, bounded_read, KeepsSoft, StandsBounded, CostsAs}
+use Rattle.source_texts.proofs.Common.{nat_tests, ◌≡◌, ℤ, ◌≤ℤ◌, Option, ap, arith, ints, Cost, Form, Source, Rewrites, ProblemContent, cut_off, own_cost, lesser_of, own_upper, Read, bounded_read, StandsBounded, CostsAs}
 use Rattle.base.specs.declared.costs.Cost.TheVariants.{Whole}
 
 -- ---- costs
@@ -42,17 +42,7 @@ rewritten_stand s r variables bound rewrites most = record {
   rewrites = rewrites_cut most s.form (own_form r.problem) rewrites;
 }
 
--- soft constraints are kept with it, whatever the most is
-pub keeps_bounded : (most : Option ℤ) (r : Read) → KeepsSoft r → KeepsSoft (bounded_read most r)
-keeps_bounded most r kept = grind (arith, nat_tests, ints)
-
 -- its own costs do not ask for the most
 pub costs_bounded : (s : Source) (r : Read) (most : Option ℤ) → CostsAs s r
     → CostsAs s (bounded_read most r)
-costs_bounded s r most costs = record {
-  own = costs.own;
-  width = costs.width;
-  begins = costs.begins;
-  same = costs.same;
-  plain = costs.plain;
-}
+costs_bounded s r most costs = grind (arith, costs)

@@ -1,5 +1,5 @@
 -- What the proofs of this crate stand on, of std and of the crates below.
-pub use Rattle.std.proofs.Common.{◌≡◌, ℤ, ◌≤ℤ◌, Bool, false, Option, Some, None, refl, sym, ap, ◌∙◌, arith, List, subst, Ok, ℕ, take, Err, Result, append-nil, [], rules}
+pub use Rattle.std.proofs.Common.{◌≡◌, ℤ, ◌≤ℤ◌, Bool, false, Option, None, refl, sym, ap, ◌∙◌, arith, List, subst, Ok, ℕ, take, Err, Result, append-nil, [], rules}
 pub use Rattle.std.proofs.lemmas.Int.{ints}
 pub use Rattle.base.specs.declared.costs.Cost.{Cost}
 pub use Rattle.base.specs.Costs.{Form, Source}
@@ -16,15 +16,12 @@ pub use Rattle.form_steps.specs.Stated.{HasSameCosts}
 pub use Rattle.whole_text.specs.Tokens.{Word, tokens_of}
 pub use Rattle.whole_text.specs.Steps.{◌>>=◌, Gives}
 pub use Rattle.entry_reader.specs.declared.layout.Layout.{Layout}
-pub use Rattle.entry_reader.specs.Entries.{Listing, listing_of}
+pub use Rattle.entry_reader.specs.Entries.{listing_of}
 pub use Rattle.entry_reader.specs.Problems.{problem_of}
 pub use Rattle.entry_reader.proofs.ReadCosts.{reading_keeps_costs}
-pub use Rattle.opb_reader.specs.Opb.{Opb, reading_of_words}
-pub use Rattle.poly_reader.specs.Poly.{Listed}
+pub use Rattle.opb_reader.specs.Opb.{reading_of_words}
 pub use Rattle.poly_reader.specs.Cost.{polynomial_of}
 unfoldable pub use Rattle.poly_reader.specs.Cost.{polynomial_of_words}
-pub use Rattle.std.specs.Option.{option_map}
-pub use Rattle.std.specs.Result.{result_ok}
 pub use Rattle.std.proofs.lemmas.List.{take_all, length-replicate}
 pub use Rattle.form_steps.proofs.Rewritten.{rewritten_relaxes}
 pub use Rattle.whole_text.specs.declared.faults.TextFault.{TextFault}

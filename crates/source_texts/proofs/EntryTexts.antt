@@ -1,29 +1,16 @@
 -- Texts of entries, QUBO and Ising: their problems stand for what they say.
-use Rattle.source_texts.proofs.Common.{◌≡◌, List, Ok, refl, HasSameCosts, Word, ◌>>=◌, normal_form, Layout, Listing, listing_of, problem_of, reading_keeps_costs, Read, own, plain}
-use Rattle.problem_form.specs.Problems as problems
+use Rattle.source_texts.proofs.Common.{◌≡◌, List, Ok, refl, Word, ◌>>=◌, normal_form, Layout, listing_of, problem_of, reading_keeps_costs, own, plain}
 use Rattle.command_words.specs.declared.commands.Format.TheVariants as formats
 use Rattle.entry_reader.specs.declared.layout.Layout.TheVariants as layouts
 use Rattle.entry_reader.specs.Problems.{problem_of_words}
 use Rattle.entry_reader.specs.Cost.{form_of}
 use Rattle.source_texts.specs.Sources as sources
-use Rattle.source_texts.proofs.Readings.{AreRead, kept_as, same_costs_stand, same_costs, source_by}
-
--- the problem of what a text says
-abbrev kept : Layout → Listing → Read
-kept layout s = plain (problem_of layout s)
-
-same : (layout : Layout) (s : Listing)
-    → HasSameCosts (problems.form_of (kept layout s).problem) (form_of layout s)
-same layout s = record { width = refl; costs = reading_keeps_costs layout s }
+use Rattle.source_texts.proofs.Readings.{AreRead, kept_as, read_alike}
 
 pub entries_read : (layout : Layout) → AreRead (form_of layout) (λ s. plain (problem_of layout s))
-entries_read layout = record {
-  stands = λ s.
-      same_costs_stand (source_by (form_of layout) (kept layout) s) (kept layout s) (same layout s)
-      refl refl;
-  costs = λ s.
-      same_costs (source_by (form_of layout) (kept layout) s) (kept layout s) (same layout s) refl refl;
-}
+entries_read layout =
+    read_alike (form_of layout) _ (λ s. record { width = refl; costs = reading_keeps_costs layout s })
+    (λ s. (refl, refl, refl))
 
 -- words are read into the problem of their reader
 pub ising_words : (ws : List Word) → sources.problem_of_words formats.Ising ws

@@ -1,6 +1,6 @@
 -- A problem with the costs of a source stands for the source, and texts that are read into such a
 -- problem.
-use Rattle.source_texts.proofs.Common.{nat_tests, ◌≡◌, ℕ, false, List, Some, None, take, Ok, Err, Result, refl, ap, sym, ◌∙◌, subst, arith, option_map, result_ok, ints, take_all, length-replicate, Form, Source, Rewrites, HasSameCosts, rewritten_relaxes, TextFault, ◌>>=◌, own_upper, upper, Read, CostsAs, PlainOwnsAll, RelaxesStoodFor, StandsBounded}
+use Rattle.source_texts.proofs.Common.{nat_tests, ◌≡◌, false, None, take, Ok, Err, Result, refl, ap, sym, ◌∙◌, subst, arith, ints, take_all, length-replicate, Form, Source, Rewrites, HasSameCosts, rewritten_relaxes, TextFault, ◌>>=◌, own_upper, upper, Read, CostsAs, PlainOwnsAll, RelaxesStoodFor, StandsBounded}
 use Rattle.source_texts.proofs.Bounded.{own_form, rewritten_stand}
 
 -- forms with as many bits and the same costs rewrite each other
@@ -46,6 +46,14 @@ module _ {S : Type 0} (form : S → Form) (kept : S → Read) where
     pub stands : (s : S) → StandsBounded (source_by s) (kept s)
     pub costs : (s : S) → CostsAs (source_by s) (kept s)
 
+  pub read_alike : ((s : S) → HasSameCosts (own_form (kept s).problem) (form s))
+      → ((s : S) → ((kept s).variables ≡ (kept s).problem.variables) × ((kept s).soft ≡ None)
+      × (own_upper (kept s).problem ≡ upper (kept s).problem)) → AreRead
+  read_alike same all = record {
+    stands = λ s. same_costs_stand (source_by s) (kept s) (same s) (all s).0 (all s).2;
+    costs = λ s. same_costs (source_by s) (kept s) (same s) (all s).0 (all s).1;
+  }
+
   pub read_stands : (said : Result S TextFault) (r : Read) → AreRead
       → (said >>= λ s. Ok (kept s)) ≡ Ok r
       → (t : Source) × (((said >>= λ s. Ok (form s)) >>= λ f. (said >>= λ s. Ok (kept s))
@@ -66,14 +74,3 @@ pub kept_as : {S P R : Type 0} (said : Result S TextFault) (problem : S → P) (
     → (said >>= λ s. Ok (kept (problem s))) ≡ ((said >>= λ s. Ok (problem s)) >>= λ p. Ok (kept p))
 kept_as (Ok s) problem kept = refl
 kept_as (Err fault) problem kept = refl
-
--- what is read has no names
-pub no_names : {S : Type 0} (said : Result S TextFault) (kept : S → Read) (r : Read)
-    → ((s : S) → (kept s).names ≡ None) → (said >>= λ s. Ok (kept s)) ≡ Ok r → None ≡ r.names
-no_names said kept r none e = grind (arith, nat_tests)
-
--- the names of what is read are those of what is said
-pub said_names : {S : Type 0} (said : Result S TextFault) (kept : S → Read) (r : Read)
-    (names : S → List (List ℕ)) → ((s : S) → (kept s).names ≡ Some (names s))
-    → (said >>= λ s. Ok (kept s)) ≡ Ok r → option_map names (result_ok said) ≡ r.names
-said_names said kept r names each e = grind (arith, nat_tests)

@@ -1,12 +1,7 @@
 -- The problem that a text is read into stands for the source that the text says, and costs what it
 -- does, and has its names, and the words of a text are read as the text is: a line a format.
-use Rattle.source_texts.proofs.Common.{nat_tests, arith, ◌≡◌, ℕ, List, Ok, refl, Source, Format, Read, names_of, source_of, words_in, StandsBounded, CostsAs, ProblemsCostAsSources, WordsAreReadAsTexts}
+use Rattle.source_texts.proofs.Common.{nat_tests, arith, ◌≡◌, ℕ, List, Ok, refl, Source, Format, Read, names_of, source_of, StandsBounded, CostsAs, ProblemsCostAsSources, WordsAreReadAsTexts}
 use Rattle.command_words.specs.declared.commands.Format.TheVariants.{Wcnf, Opb, Wbo, Poly, Ising, Qubo}
-use Rattle.wcnf_reader.specs.Wcnf as wcnf
-use Rattle.opb_reader.specs.Opb as opb
-use Rattle.wbo_reader.specs.Reading as wbo
-use Rattle.poly_reader.specs.Poly as poly
-use Rattle.entry_reader.specs.Entries as entries
 use Rattle.entry_reader.specs.declared.layout.Layout.TheVariants as layouts
 use Rattle.source_texts.specs.Sources.{problem_of}
 use Rattle.source_texts.proofs.Bounded.{costs_bounded}
@@ -19,37 +14,21 @@ use Rattle.source_texts.proofs.EntryTexts.{entries_read}
 
 pub problem_stands : (format : Format) (text : List ℕ) (r : Read) → problem_of format text ≡ Ok r
     → (s : Source) × (source_of format text ≡ Ok s) × StandsBounded s r
-problem_stands Wcnf text r e =
-    read_stands _ _ (wcnf.reading_of_words (words_in Wcnf text)) r wcnf_read e
-problem_stands Opb text r e =
-    read_stands _ _ (opb.reading_of_words (words_in Opb text)) r opb_read e
-problem_stands Wbo text r e =
-    read_stands _ _ (wbo.reading_of_words (words_in Wbo text)) r wbo_read e
-problem_stands Poly text r e =
-    read_stands _ _ (poly.reading_of_words (words_in Poly text)) r poly_read e
-problem_stands Ising text r e =
-    read_stands _ _ (entries.listing_of layouts.Ising (words_in Ising text)) r
-    (entries_read layouts.Ising) e
-problem_stands Qubo text r e =
-    read_stands _ _ (entries.listing_of layouts.Qubo (words_in Qubo text)) r
-    (entries_read layouts.Qubo) e
+problem_stands Wcnf text r e = read_stands _ _ _ r wcnf_read e
+problem_stands Opb text r e = read_stands _ _ _ r opb_read e
+problem_stands Wbo text r e = read_stands _ _ _ r wbo_read e
+problem_stands Poly text r e = read_stands _ _ _ r poly_read e
+problem_stands Ising text r e = read_stands _ _ _ r (entries_read layouts.Ising) e
+problem_stands Qubo text r e = read_stands _ _ _ r (entries_read layouts.Qubo) e
 
 own_costs : (format : Format) (text : List ℕ) (r : Read) (s : Source)
     → problem_of format text ≡ Ok r → source_of format text ≡ Ok s → CostsAs s r
-own_costs Wcnf text r s e said =
-    read_costs _ _ (wcnf.reading_of_words (words_in Wcnf text)) r s wcnf_read e said
-own_costs Opb text r s e said =
-    read_costs _ _ (opb.reading_of_words (words_in Opb text)) r s opb_read e said
-own_costs Wbo text r s e said =
-    read_costs _ _ (wbo.reading_of_words (words_in Wbo text)) r s wbo_read e said
-own_costs Poly text r s e said =
-    read_costs _ _ (poly.reading_of_words (words_in Poly text)) r s poly_read e said
-own_costs Ising text r s e said =
-    read_costs _ _ (entries.listing_of layouts.Ising (words_in Ising text)) r s
-    (entries_read layouts.Ising) e said
-own_costs Qubo text r s e said =
-    read_costs _ _ (entries.listing_of layouts.Qubo (words_in Qubo text)) r s
-    (entries_read layouts.Qubo) e said
+own_costs Wcnf text r s e said = read_costs _ _ _ r s wcnf_read e said
+own_costs Opb text r s e said = read_costs _ _ _ r s opb_read e said
+own_costs Wbo text r s e said = read_costs _ _ _ r s wbo_read e said
+own_costs Poly text r s e said = read_costs _ _ _ r s poly_read e said
+own_costs Ising text r s e said = read_costs _ _ _ r s (entries_read layouts.Ising) e said
+own_costs Qubo text r s e said = read_costs _ _ _ r s (entries_read layouts.Qubo) e said
 
 pub problem_costs : ProblemsCostAsSources
 problem_costs format text r s most e said = costs_bounded s r most (own_costs format text r s e said)

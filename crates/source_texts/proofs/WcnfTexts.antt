@@ -6,7 +6,7 @@ use Rattle.wcnf_reader.specs.Wcnf.{reading_of_words}
 use Rattle.wcnf_reader.specs.Cost.{form_of, problem_of, problem_of_words}
 use Rattle.wcnf_reader.proofs.ReadCosts.{reading_keeps_costs}
 use Rattle.source_texts.specs.Sources as sources
-use Rattle.source_texts.proofs.Readings.{AreRead, kept_as, same_costs_stand, same_costs, source_by}
+use Rattle.source_texts.proofs.Readings.{AreRead, kept_as, read_alike}
 
 -- the problem of what a text says
 abbrev kept : Wcnf → Read
@@ -16,10 +16,7 @@ same : (s : Wcnf) → HasSameCosts (problems.form_of (kept s).problem) (form_of 
 same s = record { width = refl; costs = reading_keeps_costs s }
 
 pub wcnf_read : AreRead form_of (λ s. plain (problem_of s))
-wcnf_read = record {
-  stands = λ s. same_costs_stand (source_by form_of kept s) (kept s) (same s) refl refl;
-  costs = λ s. same_costs (source_by form_of kept s) (kept s) (same s) refl refl;
-}
+wcnf_read = read_alike form_of kept same (λ s. (refl, refl, refl))
 
 -- words are read into the problem of their reader
 pub wcnf_words : (ws : List Word)

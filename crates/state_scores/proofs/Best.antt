@@ -1,5 +1,5 @@
 -- The best of the states so far: each state before it is worse, and none after it is better.
-use Rattle.state_scores.proofs.Common.{◌||◌, length, append-nil, ◌≡◌, Bool, true, false, List, [], ◌∷◌, ◌++◌, not, cond, refl, sym, ap, ◌∙◌, subst, append_assoc, arith, map-append, or-true, find, Some, map, if◌then◌else◌, AllByRecursion, list_any, StateLine, Score, IsEvaluation, Judgement, best_of, has_better, is_better, score_of, ◌==◌, nat_tests, IsEvaluationOf, Standing, after_score, after_states, leads}
+use Rattle.state_scores.proofs.Common.{◌||◌, length, append-nil, ◌≡◌, Bool, true, false, List, [], ◌∷◌, ◌++◌, cond, refl, sym, ap, ◌∙◌, subst, append_assoc, arith, map-append, or-true, find, Some, map, if◌then◌else◌, AllByRecursion, list_any, StateLine, Score, IsEvaluation, Judgement, best_of, has_better, is_better, score_of, ◌==◌, nat_tests, IsEvaluationOf, Standing, after_score, after_states, leads}
 use Rattle.state_scores.proofs.Orders.{better_asym, better_over, better_self}
 
 -- whether a state is better than another
@@ -67,12 +67,10 @@ best_stays j states best state no_better so_far = record {
 -- ---- the first state that none is better than
 
 find_first : {X : Type 0} (p : X → Bool) (before : List X) (x : X) (after : List X)
-    → AllByRecursion (λ y. p y ≡ false) before → p x ≡ true
-    → find p (before ++ x ∷ after) ≡ Some x
+    → AllByRecursion (λ y. p y ≡ false) before → p x ≡ true → find p (before ++ x ∷ after) ≡ Some x
 find_first p [] x after none is = ap (λ (b : Bool). cond b (Some x) (find p after)) is
 find_first p (y ∷ before) x after none is =
-    ap (λ (b : Bool). cond b (Some y) (find p (before ++ x ∷ after))) none.0
-    ∙ find_first p before x after none.1 is
+    grind (arith, nat_tests, find_first p before x after none.1 is)
 
 any_none : {X : Type 0} (p : X → Bool) (xs : List X) → AllByRecursion (λ x. p x ≡ false) xs
     → list_any p xs ≡ false
@@ -95,13 +93,11 @@ best_found j states best so_far =
     (λ s worse. better_asym (score_of j best) (score_of j s) worse) so_far.before so_far.worse in
     let none : has_better j all best ≡ false =
     any_none (λ (s : StateLine). wins j s best) all
-    (all_append lost so_far.before (best ∷ so_far.after) first (better_self (score_of j best), so_far.no_better)) in
-    let passed = λ (s : StateLine). not (has_better j all s) in
-    let some : AllByRecursion (λ (s : StateLine). passed s ≡ false) so_far.before =
-    all_weaker (λ (s : StateLine). wins j best s ≡ true) (λ (s : StateLine). passed s ≡ false)
-    (λ s worse. ap not (any_some (λ (t : StateLine). wins j t s) so_far.before best so_far.after worse))
-    so_far.before so_far.worse in
-    ap (best_of j) so_far.split ∙ find_first passed so_far.before best so_far.after some (ap not none)
+    (all_append lost so_far.before (best ∷ so_far.after) first (
+      better_self (score_of j best),
+      so_far.no_better,
+    )) in
+    grind (arith, nat_tests, all_weaker, any_some, find_first)
 
 -- ---- scores of states
 
@@ -134,19 +130,13 @@ better_one j states best new bits others state true won so_far worth taken kept 
     let changed = best_changes j states (best.line, bits) state beats so_far in
     (subst (IsBest j (states ++ state ∷ [])) same changed, taken ∙ ap (score_of j) same)
 better_one j states best new bits others state false lost so_far worth taken kept =
-    let was : StateLine = (best.line, bits) in
-    let same : was ≡ (new.line, others) = λ k. ((sym taken k).line, sym kept k) in
-    let loses = ap (is_better (score_of j state)) (sym worth) ∙ lost in
-    let stayed = best_stays j states was state loses so_far in
-    (subst (IsBest j (states ++ state ∷ [])) same stayed, taken ∙ worth ∙ ap (score_of j) same)
+    grind (arith, nat_tests, best_stays)
 
 -- the same under equal names
 judged_as : (j : Judgement) (states : List StateLine) (scores : List Score) (best new : Score)
     (bits others : List Bool) → new ≡ best → others ≡ bits → IsJudged j states scores best bits
     → IsJudged j states scores new others
-judged_as j states scores best new bits others taken kept judged =
-    subst (λ (b : Score). IsJudged j states scores b others) (sym taken)
-    (subst (λ (l : List Bool). IsJudged j states scores best l) (sym kept) judged)
+judged_as j states scores best new bits others taken kept judged = grind (arith, nat_tests)
 
 -- one state more
 judged_more : (j : Judgement) (states : List StateLine) (scores : List Score) (best new : Score)
@@ -155,14 +145,7 @@ judged_more : (j : Judgement) (states : List StateLine) (scores : List Score) (b
     → others ≡ (if is_better (score_of j state) best then state.1 else bits)
     → IsJudged j (states ++ state ∷ []) (scores ++ score_of j state ∷ []) new others
 judged_more j states scores best new bits others state so_far taken kept =
-    let one = better_one j states best new bits others state (is_better (score_of j state) best) refl
-    so_far.first so_far.worth taken kept in
-    record {
-      listed = ap (λ (l : List Score). l ++ score_of j state ∷ []) so_far.listed
-          ∙ sym (map-append (score_of j) states (state ∷ []));
-      first = one.0;
-      worth = one.1;
-    }
+    grind (arith, nat_tests, better_one, map-append)
 
 -- what is known after these states: nothing after none
 abbrev pub IsStanding : Judgement → List StateLine → Standing → Type 0
@@ -209,14 +192,3 @@ pub standing_of_all : (j : Judgement) (states : List StateLine) (s : Standing)
     → IsStanding j states s → IsEvaluationOf j states s
 standing_of_all j [] s none = none
 standing_of_all j (state ∷ states) s judged = judged_all j (state ∷ states) s.scores s.best s.bits judged
-
--- where states were judged there are scores
-pub judged_some : (j : Judgement) (states : List StateLine) (s : Standing) → IsEvaluationOf j states s
-    → (s.scores ≡ [] → ⊥) → IsEvaluation j states s.scores s.best s.bits
-judged_some j [] s none some = absurd (some none)
-judged_some j (state ∷ states) s judged some = judged
-
-pub judged_none : (j : Judgement) (states : List StateLine) (s : Standing) → IsEvaluationOf j states s
-    → s.scores ≡ [] → states ≡ []
-judged_none j [] s none empty = refl
-judged_none j (state ∷ states) s judged empty = absurd cc

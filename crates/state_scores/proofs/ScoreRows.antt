@@ -1,6 +1,5 @@
 -- The pieces of each row are its text.
-use Rattle.state_scores.proofs.Common.{◌≡◌, ℕ, ◌+◌, ◌<◌, List, [], ◌∷◌, ◌++◌, length, map, drop, get_or, refl, sym, ap, ◌∙◌, append-nil, append_assoc, codes, decimal, signed_decimal, drop_more, flat_map-append, Cost, Row, row_text, rows_text, cost_row, energy_row, Score, best_row, cost_word, score_row, scores_text}
-use Rattle.base.specs.declared.costs.Cost.TheVariants.{Whole, Infinite}
+use Rattle.state_scores.proofs.Common.{nat_tests, arith, ◌≡◌, ℕ, ◌+◌, ◌<◌, List, [], ◌∷◌, ◌++◌, length, map, drop, get_or, sym, ap, ◌∙◌, append-nil, append_assoc, codes, decimal, signed_decimal, drop_more, flat_map-append, Cost, Row, row_text, rows_text, cost_row, energy_row, Score, best_row, cost_word, score_row, scores_text}
 
 -- ---- a score
 
@@ -9,14 +8,12 @@ abbrev pub score_pieces : List ℕ → List ℕ → List ℕ → List ℕ
 score_pieces line cost energy =
     codes "sample " ++ (line ++ (codes " cost " ++ (cost ++ (codes " energy " ++ (energy ++ 10 ∷ [])))))
 
-score_words : (line cost energy : List ℕ)
-    → score_pieces line cost energy
+score_words : (line cost energy : List ℕ) → score_pieces line cost energy
     ≡ row_text (codes "sample" ∷ line ∷ codes "cost" ∷ cost ∷ codes "energy" ∷ energy ∷ [])
 score_words line cost energy = simp append_assoc
 
 cost_words : (cost : Cost) → codes "cost" ∷ cost_word cost ∷ [] ≡ cost_row cost
-cost_words (Whole value) = refl
-cost_words Infinite = refl
+cost_words cost = grind (arith, nat_tests)
 
 pub score_text : (s : Score) (line cost energy : List ℕ) → line ≡ decimal s.line
     → cost ≡ cost_word s.cost → energy ≡ signed_decimal s.energy
@@ -29,12 +26,9 @@ score_text s line cost energy l c e =
 
 -- the rows of the scores from a place on begin with the row of that place
 pub scores_left : (scores : List Score) (i : ℕ) (score : Score) → i < length scores
-    → get_or scores i score ≡ score
-    → rows_text (map score_row (drop i scores))
+    → get_or scores i score ≡ score → rows_text (map score_row (drop i scores))
     ≡ row_text (score_row score) ++ rows_text (map score_row (drop (i + 1) scores))
-scores_left scores i score within is =
-    ap (λ (s : List Score). rows_text (map score_row s)) (drop_more scores i score within)
-    ∙ ap (λ (s : Score). row_text (score_row s) ++ rows_text (map score_row (drop (i + 1) scores))) is
+scores_left scores i score within is = grind (arith, nat_tests, drop_more)
 
 -- ---- the best state
 
@@ -46,12 +40,6 @@ best_text line number tail is =
 
 -- ---- the whole text
 
-pub text_parts : (scores : List Score) (best : ℕ) (tail : List ℕ)
-    → scores_text scores best tail
+pub text_parts : (scores : List Score) (best : ℕ) (tail : List ℕ) → scores_text scores best tail
     ≡ rows_text (map score_row scores) ++ (row_text (best_row best) ++ tail)
-text_parts scores best tail =
-    let row = best_row best in
-    ap (λ (l : List ℕ). l ++ tail)
-    (flat_map-append row_text (map score_row scores) (row ∷ [])
-    ∙ ap (λ (l : List ℕ). rows_text (map score_row scores) ++ l) (append-nil (row_text row)))
-    ∙ append_assoc (rows_text (map score_row scores)) (row_text row) tail
+text_parts scores best tail = grind (arith, nat_tests, flat_map-append, append-nil, append_assoc)

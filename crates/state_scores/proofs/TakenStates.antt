@@ -1,5 +1,5 @@
 -- States that are taken off the front of others, and what is known after one of them.
-use Rattle.state_scores.proofs.Common.{◌≡◌, ◌≤◌, ◌<◌, ◌^◌, ℕ, ◌+◌, List, [], ◌∷◌, ◌++◌, All, length, take, get_or, arith, refl, sym, ap, ◌∙◌, subst, append_assoc, All-tail, Bool, StateLine, Judgement, score_of, zip, get_or_append_left, length-append, take_all, take_more, get_or-zip, length-zip, Standing, after_score, after_states}
+use Rattle.state_scores.proofs.Common.{nat_tests, ◌≡◌, ◌≤◌, ◌<◌, ◌^◌, ℕ, ◌+◌, List, [], ◌∷◌, ◌++◌, All, length, take, get_or, arith, refl, ap, ◌∙◌, subst, append_assoc, All-tail, Bool, StateLine, Judgement, score_of, zip, get_or_append_left, length-append, take_all, take_more, get_or-zip, length-zip, Standing, after_score, after_states}
 
 zip_more : (lines : List ℕ) (states : List (List Bool)) (line : ℕ) (state : List Bool)
     → length lines ≡ length states
@@ -16,11 +16,7 @@ pub taken_more : (before after rest : List StateLine) (lines more : List ℕ) (s
     → after ≡ (line, state) ∷ rest → more ≡ lines ++ line ∷ [] → others ≡ states ++ state ∷ []
     → before ≡ zip more others ++ rest
 taken_more before after rest lines more states others line state even front next numbered stated =
-    front
-    ∙ ap (λ (l : List StateLine). zip lines states ++ l) next
-    ∙ sym (append_assoc (zip lines states) ((line, state) ∷ []) rest)
-    ∙ ap (λ (l : List StateLine). l ++ rest) (sym (zip_more lines states line state even))
-    ∙ (λ k. zip (sym numbered k) (sym stated k) ++ rest)
+    grind (arith, nat_tests, append_assoc, zip_more)
 
 -- what is known after one state more
 pub after_more : (j : Judgement) (s : Standing) (states : List StateLine) (state : StateLine)
@@ -48,13 +44,11 @@ pub low_line : (lines : List ℕ) (states : List (List Bool)) (k line : ℕ) →
 low_line lines states k line even within is low =
     let blank : StateLine = (0, []) in
     let here = low k blank (omega (arith, length-zip lines states, even, within)) in
-    let at = ap (λ (s : StateLine). s.0) (get_or-zip lines states k blank within (omega (arith, even, within))) in
-    omega (arith, here, at, is)
+    grind (arith, nat_tests, get_or-zip)
 
 pub all_taken : (lines : List ℕ) (states : List (List Bool)) (k : ℕ) → length lines ≡ length states
     → length lines ≤ k → take k (zip lines states) ≡ zip lines states
-all_taken lines states k even all =
-    take_all k (zip lines states) (omega (arith, length-zip lines states, even, all))
+all_taken lines states k even all = grind (arith, nat_tests, take_all, length-zip)
 
 -- the numbers of those that were taken, and of those that are left
 pub low_taken : (before front after : List StateLine) → before ≡ front ++ after

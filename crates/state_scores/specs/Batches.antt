@@ -15,8 +15,8 @@ abbrev pub AreCosts : Judgement → List (List Bool) → List Cost → Type 0
 AreCosts j states costs =
     (k : ℕ) → k < length states → slice_index_or costs k Infinite ≡ j.cost (slice_index_or states k [])
 
--- states with the numbers of their lines were taken off the front of others, as many as there were,
--- or 64
+-- states with the numbers of their lines were taken off the front of others: at most 64, and none
+-- only where none were left
 pub record AreTaken (width : ℕ) (before after : List StateLine) (lines : List ℕ)
     (states : List (List Bool)) (costs : List Cost) : Type 0 where
   pub front : before ≡ zip lines states ++ after

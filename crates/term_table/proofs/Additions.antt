@@ -3,7 +3,7 @@
 -- A sum of the coefficients of the sets that pass a test grows by exactly what is added; a sum of
 -- sizes grows by at most that. Each is proved for one addition, by the order of the added set and
 -- the first one, and then for a list of additions.
-use Rattle.term_table.proofs.Common.{nat_tests, ◌≡◌, ℕ, ◌+◌, ◌≤◌, Bool, true, false, cond, arith, sym, ap, refl, List, [], ◌∷◌, ℤ, pos, ◌+ℤ◌, unsigned_abs, sum_by, ◌++◌, int_eq, is_eq, match_ordering, Ordering, ints, sum_by-cons, sum_by-append, total_by, if_so, size-plus, Literal, all_hold, Term, set_cmp, set_size, terms_cost, terms_total, terms_size, coefficient_of, in_front, with_addition, with_additions}
+use Rattle.term_table.proofs.Common.{nat_tests, ◌≡◌, ℕ, ◌+◌, ◌≤◌, Bool, true, false, arith, sym, ap, refl, List, [], ◌∷◌, ℤ, ◌+ℤ◌, unsigned_abs, sum_by, ◌++◌, is_eq, match_ordering, Ordering, ints, sum_by-cons, sum_by-append, total_by, if_so, size-plus, Literal, all_hold, Term, set_cmp, set_size, terms_cost, terms_total, terms_size, coefficient_of, in_front, with_addition, with_additions}
 use Rattle.std.specs.declared.cmp.Ordering.TheVariants.{Less, Equal, Greater}
 use Rattle.term_table.proofs.SetOrder.{same_set}
 
@@ -31,27 +31,17 @@ weight-with_addition test (t ∷ ts) ls c = go (set_cmp ls t.0) refl (weight-wit
         ≡ weight test (t ∷ ts) +ℤ if_so (test ls) c
     go Less e rest = omega (arith, ints, weight-in_front test ls c (t ∷ ts))
     go Equal e rest =
-        let same : if_so (test t.0) c ≡ if_so (test ls) c =
-        ap (λ ks. if_so (test ks) c) (sym (same_set ls t.0 e)) in
-        omega (
-          arith,
-          ints,
-          weight-in_front test t.0 (t.1 +ℤ c) ts,
-          if_so-plus (test t.0) t.1 c,
-          same,
-        )
+        let same = ap (λ ks. if_so (test ks) c) (sym (same_set ls t.0 e)) in
+        let plus = if_so-plus (test t.0) t.1 c in
+        omega (arith, ints, weight-in_front test t.0 (t.1 +ℤ c) ts, plus, same)
     go Greater e rest = omega (arith, ints)
 
 pub weight-with_additions : (test : List Literal → Bool) (table ts : List Term)
     → weight test (with_additions table ts) ≡ weight test table +ℤ weight test ts
 weight-with_additions test table [] = omega (arith, ints)
 weight-with_additions test table (t ∷ ts) =
-    omega (
-      arith,
-      ints,
-      weight-with_additions test (with_addition table t.0 t.1) ts,
-      weight-with_addition test table t.0 t.1,
-    )
+    let rest = weight-with_additions test (with_addition table t.0 t.1) ts in
+    omega (arith, ints, rest, weight-with_addition test table t.0 t.1)
 
 pub terms_cost-with_additions : (x : List Bool) (ts : List Term)
     → terms_cost x (with_additions [] ts) ≡ terms_cost x ts
@@ -70,41 +60,22 @@ terms_total-cons t ts = sum_by-cons (λ (u : Term). unsigned_abs u.1) t ts
 
 terms_total-in_front : (ls : List Literal) (c : ℤ) (ts : List Term)
     → terms_total (in_front ls c ts) ≤ unsigned_abs c + terms_total ts
-terms_total-in_front ls c ts = go (int_eq c (pos 0))
-  where
-    go : (zero : Bool) → terms_total (cond zero ts ((ls, c) ∷ ts)) ≤ unsigned_abs c + terms_total ts
-    go true = omega arith
-    go false = omega (arith, terms_total-cons (ls, c) ts)
+terms_total-in_front ls c ts = grind (arith, nat_tests, terms_total-cons (ls, c) ts)
 
 pub terms_total-with_addition : (ts : List Term) (ls : List Literal) (c : ℤ)
     → terms_total (with_addition ts ls c) ≤ terms_total ts + unsigned_abs c
 terms_total-with_addition [] ls c = omega (arith, terms_total-in_front ls c [])
-terms_total-with_addition (t ∷ ts) ls c = go (set_cmp ls t.0) (terms_total-with_addition ts ls c)
-  where
-    go : (o : Ordering) → terms_total (with_addition ts ls c) ≤ terms_total ts + unsigned_abs c
-        → terms_total (match_ordering o (in_front ls c (t ∷ ts)) (in_front t.0 (t.1 +ℤ c) ts) (t ∷ with_addition ts ls c))
-        ≤ terms_total (t ∷ ts) + unsigned_abs c
-    go Less rest = omega (arith, terms_total-in_front ls c (t ∷ ts))
-    go Equal rest =
-        omega (
-          arith,
-          terms_total-in_front t.0 (t.1 +ℤ c) ts,
-          size-plus t.1 c,
-          terms_total-cons t ts,
-        )
-    go Greater rest = omega (arith, terms_total-cons t ts, terms_total-cons t (with_addition ts ls c))
+terms_total-with_addition (t ∷ ts) ls c =
+    let rest = terms_total-with_addition ts ls c in
+    grind (arith, nat_tests, ints, rest, terms_total-in_front, terms_total-cons, size-plus)
 
 -- the additions to a table that isn't empty
 pub terms_total-more : (table ts : List Term)
     → terms_total (with_additions table ts) ≤ terms_total table + terms_total ts
 terms_total-more table [] = omega arith
 terms_total-more table (t ∷ ts) =
-    omega (
-      arith,
-      terms_total-more (with_addition table t.0 t.1) ts,
-      terms_total-with_addition table t.0 t.1,
-      terms_total-cons t ts,
-    )
+    let rest = terms_total-more (with_addition table t.0 t.1) ts in
+    omega (arith, rest, terms_total-with_addition, terms_total-cons)
 
 pub terms_total-with_additions : (ts : List Term) → terms_total (with_additions [] ts) ≤ terms_total ts
 terms_total-with_additions ts = omega (arith, terms_total-more [] ts)
@@ -125,11 +96,7 @@ sets_sum-cons f t ts = sum_by-cons (λ (u : Term). f u.0) t ts
 
 sets_sum-in_front : (f : List Literal → ℕ) (ls : List Literal) (c : ℤ) (ts : List Term)
     → sets_sum f (in_front ls c ts) ≤ f ls + sets_sum f ts
-sets_sum-in_front f ls c ts = go (int_eq c (pos 0))
-  where
-    go : (zero : Bool) → sets_sum f (cond zero ts ((ls, c) ∷ ts)) ≤ f ls + sets_sum f ts
-    go true = omega arith
-    go false = omega (arith, sets_sum-cons f (ls, c) ts)
+sets_sum-in_front f ls c ts = grind (arith, nat_tests, sets_sum-cons f (ls, c) ts)
 
 sets_sum-with_addition : (f : List Literal → ℕ) (ts : List Term) (ls : List Literal) (c : ℤ)
     → sets_sum f (with_addition ts ls c) ≤ sets_sum f ts + f ls
@@ -141,12 +108,8 @@ sets_sum-more : (f : List Literal → ℕ) (table ts : List Term)
     → sets_sum f (with_additions table ts) ≤ sets_sum f table + sets_sum f ts
 sets_sum-more f table [] = omega arith
 sets_sum-more f table (t ∷ ts) =
-    omega (
-      arith,
-      sets_sum-more f (with_addition table t.0 t.1) ts,
-      sets_sum-with_addition f table t.0 t.1,
-      sets_sum-cons f t ts,
-    )
+    let rest = sets_sum-more f (with_addition table t.0 t.1) ts in
+    omega (arith, rest, sets_sum-with_addition, sets_sum-cons)
 
 -- each set of the table stands among the additions, once
 pub sets_sum-with_additions : (f : List Literal → ℕ) (ts : List Term)

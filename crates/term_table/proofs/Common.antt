@@ -1,10 +1,9 @@
 -- What the proofs of this crate stand on, of std and of the crates below.
 pub use Rattle.std.proofs.Common.{add-one, ◌≡◌, ℕ, ◌+◌, ◌≤◌, Bool, true, false, cond, arith, sym, ap, refl, List, [], ◌∷◌, ℤ, pos, ◌+ℤ◌, unsigned_abs, sum_by, ◌++◌, Result, Ok, Err, OnOk, subst, ◌∙◌, append_assoc, append-nil, ◌^◌, All, OnErr, ◌≢◌, ◌<◌, length, map, take, drop, get_or, zero, suc, ◌-◌, ◌⊎◌, inl, inr, ◌*◌, ◌*ℤ◌, ◌||◌, neg_ℤ, set, Option, None, Some, reverse, to_z, of_z, rules, FitsSigned}
-pub use Rattle.std.specs.Ordering.{int_eq, is_eq, match_ordering, ordering_reverse, is_lt, nat_cmp, bool_cmp, ordering_then}
+pub use Rattle.std.specs.Ordering.{int_eq, is_eq, match_ordering, ordering_reverse, is_lt}
 pub use Rattle.std.specs.declared.cmp.Ordering.{Ordering}
-pub use Rattle.std.specs.Bool.{Decides}
 pub use Rattle.std.proofs.lemmas.Int.{ints, unsigned_abs-mul, to_z-of_z}
-pub use Rattle.std.proofs.lemmas.Bool.Decides.{Decides-int_eq, Decides-ltb, not_from_Decides, nat_tests}
+pub use Rattle.std.proofs.lemmas.Bool.Decides.{Decides-int_eq, nat_tests}
 pub use Rattle.std.proofs.lemmas.List.Sums.{sum_by-cons, sum_by-append, sum_by-drop_more, sum_by_more_le, fold-append}
 pub use Rattle.base.specs.Sums.{total_by, if_so}
 pub use Rattle.base.proofs.Totals.{size-plus, total_by_more, total_by-append, total_by-flat_map, total_by-IsPermutation}
@@ -14,12 +13,12 @@ pub use Rattle.term_table.specs.Terms.{Term, set_cmp, set_size, terms_cost, term
 pub use Rattle.term_table.specs.Tables.{TableContent, with_appended, kept_in, with_added, with_all, IsTable, IsKept, AreAdditions, with_more, KeptTable, IsLow}
 pub use Rattle.term_table.specs.Rooms.{Fills, HasRoomFor}
 pub use Rattle.std.proofs.lemmas.List.Elements.{All-push, All-nil, All-cons, All-head, All-tail, All-append, All-from_recursion, recursion_from_All, All-get_or, All-weaker, All-same, All-more}
-pub use Rattle.term_table.specs.Runs.{Run, merged_terms, settled, with_entry, one_run, entries, sum_over, merged, settled_with, settled_back, is_empty, is_long, AreRuns}
+pub use Rattle.term_table.specs.Runs.{Run, merged_terms, settled, with_entry, one_run, entries, sum_over, merged, settled_with, settled_back, is_empty, AreRuns}
 pub use Rattle.std.specs.List.{AllByRecursion, list_any, swap}
 pub use Rattle.std.specs.List.Sorted.{IsPermutation, IsSortedBy}
 unfoldable pub use Rattle.std.specs.List.Sorted.{IsStrictlySortedBy}
 pub use Rattle.std.specs.Map.{keys_of}
-pub use Rattle.std.proofs.lemmas.List.{take-map, take_more, map-append, length-append, drop_more, drop_all, get_or_default, length-drop, take_all, get_or-drop, reverse-reverse, reverse-append, length-reverse, take-append-le, get_or_append_left, get_or_push, length_push, at_drop_more, drop-set-lt, get_or-set_same, take-set-le, take_rest}
+pub use Rattle.std.proofs.lemmas.List.{take-map, take_more, length-append, drop_more, drop_all, get_or_default, length-drop, take_all, get_or-drop, reverse-reverse, reverse-append, length-reverse, take-append-le, get_or_append_left, get_or_push, length_push, at_drop_more, drop-set-lt, get_or-set_same, take-set-le, take_rest}
 pub use Rattle.std.specs.Prelude.{if◌then◌else◌, ⊤, replicate, fold, Any}
 pub use Rattle.term_table.specs.Newest.{AreOrdered, SmallSums, Halve, Each, AreSettling}
 pub use Rattle.term_table.specs.Rests.{without, NotBelow, Begins, IsLeast, AreRests, rests_of, head_of, lesser_of, least_in, first_weight}
@@ -30,7 +29,7 @@ pub use Rattle.term_table.specs.MultipliedOut.{ArePlain, plain, with_front, plai
 pub use Rattle.std.proofs.Math.Nat.{mul-le-mul_left, mul-le-mul_right}
 pub use Rattle.std.proofs.Math.Pow.{pow_mono}
 pub use Rattle.term_table.specs.RunLaws.{MergingSums, MergingKeepsTerms, SettlingDrops, SettlingMerges, SettlingStays, SettlingEnds, EntriesAreSmall}
-pub use Rattle.std.proofs.lemmas.Bool.{false_from_ne_true, or_parts, cases_lt}
+pub use Rattle.std.proofs.lemmas.Bool.{false_from_ne_true, cases_lt}
 pub use Rattle.std.specs.Cmp.{IsTotalOrder}
 pub use Rattle.std.proofs.lemmas.Cmp.{tied_itself}
 pub use Rattle.term_table.specs.laws.Keys.{key_total}

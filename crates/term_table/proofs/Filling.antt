@@ -1,5 +1,5 @@
 -- Taking in one list of terms after another, and loops that do so.
-use Rattle.term_table.proofs.Common.{nat_tests, ints, arith, ◌≡◌, ℤ, List, [], ◌∷◌, ◌++◌, refl, subst, sym, ap, ◌∙◌, append_assoc, append-nil, Literal, Term, TableContent, with_appended, Fills, HasRoomFor}
+use Rattle.term_table.proofs.Common.{nat_tests, ints, arith, ◌≡◌, ℤ, List, [], ◌∷◌, ◌++◌, refl, subst, sym, append_assoc, append-nil, Literal, Term, TableContent, with_appended, Fills, HasRoomFor}
 
 -- what was taken in, with what is left, is all
 pub record Rest {S : Type 0} (takes : S → List Term → Type 0) (holds : S → TableContent → Type 0) (start now : S) (left all : List Term) : Type 0 where
@@ -15,8 +15,7 @@ room_own takes s ts fits = ([], subst (takes s) (sym (append-nil ts)) fits)
 -- where there is room for two lists of terms, there is for the first
 pub room_first : {S : Type 0} (takes : S → List Term → Type 0) (s : S) (all ts us : List Term)
     → all ≡ ts ++ us → HasRoomFor takes s all → HasRoomFor takes s ts
-room_first takes s all ts us same room =
-    (us ++ room.0, subst (takes s) (ap (λ vs. vs ++ room.0) same ∙ append_assoc ts us room.0) room.1)
+room_first takes s all ts us same room = grind (arith, nat_tests, append_assoc)
 
 -- the same terms, in other words
 pub room_same : {S : Type 0} (takes : S → List Term → Type 0) (s : S) (ts us : List Term) → ts ≡ us
@@ -31,27 +30,17 @@ room_as takes s ls ks c d set coefficient room =
 
 module _ {S : Type 0} (takes : S → List Term → Type 0) (holds : S → TableContent → Type 0) where
   pub fills_none : (s : S) → Fills takes holds s s []
-  fills_none s = record {
-    held = λ t held. subst (λ (ts : List Term). holds s (record t { terms = ts })) (sym (append-nil t.terms)) held;
-    room = λ more room. room;
-  }
+  fills_none s = grind (arith, nat_tests, append-nil)
 
   -- one term, whose literals and coefficient the code has in other words
   pub fills_as : (now new : S) (ls ks : List Literal) (c d : ℤ) → ks ≡ ls → d ≡ c
-      → ((t : TableContent) → holds now t → holds new (with_appended t ks d))
-      → ((more : List Term) → takes now ((ks, d) ∷ more) → takes new more)
-      → Fills takes holds now new ((ls, c) ∷ [])
+      → ((t : TableContent) → holds now t → holds new (with_appended t ks d)) → ((more : List Term)
+      → takes now ((ks, d) ∷ more) → takes new more) → Fills takes holds now new ((ls, c) ∷ [])
   fills_as now new ls ks c d set coefficient held room = grind (arith, nat_tests, ints)
 
-  pub fills_more : (first second third : S) (ts us : List Term)
-      → Fills takes holds first second ts → Fills takes holds second third us
-      → Fills takes holds first third (ts ++ us)
-  fills_more first second third ts us p q = record {
-    held = λ t held.
-        subst (λ (vs : List Term). holds third (record t { terms = vs })) (append_assoc t.terms ts us)
-        (q.held (record t { terms = t.terms ++ ts }) (p.held t held));
-    room = λ more room. q.room more (p.room (us ++ more) (subst (takes first) (append_assoc ts us more) room));
-  }
+  pub fills_more : (first second third : S) (ts us : List Term) → Fills takes holds first second ts
+      → Fills takes holds second third us → Fills takes holds first third (ts ++ us)
+  fills_more first second third ts us p q = grind (arith, nat_tests, append_assoc)
 
   -- the same terms, in other words
   pub fills_same : (old new : S) (ts us : List Term) → ts ≡ us
@@ -61,8 +50,7 @@ module _ {S : Type 0} (takes : S → List Term → Type 0) (holds : S → TableC
   -- after the first terms there is room for those after them
   pub room_next : (now new : S) (all ts us : List Term) → all ≡ ts ++ us
       → Fills takes holds now new ts → HasRoomFor takes now all → HasRoomFor takes new us
-  room_next now new all ts us same p room =
-      (room.0, p.room (us ++ room.0) (subst (takes now) (ap (λ vs. vs ++ room.0) same ∙ append_assoc ts us room.0) room.1))
+  room_next now new all ts us same p room = grind (arith, nat_tests, append_assoc)
 
   -- ---- loops
 
@@ -72,12 +60,9 @@ module _ {S : Type 0} (takes : S → List Term → Type 0) (holds : S → TableC
   pub rest_more : (start now new : S) (left later all ts : List Term) → left ≡ ts ++ later
       → Fills takes holds now new ts → Rest takes holds start now left all
       → Rest takes holds start new later all
-  rest_more start now new left later all ts step one before = record {
-    done = before.done ++ ts;
-    filled = fills_more start now new before.done ts before.filled one;
-    whole =
-        append_assoc before.done ts later ∙ ap (λ us. before.done ++ us) (sym step) ∙ before.whole;
-  }
+  rest_more start now new left later all ts step one before =
+      let more = fills_more start now new before.done ts before.filled one in
+      record { done = before.done ++ ts; filled = more; whole = grind (arith, append_assoc) }
 
   pub rest_all : (start now : S) (left all : List Term) → left ≡ []
       → Rest takes holds start now left all → Fills takes holds start now all

@@ -13,9 +13,8 @@ IsTable-kept width runs kept = record {
 }
 
 pub IsKept-with_entry : (width : ℕ) (runs : List Run) (ls : List Literal) (c : ℤ)
-    → IsKept width runs → IsTermSet width ls
-    → terms_total (merged_terms runs) + unsigned_abs c ≤ 2 ^ 124
-    → IsKept width (with_entry runs ls c)
+    → IsKept width runs → IsTermSet width ls → terms_total (merged_terms runs) + unsigned_abs c
+    ≤ 2 ^ 124 → IsKept width (with_entry runs ls c)
 IsKept-with_entry width runs ls c kept set small = record {
   runs = AreRuns-with_entry width runs ls c kept.runs set small;
   small =

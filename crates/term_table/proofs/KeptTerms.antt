@@ -1,7 +1,7 @@
 -- What additions keep: the terms stay in order, none is 0, and what holds of the sets of the table
 -- and of the added sets holds of all sets.
-use Rattle.term_table.proofs.Common.{nat_tests, ints, arith, ◌≡◌, ◌≢◌, ℕ, ap, ◌∙◌, refl, List, [], ◌∷◌, ℤ, pos, ◌+ℤ◌, All, AllByRecursion, IsStrictlySortedBy, keys_of, match_ordering, ordering_reverse, Ordering, All-nil, All-cons, All-head, All-tail, Literal, Term, set_cmp, in_front, with_addition, with_additions, Ascends, AreTerms, IsTermSet}
-use Rattle.std.specs.declared.cmp.Ordering.TheVariants.{Less, Equal, Greater}
+use Rattle.term_table.proofs.Common.{false, is_lt, is_eq, nat_tests, ints, arith, ◌≡◌, ◌≢◌, ℕ, ap, ◌∙◌, List, [], ◌∷◌, ℤ, pos, ◌+ℤ◌, All, AllByRecursion, IsStrictlySortedBy, keys_of, ordering_reverse, All-nil, All-cons, All-head, All-tail, Literal, Term, set_cmp, in_front, with_addition, with_additions, Ascends, AreTerms, IsTermSet}
+use Rattle.std.specs.declared.cmp.Ordering.TheVariants.{Less, Greater}
 use Rattle.term_table.proofs.SetOrder.{set_total}
 
 -- ---- what holds of each set
@@ -18,15 +18,13 @@ pub All-with_addition : (P : List Literal → Type 0) (ts : List Term) (ls : Lis
     → All (OfSet P) ts → P ls → All (OfSet P) (with_addition ts ls c)
 All-with_addition P [] ls c all here = All-in_front P ls c [] here all
 All-with_addition P (t ∷ ts) ls c all here =
-    go (set_cmp ls t.0) (All-with_addition P ts ls c (All-tail (OfSet P) t ts all) here)
-  where
-    go : (o : Ordering) → All (OfSet P) (with_addition ts ls c) → All (OfSet P)
-        (match_ordering o (in_front ls c (t ∷ ts)) (in_front t.0 (t.1 +ℤ c) ts) (t ∷ with_addition ts ls c))
-    go Less rest = All-in_front P ls c (t ∷ ts) here all
-    go Equal rest =
-        All-in_front P t.0 (t.1 +ℤ c) ts (All-head (OfSet P) t ts all) (All-tail (OfSet P) t ts all)
-    go Greater rest =
-        All-cons (OfSet P) t (with_addition ts ls c) (All-head (OfSet P) t ts all) rest
+    let first = All-head (OfSet P) t ts all in
+    let later = All-tail (OfSet P) t ts all in
+    let low = All-in_front P ls c (t ∷ ts) here all in
+    let same = All-in_front P t.0 (t.1 +ℤ c) ts first later in
+    let rest = All-with_addition P ts ls c later here in
+    let more = All-cons (OfSet P) t (with_addition ts ls c) first rest in
+    grind (arith, nat_tests)
 
 All-more : (P : List Literal → Type 0) (table ts : List Term) → All (OfSet P) table
     → All (OfSet P) ts → All (OfSet P) (with_additions table ts)
@@ -54,13 +52,12 @@ nonzero-with_addition : (ts : List Term) (ls : List Literal) (c : ℤ) → All I
     → All IsNonzero (with_addition ts ls c)
 nonzero-with_addition [] ls c all = nonzero-in_front ls c [] all
 nonzero-with_addition (t ∷ ts) ls c all =
-    go (set_cmp ls t.0) (nonzero-with_addition ts ls c (All-tail IsNonzero t ts all))
-  where
-    go : (o : Ordering) → All IsNonzero (with_addition ts ls c) → All IsNonzero
-        (match_ordering o (in_front ls c (t ∷ ts)) (in_front t.0 (t.1 +ℤ c) ts) (t ∷ with_addition ts ls c))
-    go Less rest = nonzero-in_front ls c (t ∷ ts) all
-    go Equal rest = nonzero-in_front t.0 (t.1 +ℤ c) ts (All-tail IsNonzero t ts all)
-    go Greater rest = All-cons IsNonzero t (with_addition ts ls c) (All-head IsNonzero t ts all) rest
+    let later = All-tail IsNonzero t ts all in
+    let low = nonzero-in_front ls c (t ∷ ts) all in
+    let same = nonzero-in_front t.0 (t.1 +ℤ c) ts later in
+    let rest = nonzero-with_addition ts ls c later in
+    let more = All-cons IsNonzero t (with_addition ts ls c) (All-head IsNonzero t ts all) rest in
+    grind (arith, nat_tests)
 
 -- ---- the order
 
@@ -87,6 +84,11 @@ Under-further ks ls (t ∷ ts) less under =
 pub greater_back : (ls ks : List Literal) → set_cmp ls ks ≡ Greater → set_cmp ks ls ≡ Less
 greater_back ls ks e = set_total.antisymm ks ls ∙ ap ordering_reverse e
 
+-- of two sets the one that is not above the other is below it, unless they are one
+pub above : (ls ms : List Literal) → is_eq (set_cmp ls ms) ≡ false → is_lt (set_cmp ms ls) ≡ false
+    → set_cmp ls ms ≡ Less
+above ls ms other up = grind (arith, nat_tests, greater_back)
+
 pub Ascends-in_front : (ls : List Literal) (c : ℤ) (ts : List Term) → Under ls ts → Ascends ts
     → Ascends (in_front ls c ts)
 unfolding IsStrictlySortedBy
@@ -96,13 +98,8 @@ Ascends-with_addition : (ts : List Term) (ls : List Literal) (c : ℤ) → Ascen
 unfolding IsStrictlySortedBy
 Ascends-with_addition [] ls c ascends = Ascends-in_front ls c [] ascends ascends
 Ascends-with_addition (t ∷ ts) ls c ascends =
-    go (set_cmp ls t.0) refl (Ascends-with_addition ts ls c ascends.1)
-  where
-    go : (o : Ordering) → set_cmp ls t.0 ≡ o → Ascends (with_addition ts ls c) → Ascends
-        (match_ordering o (in_front ls c (t ∷ ts)) (in_front t.0 (t.1 +ℤ c) ts) (t ∷ with_addition ts ls c))
-    go Less e rest = Ascends-in_front ls c (t ∷ ts) (e, Under-further ls t.0 ts e ascends.0) ascends
-    go Equal e rest = Ascends-in_front t.0 (t.1 +ℤ c) ts ascends.0 ascends.1
-    go Greater e rest = (Under-with_addition t.0 ts ls c (greater_back ls t.0 e) ascends.0, rest)
+    let rest = Ascends-with_addition ts ls c ascends.1 in
+    grind (arith, nat_tests, ints, rest, Under-further, Under-with_addition, greater_back)
 
 -- ---- all three
 

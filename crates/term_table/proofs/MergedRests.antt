@@ -1,33 +1,19 @@
 -- Runs that are gone through together: the least set with which one of them begins is taken from all,
 -- with the sum of its coefficients.
-use Rattle.term_table.proofs.Common.{take-map, nat_tests, ◌≡◌, ℕ, zero, suc, ◌<◌, ◌≤◌, ◌^◌, Bool, true, false, cond, arith, length, get_or, take, map, List, [], ◌∷◌, ◌++◌, sym, ap, ◌∙◌, subst, refl, ℤ, pos, ◌+ℤ◌, unsigned_abs, All, if◌then◌else◌, AllByRecursion, IsStrictlySortedBy, is_eq, is_lt, Ordering, ints, length-append, All-tail, if_so, Literal, Term, set_cmp, in_front, with_addition, with_additions, coefficient_of, Ascends, Run, entries, merged_terms, sum_over, AreOrdered, without, NotBelow, Begins, IsLeast, AreRests}
-use Rattle.std.specs.declared.cmp.Ordering.TheVariants.{Less, Equal}
-use Rattle.term_table.proofs.SetOrder.{same_set, set_itself}
+use Rattle.term_table.proofs.Common.{take-map, nat_tests, ◌≡◌, ℕ, zero, suc, ◌<◌, ◌≤◌, ◌^◌, Bool, true, false, cond, arith, length, get_or, take, map, List, [], ◌∷◌, ◌++◌, ap, ◌∙◌, refl, ℤ, pos, ◌+ℤ◌, unsigned_abs, All, AllByRecursion, IsStrictlySortedBy, is_eq, ints, length-append, All-tail, if_so, Literal, Term, set_cmp, in_front, with_addition, with_additions, coefficient_of, Ascends, Run, entries, merged_terms, sum_over, AreOrdered, without, NotBelow, Begins, IsLeast, AreRests}
+use Rattle.term_table.proofs.SetOrder.{equal_of, same_set, set_itself}
 use Rattle.term_table.proofs.Additions.{weight-in_front}
-use Rattle.term_table.proofs.KeptTerms.{IsNonzero, Under, Under-with_addition, Under-further, greater_back, Ascends-in_front, nonzero-in_front, Ascends-with_additions, nonzero-with_additions}
+use Rattle.term_table.proofs.KeptTerms.{above, IsNonzero, Under, Under-with_addition, Under-further, Ascends-in_front, nonzero-in_front, Ascends-with_additions, nonzero-with_additions}
 use Rattle.term_table.proofs.UniqueTerms.{coefficient_of-under, same_terms}
 use Rattle.term_table.proofs.Runs.{coefficient_of-merged}
 
 -- ---- one run, and a set that none of its sets is below
 
--- the first set is the set, or above it
-first_of_run : (ls : List Literal) (t : Term) → is_lt (set_cmp t.0 ls) ≡ false
-    → is_eq (set_cmp ls t.0) ≡ false → set_cmp ls t.0 ≡ Less
-first_of_run ls t not other = grind (arith, nat_tests, greater_back)
-
-equal_of : (o : Ordering) → is_eq o ≡ true → o ≡ Equal
-equal_of o e = grind (arith, nat_tests)
-
 Under-without : (ls : List Literal) (r : Run) → Ascends r → NotBelow ls r → Under ls (without ls r)
 unfolding IsStrictlySortedBy
 Under-without ls [] up not = tt
-Under-without ls (t ∷ ts) up not = go (is_eq (set_cmp ls t.0)) refl
-  where
-    go : (same : Bool) → is_eq (set_cmp ls t.0) ≡ same → Under ls (if same then ts else t ∷ ts)
-    go true e =
-        subst (λ (ks : List Literal). Under ks ts) (sym (same_set ls t.0 (equal_of (set_cmp ls t.0) e))) up.0
-    go false e =
-        let less = first_of_run ls t not e in (less, Under-further ls t.0 ts less up.0)
+Under-without ls (t ∷ ts) up not =
+    grind (arith, nat_tests, above ls t.0, Under-further, same_set ls t.0, equal_of)
 
 Ascends-without : (ls : List Literal) (r : Run) → Ascends r → Ascends (without ls r)
 unfolding IsStrictlySortedBy
@@ -35,15 +21,11 @@ Ascends-without ls r up = grind (arith, nat_tests)
 
 nonzero-without : (ls : List Literal) (r : Run) → All IsNonzero r → All IsNonzero (without ls r)
 nonzero-without ls [] some = some
-nonzero-without ls (t ∷ ts) some = go (is_eq (set_cmp ls t.0))
-  where
-    go : (same : Bool) → All IsNonzero (if same then ts else t ∷ ts)
-    go true = All-tail IsNonzero t ts some
-    go false = some
+nonzero-without ls (t ∷ ts) some =
+    let rest = All-tail IsNonzero t ts some in grind (arith, nat_tests)
 
 cond_small : (b : Bool) (z : ℤ) → unsigned_abs z ≤ 2 ^ 124 → unsigned_abs (cond b (pos 0) z) ≤ 2 ^ 124
-cond_small true z small = omega arith
-cond_small false z small = small
+cond_small b z small = grind (arith, nat_tests)
 
 coefficient_of-rest : (ks ls : List Literal) (r : Run) → is_eq (set_cmp ks ls) ≡ false
     → coefficient_of ks (without ls r) ≡ coefficient_of ks r
@@ -55,11 +37,9 @@ coefficient_of-rest ks ls (t ∷ ts) e =
 coefficient_of-without : (ks ls : List Literal) (r : Run) → Ascends r → NotBelow ls r
     → coefficient_of ks (without ls r) ≡ cond (is_eq (set_cmp ks ls)) (pos 0) (coefficient_of ks r)
 coefficient_of-without ks ls r up not =
-    let same : is_eq (set_cmp ks ls) ≡ true → coefficient_of ks (without ls r) ≡ pos 0 =
-    λ e. coefficient_of-under ks (without ls r)
-    (subst (λ (ms : List Literal). Under ms (without ls r)) (sym (same_set ks ls (equal_of (set_cmp ks ls) e)))
-    (Under-without ls r up not)) in
-    grind (arith, nat_tests, same, coefficient_of-rest ks ls r)
+    let under = Under-without ls r up not in
+    let rest = coefficient_of-rest ks ls r in
+    grind (arith, nat_tests, under, rest, coefficient_of-under, same_set ks ls, equal_of)
 
 -- ---- all runs
 
@@ -83,18 +63,14 @@ rests_taken P [] (suc k) all = tt
 rests_taken P (r ∷ rs) zero all = tt
 rests_taken P (r ∷ rs) (suc k) all = (all.0, rests_taken P rs k all.1)
 
-pub below_taken : (ls : List Literal) (rs : List Run) (k : ℕ) → AllByRecursion (NotBelow ls) rs
-    → AllByRecursion (NotBelow ls) (take k rs)
-below_taken ls rs k below = rests_taken (NotBelow ls) rs k below
-
 pub AreRests-without : (ls : List Literal) (rs : List Run) → AreRests rs → IsLeast ls rs
     → AreRests (map (without ls) rs)
 AreRests-without ls rs rests least = record {
   ordered = AreOrdered-without ls rs rests.ordered;
-  small =
-      λ ks k.
+  small = λ ks k.
       let ordered = rests_taken (λ (r : Run). Ascends r × All IsNonzero r) rs k rests.ordered in
-      rw (take-map, sum_over-without ks ls (take k rs) ordered (below_taken ls rs k least.below))
+      let below = rests_taken (NotBelow ls) rs k least.below in
+      rw (take-map, sum_over-without ks ls (take k rs) ordered below)
       (cond_small (is_eq (set_cmp ks ls)) (sum_over ks (take k rs)) (rests.small ks k));
 }
 
@@ -120,8 +96,7 @@ Under-entries ls (r ∷ rs) all not =
 -- what stands at the one set, and what stands at each other
 at_either : (same : Bool) (here all x y : ℤ) → (same ≡ true → all ≡ here)
     → x ≡ if_so same here +ℤ y → y ≡ cond same (pos 0) all → all ≡ x
-at_either true here all x y one inside rest = omega (arith, ints, one refl, inside, rest)
-at_either false here all x y one inside rest = omega (arith, ints, inside, rest)
+at_either same here all x y one inside rest = grind (arith, nat_tests, ints)
 
 -- the least set comes first, unless its sum is 0
 pub merged_terms-least : (ls : List Literal) (rs : List Run) → AreRests rs → IsLeast ls rs
@@ -159,13 +134,7 @@ fewer : (ls : List Literal) (rs : List Run) (k : ℕ) → Begins ls (get_or rs k
     → length (entries (map (without ls) rs)) < length (entries rs)
 fewer ls [] k b = absurd b
 fewer ls (r ∷ rs) zero b =
-    omega (
-      arith,
-      length-append (without ls r) (entries (map (without ls) rs)),
-      length-append r (entries rs),
-      length-begins ls r b,
-      length-all ls rs,
-    )
+    grind (arith, nat_tests, length-append, length-begins, length-all ls rs)
 fewer ls (r ∷ rs) (suc k) b =
     grind (arith, nat_tests, fewer ls rs k b, length-append, length-without)
 

@@ -144,8 +144,7 @@ module _ (now new ts us all : List Term) (i j : ℕ) (d : Term) (p : i < length 
       })
 
 -- the rests, one after the other, where one of them is none
-pub runs_all : (now new ts us all : List Term) (i j : ℕ)
-    → ((length ts ≤ i) ⊎ (length us ≤ j)) → new ≡ (now ++ drop i ts) ++ drop j us
-    → MergedRuns now (drop i ts) (drop j us) all → new ≡ all
+pub runs_all : (now new ts us all : List Term) (i j : ℕ) → ((length ts ≤ i) ⊎ (length us ≤ j)) → new
+    ≡ (now ++ drop i ts) ++ drop j us → MergedRuns now (drop i ts) (drop j us) all → new ≡ all
 runs_all now new ts us all i j over made m =
     grind (arith, nat_tests, append_assoc, drop_all, merged-none, append-nil)

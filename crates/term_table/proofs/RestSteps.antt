@@ -1,8 +1,7 @@
 -- Steps of loops over runs and their places.
-use Rattle.term_table.proofs.Common.{nat_tests, elements, ◌≡◌, ℕ, zero, suc, ◌+◌, ◌<◌, ◌≤◌, ◌^◌, true, false, arith, length, get_or, take, drop, set, map, List, [], ◌∷◌, ◌++◌, ◌⊎◌, inl, inr, sym, ap, ◌∙◌, subst, refl, ◌+ℤ◌, unsigned_abs, Option, None, Some, ⊤, replicate, fold, AllByRecursion, IsStrictlySortedBy, is_eq, is_lt, Ordering, ints, take_more, fold-append, total_by_more, Literal, Term, set_cmp, coefficient_of, Ascends, Run, entries, sum_over, AreOrdered, rests_of, head_of, lesser_of, least_in, first_weight, without, NotBelow, Begins, IsLeast, AreRests}
-use Rattle.std.specs.declared.cmp.Ordering.TheVariants.{Less, Equal, Greater}
+use Rattle.term_table.proofs.Common.{nat_tests, elements, ◌≡◌, ℕ, zero, suc, ◌+◌, ◌<◌, ◌≤◌, ◌^◌, true, false, arith, length, get_or, take, drop, set, map, List, [], ◌∷◌, ◌++◌, ◌⊎◌, inr, sym, ap, ◌∙◌, refl, ◌+ℤ◌, unsigned_abs, Option, None, Some, ⊤, replicate, fold, AllByRecursion, IsStrictlySortedBy, is_eq, is_lt, ints, take_more, fold-append, total_by_more, Literal, Term, set_cmp, coefficient_of, Ascends, Run, entries, sum_over, AreOrdered, rests_of, head_of, lesser_of, least_in, first_weight, without, NotBelow, Begins, IsLeast, AreRests}
 use Rattle.term_table.proofs.SetOrder.{set_total, set_itself, same_set}
-use Rattle.term_table.proofs.KeptTerms.{Under, Under-further, greater_back}
+use Rattle.term_table.proofs.KeptTerms.{Under-further, greater_back}
 use Rattle.term_table.proofs.UniqueTerms.{coefficient_of-under}
 use Rattle.term_table.proofs.MergingRuns.{less_back}
 
@@ -48,21 +47,8 @@ least_more rs k in' = grind (arith, nat_tests, take_more rs k, fold-append)
 
 not_less : (ls ks ms : List Literal) → is_lt (set_cmp ls ks) ≡ false → is_lt (set_cmp ks ms) ≡ false
     → is_lt (set_cmp ls ms) ≡ false
-not_less ls ks ms first second = go (set_cmp ls ms) refl (set_cmp ks ms) refl
-  where
-    clash : is_lt (set_cmp ls ks) ≡ true → ⊥
-    clash e = let both : true ≡ false = sym e ∙ first in cc
-
-    go : (o : Ordering) → set_cmp ls ms ≡ o → (p : Ordering) → set_cmp ks ms ≡ p → is_lt o ≡ false
-    go Equal e p f = refl
-    go Greater e p f = refl
-    go Less e Less f = let both : true ≡ false = sym (ap is_lt f) ∙ second in absurd cc
-    go Less e Equal f =
-        let same : set_cmp ls ks ≡ Less =
-        ap (λ (ns : List Literal). set_cmp ls ns) (same_set ks ms f) ∙ e in
-        absurd (clash (ap is_lt same))
-    go Less e Greater f =
-        absurd (clash (ap is_lt (set_total.trans ls ms ks e (greater_back ks ms f))))
+not_less ls ks ms first second =
+    grind (arith, nat_tests, set_total.trans ls ms ks, same_set ks ms, greater_back ks ms)
 
 less_turned : (ls ks : List Literal) → is_lt (set_cmp ls ks) ≡ true → is_lt (set_cmp ks ls) ≡ false
 less_turned ls ks less = grind (arith, nat_tests, less_back)
@@ -87,27 +73,10 @@ later t r rs (k, b) = (suc k, b)
 
 found : (o : Option Term) (rs : List Run) (t : Term) → least_from o rs ≡ Some t → Found o rs t
 found o [] t e = record { below = tt; start = rw e (self_up t.0); place = inr e }
-found None ([] ∷ rs) t e =
-    let rest = found None rs t e in
-    record {
-      below = (tt, rest.below);
-      start = tt;
-      place = elim rest.place [ inl p ↦ inl (later t [] rs p) | inr f ↦ absurd cc ];
-    }
+found None ([] ∷ rs) t e = grind (arith, nat_tests, found None rs t e, later t [] rs)
 found None ((u ∷ us) ∷ rs) t e =
-    let rest = found (Some u) rs t e in
-    record {
-      below = (rest.start, rest.below);
-      start = tt;
-      place = elim rest.place [ inl p ↦ inl (later t (u ∷ us) rs p) | inr f ↦ inl (0, ap (λ (v : Term). v.0) (same_some u t f)) ];
-    }
-found (Some s) ([] ∷ rs) t e =
-    let rest = found (Some s) rs t e in
-    record {
-      below = (tt, rest.below);
-      start = rest.start;
-      place = elim rest.place [ inl p ↦ inl (later t [] rs p) | inr f ↦ inr f ];
-    }
+    grind (arith, nat_tests, found (Some u) rs t e, later t (u ∷ us) rs, same_some u t)
+found (Some s) ([] ∷ rs) t e = grind (arith, nat_tests, found (Some s) rs t e, later t [] rs)
 found (Some s) ((u ∷ us) ∷ rs) t e =
     grind (arith, nat_tests, found (Some u) rs t, found (Some s) rs t, not_less, less_turned, later, same_some)
 
@@ -147,14 +116,9 @@ pub weight_is : (ls : List Literal) (r : Run) → Ascends r → NotBelow ls r
 unfolding IsStrictlySortedBy
 weight_is ls [] up not = refl
 weight_is ls (t ∷ ts) up not =
-    let nothing = coefficient_of-under ls ts (under (set_cmp ls t.0) refl) in
-    omega (arith, ints, nothing)
-  where
-    under : (o : Ordering) → set_cmp ls t.0 ≡ o → Under ls ts
-    under Less e = Under-further ls t.0 ts e up.0
-    under Equal e = subst (λ (ks : List Literal). Under ks ts) (sym (same_set ls t.0 e)) up.0
-    under Greater e =
-        let both : true ≡ false = sym (ap is_lt (greater_back ls t.0 e)) ∙ not in absurd cc
+    let further = Under-further ls t.0 ts in
+    let back = greater_back ls t.0 in
+    grind (arith, nat_tests, ints, coefficient_of-under, further, back, same_set ls t.0)
 
 abbrev half_taken : List Literal → ℕ → List Run → List Run
 half_taken ls k rs = map (without ls) (take k rs) ++ drop k rs
@@ -179,11 +143,10 @@ module _ (ls : List Literal) (places : List ℕ) (runs rests : List Run) (k : �
       grind (arith, nat_tests, rest_at places runs k d e in' there, taken_at ls rests k)
 
   -- what it leaves
-  pub step_taken : (next : ℕ) → length runs ≡ length rests
-      → rests_of places runs ≡ map (without ls) (take k rests) ++ drop k rests
-      → drop next (get_or runs k e) ≡ without ls (get_or rests k [])
-      → rests_of (set places k next) runs
-      ≡ map (without ls) (take (k + 1) rests) ++ drop (k + 1) rests
+  pub step_taken : (next : ℕ) → length runs ≡ length rests → rests_of places runs ≡ map (without ls)
+      (take k rests) ++ drop k rests → drop next (get_or runs k e) ≡ without ls (get_or rests k [])
+      → rests_of (set places k next) runs ≡ map (without ls)
+      (take (k + 1) rests) ++ drop (k + 1) rests
   step_taken next size taken left =
       let place : k + 1 ≡ suc k = omega arith in
       grind (arith, nat_tests, elements, rest_set, taken_suc)

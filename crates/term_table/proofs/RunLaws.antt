@@ -2,8 +2,8 @@
 use Rattle.term_table.proofs.Common.{nat_tests, ◌≡◌, ◌*◌, ◌≤◌, ◌^◌, arith, ap, subst, ◌∙◌, refl, List, [], ◌∷◌, ◌++◌, length, reverse, unsigned_abs, All, AllByRecursion, is_eq, reverse-reverse, Term, set_cmp, Run, settled_with, settled_back, settled, SmallSums, AreOrdered, MergingSums, MergingKeepsTerms, SettlingDrops, SettlingMerges, SettlingStays, SettlingEnds, EntriesAreSmall}
 use Rattle.term_table.proofs.Additions.{weight-with_additions}
 use Rattle.term_table.proofs.KeptTerms.{AreTerms-more}
-use Rattle.term_table.proofs.Runs.{reverse_more, reverse_push, settled_is, back_each, SmallSums-turned, Each-turned}
-use Rattle.term_table.proofs.SettlingRuns.{settled_long, ordered_each, entries_small}
+use Rattle.term_table.proofs.Runs.{ordered_each, reverse_more, reverse_push, settled_is, back_each, SmallSums-turned, Each-turned}
+use Rattle.term_table.proofs.SettlingRuns.{settled_long, entries_small}
 
 pub merging_sums : MergingSums
 merging_sums ls older newer = weight-with_additions (λ ks. is_eq (set_cmp ls ks)) older newer

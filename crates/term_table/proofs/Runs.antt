@@ -1,5 +1,5 @@
 -- Runs that are listed the newest first: what their sums are, and what settling keeps of them.
-use Rattle.term_table.proofs.Common.{add-one, nat_tests, ◌≡◌, ℕ, zero, suc, ◌+◌, ◌*◌, ◌<◌, ◌≤◌, ◌^◌, Bool, true, false, cond, arith, sym, ap, subst, ◌∙◌, refl, List, [], ◌∷◌, ◌++◌, length, get_or, take, reverse, ℤ, pos, ◌+ℤ◌, unsigned_abs, All, inl, inr, if◌then◌else◌, AllByRecursion, Decides, int_eq, is_eq, ints, cases_lt, Decides-ltb, not_from_Decides, take_more, reverse-append, length-reverse, take-append-le, take_all, get_or_append_left, get_or_push, length_push, append-nil, All-nil, All-cons, All-push, All-append, All-get_or, All-head, recursion_from_All, if_so, total_by-append, total_by-flat_map, size-plus, Literal, Term, set_cmp, terms_total, coefficient_of, with_addition, with_additions, AreTerms, IsTermSet, Run, entries, merged_terms, sum_over, merged, is_empty, is_long, settled_with, settled_back, settled, with_entry, one_run, AreRuns, AreRests, SmallSums, Halve, Each, AreOrdered}
+use Rattle.term_table.proofs.Common.{set, add-one, nat_tests, ◌≡◌, ℕ, zero, suc, ◌+◌, ◌*◌, ◌<◌, ◌≤◌, ◌^◌, Bool, true, false, cond, arith, sym, ap, subst, ◌∙◌, refl, List, [], ◌∷◌, ◌++◌, length, get_or, take, reverse, ℤ, pos, ◌+ℤ◌, unsigned_abs, All, inl, inr, AllByRecursion, int_eq, is_eq, ints, cases_lt, take_more, reverse-append, length-reverse, take-append-le, take_all, get_or_append_left, get_or_push, length_push, append-nil, All-nil, All-cons, All-push, All-append, All-get_or, All-head, recursion_from_All, if_so, total_by-append, total_by-flat_map, size-plus, Literal, Term, set_cmp, terms_total, coefficient_of, with_addition, with_additions, AreTerms, IsTermSet, Run, entries, merged_terms, sum_over, merged, is_empty, settled_with, settled_back, settled, with_entry, one_run, AreRuns, AreRests, SmallSums, Halve, Each, AreOrdered}
 use Rattle.term_table.proofs.Additions.{weight-with_additions, coefficient_of-with_additions, terms_total-cons}
 use Rattle.term_table.proofs.KeptTerms.{OfSet, AreTerms-nil, AreTerms-with_addition, AreTerms-more, AreTerms-with_additions, Ascends-with_additions, Ascends-more, nonzero-with_additions, nonzero-more}
 use Rattle.term_table.proofs.UniqueTerms.{same_terms}
@@ -44,19 +44,10 @@ pub sum_over-settled_with : (ls : List Literal) (last : Run) (older : List Run)
     → sum_over ls (settled_with last older) ≡ sum_over ls (last ∷ older)
 sum_over-settled_with ls last [] = grind (arith, nat_tests)
 sum_over-settled_with ls last (before ∷ older) =
-    go (is_empty last) (is_long before last) refl (sum_over-settled_with ls before older)
-    (sum_over-settled_with ls (merged before last) older)
-  where
-    go : (empty long : Bool) → is_empty last ≡ empty
-        → sum_over ls (settled_with before older) ≡ sum_over ls (before ∷ older)
-        → sum_over ls (settled_with (merged before last) older)
-        ≡ sum_over ls (merged before last ∷ older) → sum_over ls (if empty
-        then settled_with before older
-        else if long then settled_with (merged before last) older else last ∷ before ∷ older)
-        ≡ sum_over ls (last ∷ before ∷ older)
-    go true long e dropped joined = omega (arith, ints, dropped, none_of_empty ls last e)
-    go false true e dropped joined = joined ∙ sum_over-merged ls last before older
-    go false false e dropped joined = refl
+    let dropped = sum_over-settled_with ls before older in
+    let joined = sum_over-settled_with ls (merged before last) older in
+    let both = sum_over-merged ls last before older in
+    grind (arith, nat_tests, ints, none_of_empty ls last)
 
 settled_back_sum : (ls : List Literal) (rs : List Run)
     → sum_over ls (settled_back rs) ≡ sum_over ls rs
@@ -73,7 +64,7 @@ settled_is runs entry = ap (λ rs. reverse (settled_back rs)) (reverse_push runs
 
 -- ---- what is kept, of runs that are listed the newest first
 
-Halve-tail : (r : Run) (rs : List Run) → Halve (r ∷ rs) → Halve rs
+pub Halve-tail : (r : Run) (rs : List Run) → Halve (r ∷ rs) → Halve rs
 Halve-tail r [] h = tt
 Halve-tail r (s ∷ rs) h = h.2
 
@@ -84,53 +75,28 @@ some_of (t ∷ ts) e = omega arith
 Halve-settled_with : (last : Run) (older : List Run) → Halve older → Halve (settled_with last older)
 Halve-settled_with last [] h = grind (arith, nat_tests)
 Halve-settled_with last (before ∷ older) h =
-    go (is_empty last) (is_long before last) refl (Decides-ltb (length before) (2 * length last))
-    (Halve-settled_with before older (Halve-tail before older h))
-    (Halve-settled_with (merged before last) older (Halve-tail before older h))
-  where
-    go : (empty long : Bool) → is_empty last ≡ empty
-        → Decides long (length before < 2 * length last)
-        → Halve (settled_with before older) → Halve (settled_with (merged before last) older)
-        → Halve (if empty
-        then settled_with before older
-        else if long then settled_with (merged before last) older else last ∷ before ∷ older)
-    go true long e d dropped joined = dropped
-    go false true e d dropped joined = joined
-    go false false e d dropped joined =
-        let short = not_from_Decides false d refl in (some_of last e, omega (arith, short), h)
+    let rest = Halve-tail before older h in
+    let dropped = Halve-settled_with before older rest in
+    let joined = Halve-settled_with (merged before last) older rest in
+    grind (arith, nat_tests, some_of last)
 
 SmallSums-settled_with : (last : Run) (older : List Run) → SmallSums (last ∷ older)
     → SmallSums (settled_with last older)
 SmallSums-settled_with last [] small = grind (arith, nat_tests)
 SmallSums-settled_with last (before ∷ older) small =
-    go (is_empty last) (is_long before last) (SmallSums-settled_with before older small.1)
-    (SmallSums-settled_with (merged before last) older (smaller, small.1.1))
-  where
-    smaller : (ls : List Literal) → unsigned_abs (sum_over ls (merged before last ∷ older)) ≤ 2 ^ 124
-    smaller ls = rw (sum_over-merged ls last before older) (small.0 ls)
-
-    go : (empty long : Bool) → SmallSums (settled_with before older)
-        → SmallSums (settled_with (merged before last) older) → SmallSums (if empty
-        then settled_with before older
-        else if long then settled_with (merged before last) older else last ∷ before ∷ older)
-    go true long dropped joined = dropped
-    go false true dropped joined = joined
-    go false false dropped joined = small
+    let dropped = SmallSums-settled_with before older small.1 in
+    let joined = SmallSums-settled_with (merged before last) older
+    (λ ls. rw (sum_over-merged ls last before older) (small.0 ls), small.1.1) in
+    grind (arith, nat_tests)
 
 Each-settled_with : (width : ℕ) (last : Run) (older : List Run) → AreTerms width last
     → Each width older → Each width (settled_with last older)
 Each-settled_with width last [] here each = grind (arith, nat_tests)
 Each-settled_with width last (before ∷ older) here each =
-    go (is_empty last) (is_long before last) (Each-settled_with width before older each.0 each.1)
-    (Each-settled_with width (merged before last) older (AreTerms-more width before last each.0 here.sets) each.1)
-  where
-    go : (empty long : Bool) → Each width (settled_with before older)
-        → Each width (settled_with (merged before last) older) → Each width (if empty
-        then settled_with before older
-        else if long then settled_with (merged before last) older else last ∷ before ∷ older)
-    go true long dropped joined = dropped
-    go false true dropped joined = joined
-    go false false dropped joined = (here, each)
+    let dropped = Each-settled_with width before older each.0 each.1 in
+    let more = AreTerms-more width before last each.0 here.sets in
+    let joined = Each-settled_with width (merged before last) older more each.1 in
+    grind (arith, nat_tests)
 
 -- ---- the same of runs that are listed the oldest first
 
@@ -147,9 +113,8 @@ turned runs P none more zero up = none
 turned runs P none more (suc n) up =
     grind (arith, nat_tests, turned runs P none more n (omega arith))
 
-turned_all : (runs : List Run) (P : List Run → Type 0) → P []
-    → ((n : ℕ) → n < length runs → P (reverse (take n runs)) → P (reverse (take (n + 1) runs)))
-    → P (reverse runs)
+turned_all : (runs : List Run) (P : List Run → Type 0) → P [] → ((n : ℕ) → n < length runs
+    → P (reverse (take n runs)) → P (reverse (take (n + 1) runs))) → P (reverse runs)
 turned_all runs P none more =
     subst (λ (rs : List Run). P (reverse rs)) (take_all (length runs) runs (omega arith))
     (turned runs P none more (length runs) (omega arith))
@@ -158,9 +123,9 @@ pub SmallSums-turned : (width : ℕ) (runs : List Run) → AreRuns width runs �
 SmallSums-turned width runs kept =
     turned_all runs SmallSums tt (λ n in' before.
     let list = reverse_taken runs n in' in
-    let small : (ls : List Literal) → unsigned_abs (sum_over ls (get_or runs n [] ∷ reverse (take n runs))) ≤ 2 ^ 124 =
-    λ ls. omega (arith, ints, kept.small ls (n + 1), sum_over-reverse ls (take (n + 1) runs), ap (sum_over ls) list) in
-    rw list (small, before))
+    let back = λ (ls : List Literal). sum_over-reverse ls (take (n + 1) runs) in
+    rw list
+    (λ ls. omega (arith, ints, kept.small ls (n + 1), back ls, ap (sum_over ls) list), before))
 
 pub Each-turned : (width : ℕ) (runs : List Run) → AreRuns width runs → Each width (reverse runs)
 Each-turned width runs kept =
@@ -194,7 +159,7 @@ back_some : (rs : List Run) → Halve rs → All (λ (r : Run). 1 ≤ length r) 
 back_some [] h = All-nil (λ (r : Run). 1 ≤ length r)
 back_some (r ∷ []) h = All-cons (λ (r : Run). 1 ≤ length r) r [] h (All-nil (λ (r : Run). 1 ≤ length r))
 back_some (r ∷ s ∷ rs) h =
-    subst (All (λ (r : Run). 1 ≤ length r)) (sym (reverse_more r (s ∷ rs)))
+    rw (reverse_more r (s ∷ rs))
     (All-push (λ (r : Run). 1 ≤ length r) (reverse (s ∷ rs)) r (back_some (s ∷ rs) h.2) h.0)
 
 back_small : (rs : List Run) → SmallSums rs → (ls : List Literal) (k : ℕ)
@@ -213,10 +178,9 @@ back_small (r ∷ rs) small ls k =
           rw front (back_small rs small.1 ls k)
     ]
 
-halve_push : (xs : List Run) (x : Run)
-    → ((k : ℕ) → k + 1 < length xs → 2 * length (get_or xs (k + 1) []) ≤ length (get_or xs k []))
-    → ((n : ℕ) → n + 1 ≡ length xs → 2 * length x ≤ length (get_or xs n []))
-    → (k : ℕ) → k + 1 < length (xs ++ x ∷ [])
+halve_push : (xs : List Run) (x : Run) → ((k : ℕ) → k + 1 < length xs
+    → 2 * length (get_or xs (k + 1) []) ≤ length (get_or xs k [])) → ((n : ℕ) → n + 1 ≡ length xs
+    → 2 * length x ≤ length (get_or xs n [])) → (k : ℕ) → k + 1 < length (xs ++ x ∷ [])
     → 2 * length (get_or (xs ++ x ∷ []) (k + 1) []) ≤ length (get_or (xs ++ x ∷ []) k [])
 halve_push xs x before last k in' =
     grind (arith, nat_tests, length_push, get_or_append_left, cases_lt, get_or_push)
@@ -284,17 +248,11 @@ entry_terms width ls c set some =
     (AreTerms-with_addition width [] ls c (AreTerms-nil width) set)
 
 pub AreRuns-with_entry : (width : ℕ) (runs : List Run) (ls : List Literal) (c : ℤ)
-    → AreRuns width runs → IsTermSet width ls
-    → terms_total (merged_terms runs) + unsigned_abs c ≤ 2 ^ 124
-    → AreRuns width (with_entry runs ls c)
-AreRuns-with_entry width runs ls c kept set small = go (int_eq c (pos 0)) refl
-  where
-    go : (zero : Bool) → int_eq c (pos 0) ≡ zero
-        → AreRuns width (cond zero runs (settled (runs ++ ((ls, c) ∷ []) ∷ [])))
-    go true e = kept
-    go false e =
-        AreRuns-settled width runs ((ls, c) ∷ []) kept (entry_terms width ls c set e)
-        (omega (arith, small, terms_total-cons (ls, c) []))
+    → AreRuns width runs → IsTermSet width ls → terms_total (merged_terms runs) + unsigned_abs c
+    ≤ 2 ^ 124 → AreRuns width (with_entry runs ls c)
+AreRuns-with_entry width runs ls c kept set small =
+    let settle = AreRuns-settled width runs ((ls, c) ∷ []) kept in
+    grind (arith, nat_tests, settle, entry_terms width ls c set, terms_total-cons)
 
 -- the sums after an addition
 sum_over-with_entry : (ks : List Literal) (runs : List Run) (ls : List Literal) (c : ℤ)
@@ -353,16 +311,9 @@ pub AreRuns-one_run : (width : ℕ) (ts : List Term) → AreTerms width ts → t
     → AreRuns width (one_run ts)
 AreRuns-one_run width [] terms small = AreRuns-nil width
 AreRuns-one_run width (t ∷ ts) terms small =
-    AreRuns-back width ((t ∷ ts) ∷ []) (terms, tt) (omega arith) (
-      λ ls. omega (
-        arith,
-        ints,
-        sum_small ls ((t ∷ ts) ∷ []),
-        ap terms_total (merged_terms-one_run width (t ∷ ts) terms),
-        small,
-      ),
-      tt,
-    )
+    let total = ap terms_total (merged_terms-one_run width (t ∷ ts) terms) in
+    AreRuns-back width ((t ∷ ts) ∷ []) (terms, tt) (omega arith)
+    (λ ls. omega (arith, ints, sum_small ls ((t ∷ ts) ∷ []), total, small), tt)
 
 -- ---- what an iterator asks
 
@@ -380,12 +331,13 @@ merged_terms-only width (r ∷ []) only kept one here =
     let terms = All-head (AreTerms width) r [] kept.terms in
     ap (with_additions []) (append-nil r) ∙ merged-none r terms.ordered terms.nonzero ∙ sym here
 
+-- ordered runs without 0, listed one after another
+pub ordered_each : (width : ℕ) (rs : List Run) → Each width rs → AreOrdered rs
+ordered_each width [] each = tt
+ordered_each width (r ∷ rs) each = ((each.0.ordered, each.0.nonzero), ordered_each width rs each.1)
+
 pub AreRests-kept : (width : ℕ) (runs : List Run) → AreRuns width runs → AreRests runs
 AreRests-kept width runs kept = record {
-  ordered = ordered runs (recursion_from_All (AreTerms width) runs kept.terms);
+  ordered = ordered_each width runs (recursion_from_All (AreTerms width) runs kept.terms);
   small = kept.small;
 }
-  where
-    ordered : (rs : List Run) → Each width rs → AreOrdered rs
-    ordered [] each = tt
-    ordered (r ∷ rs) each = ((each.0.ordered, each.0.nonzero), ordered rs each.1)

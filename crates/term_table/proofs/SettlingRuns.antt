@@ -1,10 +1,10 @@
 -- Steps of settling: the last run is merged with the one before it, or nothing more is done.
-use Rattle.term_table.proofs.Common.{nat_tests, ◌≡◌, ◌≢◌, ℕ, ◌+◌, ◌*◌, ◌<◌, ◌≤◌, ◌^◌, false, arith, length, get_or, take, reverse, List, [], ◌∷◌, ◌++◌, sym, ap, ◌∙◌, subst, append-nil, ℤ, pos, ◌+ℤ◌, unsigned_abs, All, ⊤, AllByRecursion, IsStrictlySortedBy, is_eq, ints, take_all, reverse-reverse, All-nil, All-cons, All-from_recursion, if_so, Literal, Term, set_cmp, terms_total, coefficient_of, Ascends, Run, merged_terms, sum_over, merged, is_long, settled_with, settled, one_run, AreRuns, SmallSums, Halve, Each, AreOrdered, AreSettling}
+use Rattle.term_table.proofs.Common.{nat_tests, ◌≡◌, ◌≢◌, ℕ, ◌+◌, ◌*◌, ◌<◌, ◌≤◌, ◌^◌, arith, length, get_or, take, reverse, List, [], ◌∷◌, ◌++◌, sym, ap, ◌∙◌, subst, append-nil, ℤ, pos, unsigned_abs, All, ⊤, AllByRecursion, IsStrictlySortedBy, ints, take_all, reverse-reverse, All-nil, All-cons, All-from_recursion, Literal, Term, terms_total, coefficient_of, Ascends, Run, merged_terms, sum_over, merged, settled_with, settled, one_run, AreRuns, SmallSums, Halve, AreOrdered, AreSettling}
 use Rattle.term_table.proofs.Additions.{terms_total-cons}
 use Rattle.term_table.proofs.KeptTerms.{IsNonzero, Under, Ascends-more, nonzero-more}
 use Rattle.term_table.proofs.UniqueTerms.{coefficient_of-first}
 use Rattle.term_table.proofs.MergingRuns.{less_back}
-use Rattle.term_table.proofs.Runs.{reverse_more, sum_over-merged, settled_is, reverse_taken, SmallSums-run, Each-turned, Halve-turned}
+use Rattle.term_table.proofs.Runs.{ordered_each, Halve-tail, reverse_more, sum_over-merged, settled_is, reverse_taken, SmallSums-run, Each-turned, Halve-turned}
 
 -- ---- how large an entry can be
 
@@ -14,23 +14,16 @@ unfolding IsStrictlySortedBy
 entry_is [] up = tt
 entry_is (t ∷ ts) up = (coefficient_of-first t ts up.0, later ts up.0 (entry_is ts up.1))
   where
-    later : (us : List Term) → Under t.0 us
-        → AllByRecursion (λ (u : Term). coefficient_of u.0 ts ≡ u.1) us
-        → AllByRecursion (λ (u : Term). coefficient_of u.0 (t ∷ ts) ≡ u.1) us
+    later : (us : List Term) → Under t.0 us → AllByRecursion (λ (u : Term). coefficient_of u.0 ts
+        ≡ u.1) us → AllByRecursion (λ (u : Term). coefficient_of u.0 (t ∷ ts) ≡ u.1) us
     later [] under all = tt
     later (u ∷ us) under all =
-        let other : is_eq (set_cmp u.0 t.0) ≡ false = ap is_eq (less_back t.0 u.0 under.0) in
-        let nothing : if_so (is_eq (set_cmp u.0 t.0)) t.1 ≡ pos 0 = ap (λ b. if_so b t.1) other in
-        (omega (arith, ints, nothing, all.0), later us under.1 all.1)
+        let rest = later us under.1 all.1 in grind (arith, nat_tests, ints, less_back t.0 u.0)
 
 tail_small : (rs : List Run) → SmallSums rs → (ls : List Literal)
     → unsigned_abs (sum_over ls rs) ≤ 2 ^ 124
 tail_small [] small ls = omega arith
 tail_small (r ∷ rs) small ls = small.0 ls
-
-part_small : (a b : ℤ) → unsigned_abs (a +ℤ b) ≤ 2 ^ 124 → unsigned_abs b ≤ 2 ^ 124
-    → unsigned_abs a ≤ 2 ^ 125
-part_small a b whole part = omega (arith, ints, whole, part)
 
 pub entries_small : (r : Run) (rs : List Run) → Ascends r → SmallSums (r ∷ rs)
     → All (λ (t : Term). unsigned_abs t.1 ≤ 2 ^ 125) r
@@ -41,17 +34,13 @@ entries_small r rs up small =
         → AllByRecursion (λ (t : Term). unsigned_abs t.1 ≤ 2 ^ 125) ts
     each [] all = tt
     each (t ∷ ts) all =
-        let here = part_small (coefficient_of t.0 r) (sum_over t.0 rs) (small.0 t.0) (tail_small rs small.1 t.0) in
-        (subst (λ (c : ℤ). unsigned_abs c ≤ 2 ^ 125) all.0 here, each ts all.1)
+        (omega (arith, ints, all.0, small.0 t.0, tail_small rs small.1 t.0), each ts all.1)
 
 -- ---- one step
 
 pub settled_long : (last before : Run) (older : List Run) → length before < 2 * length last
     → settled_with last (before ∷ older) ≡ settled_with (merged before last) older
 settled_long last before older long = grind (arith, nat_tests)
-
-pub not_long : (last before : Run) → 2 * length last ≤ length before → is_long before last ≡ false
-not_long last before short = grind (arith, nat_tests)
 
 -- the last run is short enough for the one before it
 abbrev pub Fits : Run → List Run → Type 0
@@ -85,10 +74,6 @@ settling_start runs entry all =
       halve = rw whole all.halve;
     }
 
-Halve-rest : (r : Run) (rs : List Run) → Halve (r ∷ rs) → Halve rs
-Halve-rest r [] h = tt
-Halve-rest r (s ∷ rs) h = h.2
-
 pub settling_more : (runs : List Run) (entry last new : Run) (kept next : ℕ) → kept ≡ next + 1
     → kept ≤ length runs → length (get_or runs next []) < 2 * length last
     → new ≡ merged (get_or runs next []) last → Settling runs entry last kept
@@ -103,7 +88,7 @@ settling_more runs entry last new kept next down up long made before =
       steps = before.steps ∙ ap (settled_with last) list ∙ settled_long last first older long;
       ordered = ((Ascends-more first last ordered.1.0.0, nonzero-more first last ordered.1.0.1), ordered.1.1);
       small = (λ ls. rw (sum_over-merged ls last first older) (small.0 ls), small.1.1);
-      halve = Halve-rest first older (rw list at before.halve);
+      halve = Halve-tail first older (rw list at before.halve);
     })
 
 -- what the loop merges has small entries
@@ -134,10 +119,6 @@ pub fits_before : (runs : List Run) (last : Run) (kept next : ℕ) → kept ≡ 
 fits_before runs last kept next down up short = grind (arith, nat_tests, reverse_taken)
 
 -- ---- an addition to a table's runs
-
-pub ordered_each : (width : ℕ) (rs : List Run) → Each width rs → AreOrdered rs
-ordered_each width [] each = tt
-ordered_each width (r ∷ rs) each = ((each.0.ordered, each.0.nonzero), ordered_each width rs each.1)
 
 -- a run of sums can be put after the runs
 pub settling_run : (width : ℕ) (runs : List Run) (entry : Run) → AreRuns width runs → Ascends entry

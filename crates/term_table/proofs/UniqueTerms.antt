@@ -2,10 +2,10 @@
 --
 -- The first set of a list has the coefficient of the first term, and a set below the first has 0.
 -- So the first sets are equal, with equal coefficients, and the rest follows.
-use Rattle.term_table.proofs.Common.{nat_tests, ◌≡◌, ◌≢◌, ℕ, arith, sym, ap, ◌∙◌, refl, List, [], ◌∷◌, ℤ, pos, All, IsStrictlySortedBy, is_eq, Ordering, ints, All-head, All-tail, if_so, Literal, Term, set_cmp, coefficient_of, Ascends, AreTerms}
+use Rattle.term_table.proofs.Common.{nat_tests, ◌≡◌, ℕ, arith, sym, ap, ◌∙◌, refl, List, [], ◌∷◌, ℤ, pos, All, IsStrictlySortedBy, is_eq, Ordering, ints, All-head, All-tail, if_so, Literal, Term, set_cmp, coefficient_of, Ascends, AreTerms}
 use Rattle.std.specs.declared.cmp.Ordering.TheVariants.{Less, Equal, Greater}
 use Rattle.term_table.proofs.SetOrder.{same_set, set_itself}
-use Rattle.term_table.proofs.KeptTerms.{Under, Under-further, greater_back}
+use Rattle.term_table.proofs.KeptTerms.{IsNonzero, Under, Under-further, greater_back}
 
 -- what the first term gives a set
 abbrev given : List Literal → Term → ℤ
@@ -20,9 +20,6 @@ coefficient_of-under ls (t ∷ ts) under =
 pub coefficient_of-first : (t : Term) (ts : List Term) → Under t.0 ts
     → coefficient_of t.0 (t ∷ ts) ≡ t.1
 coefficient_of-first t ts under = grind (arith, nat_tests, set_itself, coefficient_of-under)
-
-abbrev IsNonzero : Term → Type 0
-IsNonzero t = t.1 ≢ pos 0
 
 -- a set that one list begins with, and that is under the other
 no_first : (t : Term) (ts us : List Term) → Under t.0 ts → Under t.0 us → All IsNonzero (t ∷ ts)
@@ -50,9 +47,8 @@ same_terms (t ∷ ts) (u ∷ us) a b m n same =
         absurd (no_first u us (t ∷ ts) b.0 (back, Under-further u.0 t.0 ts back a.0) n (sym (same u.0)))
     go Equal e rest =
         let set = same_set t.0 u.0 e in
-        let value : t.1 ≡ u.1 =
-        sym (coefficient_of-first t ts a.0) ∙ same t.0
-        ∙ ap (λ ls. coefficient_of ls (u ∷ us)) set ∙ coefficient_of-first u us b.0 in
+        let one = coefficient_of-first t ts a.0 in
+        let value : t.1 ≡ u.1 = cc (set, one, same t.0, coefficient_of-first u us b.0) in
         let first : t ≡ u = λ i. (set i, value i) in
         let others =
         rest (λ ls. let one : given ls t ≡ given ls u = ap (given ls) first in omega (arith, ints, same ls)) in

@@ -1,29 +1,16 @@
 -- What the proofs of this crate stand on, of std and of the crates below.
-pub use Rattle.std.proofs.Common.{◌≡◌, ℕ, ◌+◌, ◌<◌, ◌^◌, List, [], ◌∷◌, ◌++◌, All, unsigned_abs, sym, subst, arith, Bool, false, cond, not, ◌&&◌, ◌||◌, take, ◌+ℤ◌, int_lt, refl, ap, ◌≢◌, Result, Ok, Err, OnOk, zero, suc, ◌≤◌, true, map, Some, ℤ, pos, ◌-ℤ◌, negsuc, int_le, ◌∙◌, get_or, ◌≤ℤ◌, neg_ℤ, length, Option, None, IfOk, codes, ◌-◌, drop, fold, unwrap_or, ◌*ℤ◌, ◌*◌, eqb, rules, to_z, of_z}
-pub use Rattle.std.specs.List.{AllByRecursion, list_any, flat_map, slice_get, sum_by}
+pub use Rattle.std.proofs.Common.{◌≡◌, ℕ, ◌+◌, ◌<◌, ◌^◌, List, [], ◌∷◌, ◌++◌, All, unsigned_abs, sym, subst, arith, Bool, false, cond, not, ◌&&◌, ◌||◌, take, ◌+ℤ◌, int_lt, refl, ap, ◌≢◌, Result, Ok, Err, OnOk, zero, suc, ◌≤◌, true, map, Some, ℤ, pos, ◌-ℤ◌, int_le, ◌∙◌, get_or, ◌≤ℤ◌, neg_ℤ, length, Option, None, IfOk, codes, drop, fold, unwrap_or, ◌*ℤ◌, ◌*◌, eqb, rules, to_z, of_z}
+pub use Rattle.opb_reader.proofs.Common.{AllByRecursion, list_any, flat_map, sum_by-append, sum_by-cons, ProblemContent, constraint_total, problem_total, sum_of, fails, negated, problem_cost, products_total, if_so, all_hold, blank, with_variables, Word, ◌>>=◌, next_of, end_line, Fails, nat_tests, constraint_of, is_met, compared, put_all, w128, word_of, words_of, err_from_is_err_and, few_words}
+pub use Rattle.problem_form.proofs.Common.{slice_get, sum_by, IsNormalProduct, product_value, IsSound, int_eq, total_by, positive_part, holds, IsLiteralSet, is_empty, kept_product, product_constant, normal_constraint, total_by-append, size-plus, list_any-append, drop-at, zip_with}
 pub use Rattle.std.proofs.lemmas.List.{append_assoc, append-nil, get_or-take, map-append, length-append, take-append-le, take_all, length-map, drop_more}
-pub use Rattle.std.proofs.lemmas.List.Sums.{sum_by-append, sum_by-cons}
 pub use Rattle.std.proofs.lemmas.List.Elements.{All-from_recursion, recursion_from_All, All-nil, All-weaker}
-pub use Rattle.literal_lists.specs.declared.literal.Literal.{Literal}
-pub use Rattle.problem_form.specs.declared.terms.Product.{Product}
-pub use Rattle.problem_form.specs.declared.terms.Constraint.{Constraint}
-pub use Rattle.problem_form.specs.Problems.{ProblemContent, constraint_total, problem_total, IsNormalProduct, sum_of, fails, negated, product_value, problem_cost, products_total}
-pub use Rattle.problem_form.specs.Fields.{IsSound}
 pub use Rattle.wbo_reader.specs.Wbo.{IsNormalConstraint, soft_total, WboContent, paid, paid_for, reaches_top, wbo_cost, IsWbo, wbo_total, IsNormalSource}
 pub use Rattle.wbo_reader.specs.Rewriting.{with_products, with_rows, bit_product, least_part, least_sum, eased, eased_row, merged, hard_rows, all_of, rewritten, rewritten_constraints, extended, eased_rows, top_rows, weighed_bits, RewritesItsSource, CarriesAssignments, RewrittenIsSound, UpperIsSoftWeights, top_row, rows_of}
 pub use Rattle.std.specs.Prelude.{if◌then◌else◌, bytes_eq, nat_le, count_by, ⊤}
-pub use Rattle.std.specs.Ordering.{int_eq}
-pub use Rattle.base.specs.Sums.{if_so, total_by, positive_part}
-pub use Rattle.literal_lists.specs.Literals.{holds, all_hold, IsLiteralSet}
 pub use Rattle.std.proofs.lemmas.Int.{ints, by_lt_z, to_z-of_z}
-pub use Rattle.problem_form.specs.NormalForm.{is_empty, kept_product, product_constant, normal_constraint, blank, with_variables}
 pub use Rattle.literal_lists.proofs.LiteralSets.{literal_set-ascending}
 pub use Rattle.problem_form.proofs.KeptProducts.{kept_product-kept, kept_products-normal, normal_constraint-total}
 pub use Rattle.wbo_reader.specs.declared.soft.Soft.{Soft}
-pub use Rattle.base.proofs.Totals.{total_by-append, size-plus}
-pub use Rattle.whole_text.specs.declared.faults.TextFault.{TextFault}
-pub use Rattle.whole_text.specs.Tokens.{Word}
-pub use Rattle.whole_text.specs.Steps.{◌>>=◌, next_of, end_line, Fails}
 unfoldable pub use Rattle.whole_text.specs.Steps.{natural_at}
 pub use Rattle.opb_reader.specs.Opb.{Listed, never, widened, literals_in, is_operator, coefficient_at, comparison_at, Opb}
 unfoldable pub use Rattle.opb_reader.specs.Opb.{constraint_at, many, index_at, name_at, literal_at, literals_at, product_at, term_at, sum_at}
@@ -31,12 +18,7 @@ pub use Rattle.opb_reader.proofs.Many.{Leaves, Shrinks, many_enough, many_all, R
 pub use Rattle.opb_reader.proofs.Shrinking.{constraint_shrinks}
 pub use Rattle.wbo_reader.specs.Reading.{Weighed, greatest_index, after_word, WordsAreEnough, all_literals, hard_by, hard_of, soft_by, soft_of, order_by, content_of, breaks, pays, ReadingKeepsCosts, variables_of, ReadingIsNormal, RewritesItsText, WboText, head_at}
 unfoldable pub use Rattle.wbo_reader.specs.Reading.{weight_at, front_at, weighed_at, constraints_at, content_of_words, reading_of_words}
-pub use Rattle.std.proofs.lemmas.Bool.Decides.{nat_tests}
-pub use Rattle.opb_reader.specs.declared.operator.Operator.{Operator}
 pub use Rattle.opb_reader.proofs.Variables.{widened-append, AreWithin, widened-le, terms_within}
-pub use Rattle.std.proofs.lemmas.List.Folds.{list_any-append}
-pub use Rattle.literal_lists.proofs.LentParts.{drop-at}
-pub use Rattle.opb_reader.specs.Cost.{constraint_of, is_met, compared}
 pub use Rattle.wbo_reader.specs.Gathering.{nothing, with_weighed, constraints_read, with_constraint, constraint_read}
 pub use Rattle.base.specs.declared.costs.Cost.{Cost}
 pub use Rattle.opb_reader.proofs.ReadCosts.{reading_keeps_costs}
@@ -48,12 +30,11 @@ pub use Rattle.wbo_reader.specs.Extensions.{ExtendsAfterRewrites}
 unfoldable pub use Rattle.std.specs.List.Sorted.{IsStrictlySortedBy}
 pub use Rattle.problem_form.specs.Limits.{positive_total, own_upper}
 pub use Rattle.opb_reader.proofs.Constraints.{compared_within, compared-total}
-pub use Rattle.whole_text.specs.declared.faults.TextAnswer.{TextAnswer}
-pub use Rattle.opb_reader.specs.Views.{put_all}
-pub use Rattle.std.specs.Int.{w128}
-pub use Rattle.whole_text.specs.TokenTexts.{word_of, words_of}
-pub use Rattle.std.proofs.lemmas.Result.{err_from_is_err_and}
-pub use Rattle.whole_text.proofs.Lengths.{few_words}
 pub use Rattle.std.specs.Vec.{vec_len}
 pub use Rattle.problem_form.proofs.WeighedParts.{length-zip_with, zip_with-at, zip_with-push}
-pub use Rattle.problem_form.specs.WeighedLists.{zip_with}
+pub use Rattle.literal_lists.specs.declared.literal.Literal.{Literal}
+pub use Rattle.problem_form.specs.declared.terms.Product.{Product}
+pub use Rattle.problem_form.specs.declared.terms.Constraint.{Constraint}
+pub use Rattle.whole_text.specs.declared.faults.TextFault.{TextFault}
+pub use Rattle.opb_reader.specs.declared.operator.Operator.{Operator}
+pub use Rattle.whole_text.specs.declared.faults.TextAnswer.{TextAnswer}

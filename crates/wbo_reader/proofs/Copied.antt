@@ -1,15 +1,13 @@
 -- A constraint in normal form is its own normal form, and what a constraint is eased to.
-use Rattle.wbo_reader.proofs.Common.{nat_tests, ◌≡◌, ◌≢◌, Result, OnOk, ℕ, zero, suc, ◌+◌, ◌≤◌, Bool, true, false, ◌||◌, List, [], ◌∷◌, ◌++◌, map, take, Some, ℤ, pos, ◌+ℤ◌, ◌-ℤ◌, int_le, int_lt, unsigned_abs, refl, sym, ap, ◌∙◌, arith, if◌then◌else◌, flat_map, slice_get, sum_by, AllByRecursion, ints, sum_by-cons, recursion_from_All, append_assoc, map-append, total_by, positive_part, Literal, Product, Constraint, IsNormalProduct, negated, constraint_total, fails, is_empty, kept_product, product_constant, normal_constraint, literal_set-ascending, kept_product-kept, Soft, IsNormalConstraint, soft_total, bit_product, least_part, least_sum, eased}
+use Rattle.wbo_reader.proofs.Common.{nat_tests, ◌≡◌, ◌≢◌, Result, OnOk, ℕ, zero, suc, ◌+◌, ◌≤◌, Bool, true, false, ◌||◌, List, [], ◌∷◌, ◌++◌, map, take, Some, ℤ, pos, ◌+ℤ◌, ◌-ℤ◌, int_le, int_lt, unsigned_abs, refl, sym, ap, ◌∙◌, arith, if◌then◌else◌, flat_map, slice_get, sum_by, AllByRecursion, ints, sum_by-cons, recursion_from_All, append_assoc, map-append, total_by, positive_part, Literal, Product, Constraint, IsNormalProduct, negated, constraint_total, fails, is_empty, kept_product, product_constant, normal_constraint, literal_set-ascending, kept_product-kept, Soft, IsNormalConstraint, soft_total, least_part, least_sum, eased}
 
 -- ---- normal form
 
 not_empty : {A : Type 0} (xs : List A) → xs ≢ [] → is_empty xs ≡ false
-not_empty [] h = absurd (h refl)
-not_empty (x ∷ xs) h = refl
+not_empty xs h = grind (arith, nat_tests)
 
 neither : (a b : Bool) → a ≡ false → b ≡ false → (a || b) ≡ false
-neither true b e f = cc
-neither false b e f = f
+neither a b e f = grind (arith, nat_tests)
 
 pub product_itself : (n : ℕ) (t : Product) → IsNormalProduct n t → kept_product t ≡ t ∷ []
 product_itself n t is =
@@ -31,27 +29,9 @@ no_constants n (t ∷ ts) h = omega (arith, ints, no_constant n t h.0, no_consta
 pub normal_itself : (n : ℕ) (k : Constraint) → IsNormalConstraint n k → normal_constraint k ≡ k
 normal_itself n k h =
     let each = recursion_from_All (IsNormalProduct n) k.products h in
-    let bound : k.bound -ℤ total_by product_constant k.products ≡ k.bound =
-    omega (arith, ints, no_constants n k.products each) in
-    λ i. record {
-      products = products_themselves n k.products each i;
-      bound = bound i;
-      exact = k.exact;
-    }
+    grind (arith, nat_tests, ints, no_constants, products_themselves)
 
 -- ---- what is eased
-
-pub eased_more : (v : ℕ) (ts : List Product) (bound : ℤ) → int_le bound (least_sum ts) ≡ false
-    → eased v ts bound ≡ record {
-      products = ts ++ bit_product v (bound -ℤ least_sum ts) ∷ [];
-      bound = bound;
-      exact = false;
-    }
-eased_more v ts bound e = λ i. record {
-  products = if e i then ts else ts ++ bit_product v (bound -ℤ least_sum ts) ∷ [];
-  bound = bound;
-  exact = false;
-}
 
 -- ---- one of many
 

@@ -7,16 +7,11 @@ bit_of x v = get_or x v false
 
 -- ---- sums
 
-value-negated : (b : Bool) (c : ℤ) → if_so b (neg_ℤ c) ≡ neg_ℤ (if_so b c)
-value-negated true c = refl
-value-negated false c = refl
-
 -- the sum with the other sign
 pub sum_of-negated : (x : List Bool) (ts : List Product)
     → sum_of x (map negated ts) ≡ neg_ℤ (sum_of x ts)
 sum_of-negated x [] = refl
-sum_of-negated x (t ∷ ts) =
-    omega (arith, ints, value-negated (all_hold x t.literals) t.coefficient, sum_of-negated x ts)
+sum_of-negated x (t ∷ ts) = grind (arith, nat_tests, ints, sum_of-negated x ts)
 
 -- the value of the variable alone
 pub bit_product-value : (x : List Bool) (v : ℕ) (c : ℤ)
@@ -42,14 +37,12 @@ sum_with_bit x v ts c = grind (arith, nat_tests, ints, total_by-append, bit_prod
 -- whether a sum with the bit is less than the bound
 with_bit : (b : Bool) (sum low bound : ℤ) → low ≤ℤ sum
     → int_lt (sum +ℤ if_so b (bound -ℤ low)) bound ≡ (not b && int_lt sum bound)
-with_bit true sum low bound le = grind (arith, ints)
-with_bit false sum low bound le = grind (arith, ints)
+with_bit b sum low bound le = grind (arith, nat_tests, ints)
 
 -- a bound that no sum is below
 without_bit : (b : Bool) (sum low bound : ℤ) → low ≤ℤ sum → bound ≤ℤ low
     → int_lt sum bound ≡ (not b && int_lt sum bound)
-without_bit true sum low bound le h = grind (arith, ints)
-without_bit false sum low bound le h = refl
+without_bit b sum low bound le h = grind (arith, nat_tests, ints)
 
 int_le-true : (a b : ℤ) → int_le a b ≡ true → a ≤ℤ b
 int_le-true a b e = grind (arith, ints)
@@ -58,11 +51,7 @@ pub eased-fails : (x : List Bool) (v : ℕ) (ts : List Product) (bound : ℤ)
     → fails x (eased v ts bound) ≡ (not (bit_of x v) && int_lt (sum_of x ts) bound)
 eased-fails x v ts bound =
     let least = least_sum-le x ts in
-    let int = int_le-true bound (least_sum ts) in
-    let without = without_bit (bit_of x v) (sum_of x ts) (least_sum ts) bound (least_sum-le x ts) in
-    let sum = sum_with_bit x v ts (bound -ℤ least_sum ts) in
-    let with = with_bit (bit_of x v) (sum_of x ts) (least_sum ts) bound (least_sum-le x ts) in
-    grind (arith, nat_tests, ints)
+    grind (arith, nat_tests, ints, int_le-true, without_bit, least_sum-le, sum_with_bit, with_bit)
 
 -- ---- a row
 
@@ -72,8 +61,7 @@ one_side b fail = grind (arith, nat_tests)
 two_sides : (b : Bool) (sum bound : ℤ)
     → ((not b && int_lt sum bound) || ((not b && int_lt (neg_ℤ sum) (neg_ℤ bound)) || false))
     ≡ (not b && not (int_eq sum bound))
-two_sides true sum bound = refl
-two_sides false sum bound = grind (arith, ints)
+two_sides b sum bound = grind (arith, nat_tests, ints)
 
 -- what stands for a constraint fails where the bit is 0 and the constraint fails
 pub eased_row-fails : (x : List Bool) (v : ℕ) (k : Constraint)

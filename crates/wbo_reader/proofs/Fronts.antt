@@ -1,24 +1,21 @@
 -- What is read of a constraint with its weight leaves no more words than there were.
-use Rattle.wbo_reader.proofs.Common.{nat_tests, ℕ, ◌≤◌, Bool, true, false, List, [], ◌∷◌, length, Option, Some, None, Result, Ok, Err, IfOk, codes, arith, bytes_eq, if◌then◌else◌, TextFault, Word, ◌>>=◌, next_of, natural_at, Listed, constraint_at, Leaves, Shrinks, many_enough, many_all, constraint_shrinks, Weighed, greatest_index, after_word, weight_at, front_at, weighed_at, constraints_at, WordsAreEnough}
+use Rattle.wbo_reader.proofs.Common.{nat_tests, ℕ, ◌≤◌, Bool, true, false, List, [], length, Option, Some, None, Result, Ok, IfOk, codes, arith, bytes_eq, if◌then◌else◌, TextFault, Word, ◌>>=◌, next_of, natural_at, Listed, constraint_at, Leaves, Shrinks, many_enough, many_all, constraint_shrinks, Weighed, greatest_index, after_word, weight_at, front_at, weighed_at, constraints_at, WordsAreEnough}
 
 -- a fact on what a first step gives, and one on what the next gives with it
 pub bind_if : {A B : Type 0} (P : A → Type 0) (Q : B → Type 0) (first : Result A TextFault)
     (next : A → Result B TextFault) → IfOk first P → ((x : A) → P x → IfOk (next x) Q)
     → IfOk (first >>= next) Q
-bind_if P Q (Ok x) next h k = k x h
-bind_if P Q (Err e) next h k = tt
+bind_if P Q first next h k = grind (arith, nat_tests)
 
 -- nothing is said of what a step gives
 abbrev pub Any : {A : Type 0} → A → Type 0
 Any x = Unit {0}
 
 pub any : {A : Type 0} (r : Result A TextFault) → IfOk r Any
-any (Ok x) = tt
-any (Err e) = tt
+any r = grind (arith, nat_tests)
 
 pub next_leaves : (end : ℕ) (ws : List Word) → IfOk (next_of end ws) (Leaves (length ws))
-next_leaves end [] = tt
-next_leaves end (w ∷ ws) = omega arith
+next_leaves end ws = grind (arith, nat_tests)
 
 -- ---- a weight
 
@@ -57,9 +54,7 @@ front_leaves end w ws = go (bytes_eq w.bytes (codes "["))
         (LeavesFront (length ws))
     go true =
         bind_if (Leaves (length ws)) (LeavesFront (length ws)) (weight_at end ws) (soft_part end)
-        (weight_leaves end ws)
-        (λ x h. bind_if (Leaves (length x.1)) (LeavesFront (length ws)) (next_of end x.1)
-        (first_part x.0) (next_leaves end x.1) (λ first k. omega (arith, h, k)))
+        (weight_leaves end ws) (λ x h. grind (arith, nat_tests, bind_if, next_leaves))
     go false = omega arith
 
 -- ---- a constraint

@@ -1,6 +1,6 @@
 -- No index that is read is above the limit, so as many variables are enough; and there are no more
 -- constraints than words.
-use Rattle.wbo_reader.proofs.Common.{ℕ, zero, suc, ◌<◌, ◌≤◌, Bool, true, false, ℤ, List, [], ◌∷◌, ◌++◌, length, Result, Ok, IfOk, arith, if◌then◌else◌, nat_tests, TextFault, Word, ◌>>=◌, next_of, Literal, Product, Operator, Listed, widened, literals_in, is_operator, never, many, index_at, name_at, literal_at, literals_at, product_at, coefficient_at, term_at, sum_at, comparison_at, constraint_at, Reader, widened-append, Weighed, greatest_index, all_literals, front_at, weighed_at, constraints_at}
+use Rattle.wbo_reader.proofs.Common.{ℕ, zero, suc, ◌<◌, ◌≤◌, Bool, ℤ, List, [], ◌∷◌, ◌++◌, length, Result, Ok, IfOk, arith, if◌then◌else◌, nat_tests, TextFault, Word, ◌>>=◌, next_of, Literal, Product, Operator, Listed, widened, literals_in, is_operator, never, many, index_at, name_at, literal_at, literals_at, product_at, coefficient_at, term_at, sum_at, comparison_at, constraint_at, Reader, widened-append, Weighed, greatest_index, all_literals, front_at, weighed_at, constraints_at}
 use Rattle.wbo_reader.proofs.Fronts.{bind_if, Any, any, as_weighed, sum_part}
 
 -- ---- one literal
@@ -20,9 +20,7 @@ IsBelow limit l = l.variable < limit
 
 literal_within : (limit : ℕ) (w : Word) → IfOk (literal_at limit w) (IsBelow limit)
 unfolding literal_at
-literal_within limit w =
-    let name = name_within limit w.line in
-    grind (arith, nat_tests)
+literal_within limit w = grind (arith, nat_tests, name_within limit w.line)
 
 -- ---- literals
 
@@ -32,8 +30,7 @@ Fits limit ls = (v : ℕ) → v ≤ limit → widened v ls ≤ limit
 
 fits-append : (limit : ℕ) (ls ks : List Literal) → Fits limit ls → Fits limit ks
     → Fits limit (ls ++ ks)
-fits-append limit ls ks first second v le =
-    omega (arith, widened-append v ls ks, second (widened v ls) (first v le))
+fits-append limit ls ks first second v le = grind (arith, nat_tests, widened-append)
 
 -- what is read fits
 abbrev FitsFirst : ℕ → List Literal × List Word → Type 0
@@ -51,9 +48,7 @@ literals_fit : (limit : ℕ) (ws : List Word) → IfOk (literals_at limit ws) (F
 unfolding literals_at
 literals_fit limit [] = λ v le. le
 literals_fit limit (w ∷ ws) =
-    let literals = literals_fit limit ws in
-    let first = first_fits limit w (literals_at limit ws) in
-    grind (arith, nat_tests)
+    grind (arith, nat_tests, literals_fit limit ws, first_fits limit w (literals_at limit ws))
 
 abbrev product_part : ℕ → Word × List Word → Result (List Literal × List Word) TextFault
 product_part limit w = literal_at limit w.0 >>= λ l. literals_at limit w.1 >>= with_first l
@@ -96,8 +91,7 @@ module _ {A : Type 0} (P : A → Type 0) (Q : List A → Type 0) (none : Q [])
   one_or_none : (b : Bool) (f : List Word → Result (List A × List Word) TextFault) (w : Word)
       (ws : List Word) → others_have (read w ws >>= λ x. f x.1 >>= others x)
       → others_have (if b then Ok ([], w ∷ ws) else (read w ws >>= λ x. f x.1 >>= others x))
-  one_or_none true f w ws h = none
-  one_or_none false f w ws h = h
+  one_or_none b f w ws h = grind (arith, nat_tests)
 
   pub many_have : (n : ℕ) (ws : List Word) → others_have (many ends read n ws)
   unfolding many

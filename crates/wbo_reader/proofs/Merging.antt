@@ -2,15 +2,13 @@
 use Rattle.wbo_reader.proofs.Common.{nat_tests, arith, ◌≡◌, Bool, true, false, ◌||◌, List, [], ◌∷◌, ◌++◌, refl, ap, list_any, list_any-append, Constraint, merged, hard_rows, all_of}
 
 first_of_three : (a b c : Bool) → (a || (b || c)) ≡ ((a || b) || c)
-first_of_three true b c = refl
-first_of_three false b c = refl
+first_of_three a b c = grind (arith, nat_tests)
 
 second_of_three : (a b c : Bool) → (b || (a || c)) ≡ (a || (b || c))
 second_of_three a b c = grind (arith, nat_tests)
 
 or_none : (b : Bool) → b ≡ (b || false)
-or_none true = refl
-or_none false = refl
+or_none b = grind (arith, nat_tests)
 
 module _ {A : Type 0} (test : A → Bool) where
   abbrev any_in : List (List A) → Bool

@@ -1,5 +1,5 @@
 -- What the source of a text costs: what the text costs, constraint by constraint.
-use Rattle.wbo_reader.proofs.Common.{nat_tests, ◌≡◌, ℕ, ◌+◌, Bool, false, not, ◌||◌, List, [], ◌∷◌, ◌++◌, Option, unwrap_or, pos, refl, ◌∙◌, arith, if◌then◌else◌, list_any, sum_by, flat_map, list_any-append, sum_by-cons, Cost, Constraint, fails, normal_constraint, Listed, Opb, is_met, constraint_of, reading_keeps_costs, Soft, paid, reaches_top, Weighed, breaks, pays, hard_of, soft_by, soft_of, ReadingKeepsCosts}
+use Rattle.wbo_reader.proofs.Common.{nat_tests, ◌≡◌, ℕ, ◌+◌, Bool, false, not, ◌||◌, List, [], ◌∷◌, ◌++◌, Option, unwrap_or, pos, refl, ◌∙◌, arith, if◌then◌else◌, list_any, sum_by, flat_map, list_any-append, sum_by-cons, Cost, Constraint, fails, normal_constraint, Listed, Opb, is_met, constraint_of, reading_keeps_costs, Soft, paid, Weighed, breaks, pays, hard_of, soft_by, soft_of, ReadingKeepsCosts}
 use Rattle.base.specs.declared.costs.Cost.TheVariants.{Whole, Infinite}
 
 -- ---- one constraint: the law of OPB texts, for the text of this constraint alone
@@ -49,7 +49,4 @@ soft-all x (k ∷ ks) =
     omega (arith, soft-all x ks, sum_by-cons (pays x) k ks)
 
 pub reading_keeps_costs_of_text : ReadingKeepsCosts
-reading_keeps_costs_of_text t x =
-    let sum = soft-all x t.constraints in
-    λ i. if hard-all x t.constraints i || reaches_top t.top (sum i) then Infinite
-    else Whole (pos (sum i))
+reading_keeps_costs_of_text t x = grind (arith, nat_tests, soft-all, hard-all)

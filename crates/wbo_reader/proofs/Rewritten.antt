@@ -1,6 +1,6 @@
 -- The rewritten problem stands for its source. Where a constraint that stands for a soft one holds,
 -- the bit is 1 or the soft constraint holds: so the bits that are 1 cost no less than what fails.
-use Rattle.wbo_reader.proofs.Common.{◌≡◌, ℕ, suc, ◌+◌, ◌≤◌, Bool, true, false, cond, not, ◌&&◌, ◌||◌, List, [], ◌∷◌, ◌++◌, map, take, length, Option, ℤ, pos, ◌+ℤ◌, ◌≤ℤ◌, refl, sym, ap, subst, ◌∙◌, arith, if◌then◌else◌, ⊤, list_any, AllByRecursion, ints, nat_tests, append_assoc, take-append-le, take_all, length-append, length-map, list_any-append, sum_by-cons, recursion_from_All, Cost, sum_of, fails, problem_cost, Soft, WboContent, wbo_cost, paid, paid_for, reaches_top, IsNormalConstraint, IsNormalSource, all_of, rewritten, rewritten_constraints, extended, eased_row, eased_rows, hard_rows, weighed_bits, RewritesItsSource, CarriesAssignments}
+use Rattle.wbo_reader.proofs.Common.{◌≡◌, ℕ, suc, ◌+◌, ◌≤◌, Bool, false, cond, not, ◌&&◌, ◌||◌, List, [], ◌∷◌, ◌++◌, map, take, length, Option, ℤ, pos, ◌+ℤ◌, ◌≤ℤ◌, refl, sym, ap, subst, ◌∙◌, arith, if◌then◌else◌, ⊤, list_any, AllByRecursion, ints, nat_tests, append_assoc, take-append-le, take_all, length-append, length-map, list_any-append, sum_by-cons, recursion_from_All, Cost, sum_of, fails, problem_cost, Soft, WboContent, wbo_cost, paid, paid_for, reaches_top, IsNormalConstraint, IsNormalSource, all_of, rewritten, rewritten_constraints, extended, eased_row, eased_rows, hard_rows, weighed_bits, RewritesItsSource, CarriesAssignments}
 use Rattle.base.specs.declared.costs.Cost.TheVariants.{Whole, Infinite}
 use Rattle.wbo_reader.proofs.Agreeing.{fails-first, all_fail-first}
 use Rattle.wbo_reader.proofs.Easing.{bit_of, eased_row-fails}
@@ -29,8 +29,7 @@ paid_once : (fail bit : Bool) (w : ℕ) → (not bit && fail) ≡ false → cond
 paid_once fail bit w e = grind (arith, nat_tests)
 
 neither : (a b : Bool) → (a || b) ≡ false → (a ≡ false) × (b ≡ false)
-neither true b e = absurd cc
-neither false b e = (refl, e)
+neither a b e = grind (arith, nat_tests)
 
 paid-le : (x x' : List Bool) (v : ℕ) (soft : List Soft) → unpaid x x' v soft ≡ false
     → paid x soft ≤ spent x' v soft
@@ -123,8 +122,7 @@ spent_is_paid x x' v (s ∷ soft) h =
     ∙ sym (sum_by-cons (paid_for x) s soft)
 
 no_more : (b : Bool) → (not b && b) ≡ false
-no_more true = refl
-no_more false = refl
+no_more b = grind (arith, nat_tests)
 
 all_paid : (x x' : List Bool) (v : ℕ) (soft : List Soft) → AreFailing x x' v soft
     → unpaid x x' v soft ≡ false
@@ -136,8 +134,7 @@ all_paid x x' v (s ∷ soft) h =
 -- what is told of a problem whose soft constraints are all paid is the cost of the source
 all_paid_cost : (hard : Bool) (top : Option ℕ) (sum : ℕ) → told_cost hard false top sum
     ≡ (if hard || reaches_top top sum then Infinite else Whole (pos sum))
-all_paid_cost true top sum = refl
-all_paid_cost false top sum = refl
+all_paid_cost hard top sum = grind (arith, nat_tests)
 
 module _ (s : WboContent) (is : IsNormalSource s) (x : List Bool) (w : length x ≡ s.variables) where
   abbrev bits : List Bool

@@ -1,6 +1,6 @@
 -- The rewritten problem is in normal form, and its sizes sum to at most four times those of its
 -- source.
-use Rattle.wbo_reader.proofs.Common.{nat_tests, ◌≡◌, ◌≢◌, ℕ, suc, ◌+◌, ◌*◌, ◌<◌, ◌≤◌, Bool, true, false, ◌&&◌, ◌||◌, eqb, List, [], ◌∷◌, ◌++◌, map, length, All, Option, Some, None, unwrap_or, ℤ, pos, negsuc, ◌-ℤ◌, int_le, unsigned_abs, refl, arith, sum_by, AllByRecursion, IsStrictlySortedBy, ints, sum_by-append, sum_by-cons, All-nil, All-weaker, All-from_recursion, recursion_from_All, positive_part, Literal, Product, Constraint, IsLiteralSet, negated, products_total, constraint_total, problem_total, IsNormalProduct, positive_total, Soft, WboContent, IsNormalConstraint, soft_total, wbo_total, bit_product, weighed_bits, least_sum, eased, eased_row, eased_rows, hard_rows, merged, all_of, top_rows, rewritten, rewritten_constraints, RewrittenIsSound}
+use Rattle.wbo_reader.proofs.Common.{nat_tests, ◌≡◌, ◌≢◌, ℕ, suc, ◌+◌, ◌*◌, ◌<◌, ◌≤◌, Bool, true, false, ◌&&◌, ◌||◌, eqb, List, [], ◌∷◌, ◌++◌, map, length, All, Option, unwrap_or, ℤ, pos, ◌-ℤ◌, unsigned_abs, refl, arith, sum_by, AllByRecursion, IsStrictlySortedBy, ints, sum_by-append, sum_by-cons, All-nil, All-weaker, All-from_recursion, recursion_from_All, positive_part, Literal, Product, Constraint, IsLiteralSet, negated, products_total, constraint_total, problem_total, IsNormalProduct, positive_total, Soft, WboContent, IsNormalConstraint, soft_total, wbo_total, bit_product, weighed_bits, least_sum, eased, eased_row, eased_rows, hard_rows, merged, all_of, top_rows, rewritten, rewritten_constraints, RewrittenIsSound}
 
 -- ---- products
 
@@ -17,8 +17,7 @@ wider_product v n le t is = record {
 }
 
 none_of_one : (b : Bool) → (((b && false) || false) || false) ≡ false
-none_of_one true = refl
-none_of_one false = refl
+none_of_one b = grind (arith, nat_tests)
 
 bit_set : (v n : ℕ) → v < n → IsLiteralSet n (record { variable = v; negated = false } ∷ [])
 unfolding IsStrictlySortedBy
@@ -62,16 +61,11 @@ with_last n (u ∷ ts) t h is = (h.0, with_last n ts t h.1 is)
 abbrev IsGood : ℕ → Constraint → Type 0
 IsGood n k = AllByRecursion (IsNormalProduct n) k.products
 
-above : (bound low : ℤ) → int_le bound low ≡ false → bound -ℤ low ≢ pos 0
-above bound low e same = grind (arith, nat_tests, ints)
-
 eased_good : (v n : ℕ) (ts : List Product) (bound : ℤ) → v < n
     → AllByRecursion (IsNormalProduct n) ts → IsGood n (eased v ts bound)
 eased_good v n ts bound lt h =
-    let above_is = above bound (least_sum ts) in
     let bit = bit_normal v n (bound -ℤ least_sum ts) lt in
-    let with = with_last n ts (bit_product v (bound -ℤ least_sum ts)) h in
-    grind (arith, nat_tests, ints)
+    grind (arith, nat_tests, ints, with_last)
 
 row_good : (v n : ℕ) (k : Constraint) → v < n → IsGood n k
     → AllByRecursion (IsGood n) (eased_row v k)
@@ -132,8 +126,7 @@ negated_total (t ∷ ts) =
     omega (arith, ints, negated_total ts)
 
 part_size : (c : ℤ) → positive_part c ≤ unsigned_abs c
-part_size (pos n) = omega arith
-part_size (negsuc n) = omega arith
+part_size c = grind (arith, nat_tests, ints)
 
 positive_size : (ts : List Product) → positive_total ts ≤ products_total ts
 positive_size [] = omega arith
@@ -190,8 +183,7 @@ weighed_total v (s ∷ soft) =
 top_total : (v : ℕ) (top : Option ℕ) (soft : List Soft)
     → sum_by constraint_total (top_rows v top soft)
     ≤ sum_by (λ (s : Soft). s.weight) soft + unwrap_or top 0 + 1
-top_total v None soft = omega arith
-top_total v (Some top) soft = grind (arith, nat_tests, sum_by-cons, negated_total, weighed_total)
+top_total v top soft = grind (arith, nat_tests, sum_by-cons, negated_total, weighed_total)
 
 -- ---- the whole
 
@@ -200,15 +192,19 @@ rewritten_total s =
     let sum = sum_by-append constraint_total
     (all_of (merged s.order (hard_rows s.hard) (eased_rows s.variables s.soft)))
     (top_rows s.variables s.top s.soft) in
-    let joined = joined_total (merged s.order (hard_rows s.hard) (eased_rows s.variables s.soft)) in
-    let total = merged_total s.order (hard_rows s.hard) (eased_rows s.variables s.soft) in
-    let rows = soft_rows_total s.variables s.soft in
-    let same = top_total s.variables s.top s.soft in
-    omega (arith, weighed_total s.variables s.soft, hard_total s.hard)
+    grind (
+      arith,
+      nat_tests,
+      joined_total,
+      merged_total,
+      soft_rows_total,
+      top_total,
+      weighed_total,
+      hard_total,
+    )
 
 good_wider : (v n : ℕ) → v ≤ n → (k : Constraint) → IsNormalConstraint v k → IsGood n k
-good_wider v n le k h = all_wider v n le k.products (recursion_from_All
-    (IsNormalProduct v) k.products h)
+good_wider v n le k h = grind (arith, nat_tests, all_wider, recursion_from_All)
 
 hard_wider : (v n : ℕ) → v ≤ n → (ks : List Constraint) → AllByRecursion (IsNormalConstraint v) ks
     → AllByRecursion (IsGood n) ks
@@ -233,13 +229,10 @@ rewritten_is_sound s is =
     let bits =
     weighed_good s.variables n s.soft (omega arith)
     (recursion_from_All (λ (k : Soft). 0 < k.weight) s.soft is.weighty) in
-    let hard =
-    hard_good n s.hard (hard_wider s.variables n le s.hard (recursion_from_All
-    (IsNormalConstraint s.variables) s.hard is.normal.hard)) in
+    let hard = hard_good n s.hard (grind (arith, nat_tests, hard_wider, recursion_from_All)) in
     let soft =
-    rows_good s.variables n s.soft (omega arith) (soft_wider s.variables n le s.soft
-    (recursion_from_All (λ (k : Soft). IsNormalConstraint s.variables k.constraint) s.soft
-    is.normal.soft)) in
+    rows_good s.variables n s.soft (omega arith)
+    (grind (arith, nat_tests, soft_wider, recursion_from_All)) in
     let rows = all_merged (AllByRecursion (IsGood n)) s.order (hard_rows s.hard)
     (eased_rows s.variables s.soft) hard soft in
     let all =

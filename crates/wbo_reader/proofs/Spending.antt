@@ -1,5 +1,5 @@
 -- What the bits of soft constraints cost, and the constraint of the top.
-use Rattle.wbo_reader.proofs.Common.{◌≡◌, ℕ, suc, ◌+◌, ◌≤◌, Bool, true, false, ◌||◌, List, [], ◌∷◌, Option, pos, ◌-ℤ◌, neg_ℤ, int_lt, refl, ap, arith, cond, nat_le, list_any, sum_by, ints, nat_tests, sum_by-cons, positive_part, Product, sum_of, fails, positive_total, Soft, reaches_top, weighed_bits, top_rows, bit_product, UpperIsSoftWeights}
+use Rattle.wbo_reader.proofs.Common.{◌≡◌, ℕ, suc, ◌+◌, ◌≤◌, Bool, false, ◌||◌, List, [], ◌∷◌, Option, pos, ◌-ℤ◌, neg_ℤ, int_lt, refl, ap, arith, cond, nat_le, list_any, sum_by, ints, nat_tests, sum_by-cons, positive_part, Product, sum_of, fails, positive_total, Soft, reaches_top, weighed_bits, top_rows, bit_product, UpperIsSoftWeights}
 use Rattle.wbo_reader.proofs.Easing.{bit_of, sum_of-negated}
 
 -- the weights of the bits from v on that are 1
@@ -17,8 +17,7 @@ weighed_bits-sum x v [] = refl
 weighed_bits-sum x v (s ∷ soft) = grind (arith, nat_tests, weighed_bits-sum x (suc v) soft)
 
 within_weight : (b : Bool) (w : ℕ) → cond b w 0 ≤ w
-within_weight true w = omega arith
-within_weight false w = omega arith
+within_weight b w = grind (arith, nat_tests)
 
 pub spent-le : (x : List Bool) (v : ℕ) (soft : List Soft) → spent x v soft ≤ weights soft
 spent-le x v [] = omega arith
@@ -33,8 +32,7 @@ above_all : (top spent sum : ℕ) → spent ≤ sum → nat_le top sum ≡ false
 above_all top spent sum le e = grind (arith, nat_tests)
 
 or_none : (b : Bool) → (b || false) ≡ b
-or_none true = refl
-or_none false = refl
+or_none b = grind (arith, nat_tests)
 
 -- the constraint of the top fails where the bits cost as much, or more
 pub top_rows-fail : (x : List Bool) (v : ℕ) (top : Option ℕ) (soft : List Soft)

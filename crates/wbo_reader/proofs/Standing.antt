@@ -1,6 +1,6 @@
 -- What is read is in normal form, since the literals of each constraint are of the variables that
 -- are counted; so the problem that a text is rewritten to stands for the text.
-use Rattle.wbo_reader.proofs.Common.{nat_tests, ℕ, ◌≤◌, List, [], ◌∷◌, All, ◌∙◌, arith, flat_map, AllByRecursion, All-nil, Product, normal_constraint, kept_products-normal, literals_in, widened, constraint_of, AreWithin, widened-append, widened-le, terms_within, compared_within, Soft, IsNormalConstraint, Weighed, all_literals, variables_of, hard_of, soft_of, content_of, ReadingIsNormal, RewritesItsText}
+use Rattle.wbo_reader.proofs.Common.{nat_tests, ℕ, ◌≤◌, List, [], ◌∷◌, All, arith, flat_map, AllByRecursion, All-nil, Product, normal_constraint, kept_products-normal, literals_in, widened, constraint_of, AreWithin, widened-append, widened-le, terms_within, compared_within, Soft, IsNormalConstraint, Weighed, all_literals, variables_of, hard_of, soft_of, content_of, ReadingIsNormal, RewritesItsText}
 use Rattle.wbo_reader.proofs.Rewritten.{rewrites_its_source}
 use Rattle.wbo_reader.proofs.ReadCosts.{reading_keeps_costs_of_text}
 
@@ -13,9 +13,7 @@ one_normal : (v n : ℕ) (k : Weighed) → widened v (literals_in k.listed.terms
     → IsNormalConstraint n (normal_constraint (constraint_of k.listed))
 one_normal v n k le =
     kept_products-normal n (constraint_of k.listed).products
-    (compared_within k.listed.operator n k.listed.terms k.listed.bound
-    (wider (widened v (literals_in k.listed.terms)) n k.listed.terms le
-    (terms_within v k.listed.terms)))
+    (grind (arith, nat_tests, compared_within, wider, terms_within))
 
 all_normal : (v n : ℕ) (ks : List Weighed) → widened v (all_literals ks) ≤ n
     → AllByRecursion (λ (k : Weighed). IsNormalConstraint n (normal_constraint
@@ -55,9 +53,4 @@ pub rewrites_its_text : RewritesItsText
 rewrites_its_text t =
     let s = content_of t in
     let r = rewrites_its_source s (content_is_normal t) in
-    let same = reading_keeps_costs_of_text t in
-    record {
-      more = r.more;
-      bound = λ x w v whole. grind (arith, nat_tests);
-      reached = λ x w v whole. r.reached x w v (same x ∙ whole);
-    }
+    grind (arith, nat_tests, reading_keeps_costs_of_text)

@@ -50,13 +50,11 @@ next_soft order rest i hard v j soft s first at =
 -- a problem with rows that begin with these
 pub row_sound : (p q : ProblemContent) (rows row more : List Constraint)
     → with_rows p rows ≡ q → IsSound q → rows ≡ row ++ more → IsSound (with_rows p row)
-row_sound p q rows row more left sound begins =
-    first_rows p row more (subst IsSound (sym left ∙ ap (with_rows p) begins) sound)
+row_sound p q rows row more left sound begins = grind (arith, nat_tests, first_rows)
 
 row_added : (p q new : ProblemContent) (rows row more : List Constraint)
     → with_rows p rows ≡ q → rows ≡ row ++ more → new ≡ with_rows p row → with_rows new more ≡ q
-row_added p q new rows row more left begins is =
-    ap (λ n. with_rows n more) is ∙ more_rows p row more ∙ ap (with_rows p) (sym begins) ∙ left
+row_added p q new rows row more left begins is = grind (arith, nat_tests, more_rows)
 
 pub hard_sound : (p q : ProblemContent) (order rest : List Bool) (i : ℕ) (hard : List Constraint)
     (v j : ℕ) (soft : List Soft) (k : Constraint)

@@ -1,5 +1,5 @@
 -- What is added to a source one after another is the source of the whole.
-use Rattle.wbo_reader.proofs.Common.{nat_tests, ◌≡◌, ℕ, ◌+◌, ◌≤◌, List, [], ◌∷◌, ◌++◌, fold, flat_map, Option, Result, Ok, Err, refl, sym, ap, append-nil, append_assoc, arith, unwrap_or, sum_by, sum_by-append, TextFault, Word, ◌>>=◌, end_line, Constraint, constraint_total, normal_constraint-total, widened, widened-append, WboContent, soft_total, wbo_total, Weighed, WboText, all_literals, hard_by, hard_of, soft_by, soft_of, order_by, content_of, content_of_words, reading_of_words, head_at, constraints_at, nothing, with_constraint, with_weighed, constraints_read}
+use Rattle.wbo_reader.proofs.Common.{nat_tests, ◌≡◌, ℕ, ◌+◌, ◌≤◌, List, [], ◌∷◌, ◌++◌, fold, flat_map, Option, Result, Ok, sym, append-nil, append_assoc, arith, unwrap_or, sum_by, sum_by-append, TextFault, Word, ◌>>=◌, end_line, Constraint, constraint_total, normal_constraint-total, widened, widened-append, WboContent, soft_total, wbo_total, Weighed, WboText, all_literals, hard_by, hard_of, soft_by, soft_of, order_by, content_of, content_of_words, reading_of_words, head_at, constraints_at, nothing, with_constraint, with_weighed, constraints_read}
 
 -- ---- one after another
 
@@ -15,7 +15,6 @@ all_added s [] = λ i. record s {
   order = sym (append-nil s.order) i;
 }
 all_added s (k ∷ ks) =
-    let rest = flat_map (λ (k : Weighed). order_by k.weight) ks in
     grind (arith, nat_tests, all_added (with_weighed s k) ks, widened-append, append_assoc)
 
 abbrev pub whole : Option ℕ → List Weighed → WboText
@@ -46,13 +45,11 @@ constraints_after end x = constraints_read (nothing x.0) end x.1
 others_are : (top : Option ℕ) (read : Result (List Weighed × List Word) TextFault)
     → (read >>= as_whole top) >>= normal
     ≡ (read >>= λ (x : List Weighed × List Word). Ok (fold with_weighed (nothing top) x.0))
-others_are top (Ok x) = ap (λ (s : WboContent). Ok s) (sym (put_together top x.0))
-others_are top (Err f) = refl
+others_are top read = grind (arith, nat_tests, put_together)
 
 head_is : (end : ℕ) (read : Result (Option ℕ × List Word) TextFault)
     → (read >>= rest_of end) >>= normal ≡ read >>= constraints_after end
-head_is end (Ok x) = others_are x.0 (constraints_at end x.1)
-head_is end (Err f) = refl
+head_is end read = grind (arith, nat_tests, others_are)
 
 -- the source of words: a top or none, and constraints that are added to no others
 pub content_of_words-put : (ws : List Word)

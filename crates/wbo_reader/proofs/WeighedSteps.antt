@@ -17,8 +17,7 @@ pub sum_fails : (e : TextAnswer) (s : WboContent) (end : ℕ) (w : Word) (ws : L
     → Fails e (sum_at greatest_index is_operator end (first ∷ rest))
     → Fails e (constraint_read s end w ws)
 unfolding weighed_at constraint_at
-sum_fails answers.NoMemory s end w ws weight first rest front h = tt
-sum_fails (answers.Bad f) s end w ws weight first rest front h = rw (front, h) refl
+sum_fails e s end w ws weight first rest front h = grind (arith, nat_tests)
 
 pub comparison_fails : (f : TextFault) (s : WboContent) (end : ℕ) (w : Word) (ws : List Word)
     (weight : Option ℕ) (first : Word) (rest left : List Word) (terms : List Product)
@@ -76,8 +75,7 @@ constraint_goes_on s t end w ws rest le one =
 
 first_fails : (e : TextAnswer) (read : Result (WboContent × List Word) TextFault)
     → Fails e read → Fails e (read >>= first_part)
-first_fails answers.NoMemory read h = tt
-first_fails (answers.Bad f) read h = ap (λ r. r >>= first_part) h
+first_fails e read h = grind (arith, nat_tests)
 
 pub constraint_fails : (e : TextAnswer) (s : WboContent) (end : ℕ) (w : Word) (ws : List Word)
     → Fails e (constraint_read s end w ws) → Fails e (constraints_read s end (w ∷ ws))

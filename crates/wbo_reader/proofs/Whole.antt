@@ -8,8 +8,7 @@ use Rattle.wbo_reader.proofs.Spending.{upper_is_soft_weights}
 
 pub first_left : (items : List Bool) (i : ℕ) (b : Bool) → i < length items
     → get_or items i false ≡ b → drop i items ≡ b ∷ drop (i + 1) items
-first_left items i b within is =
-    drop_more items i false within ∙ ap (λ (h : Bool). h ∷ drop (i + 1) items) is
+first_left items i b within is = grind (arith, nat_tests, drop_more)
 
 module _ (items rest : List Bool) where
   pub soft_more : items ≡ true ∷ rest

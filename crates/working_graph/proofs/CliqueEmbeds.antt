@@ -1,6 +1,6 @@
 -- The chains of a clique, with all qubits but the last as parents and the least joined pair of each
 -- coupling, are what a check of the chains gives.
-use Rattle.working_graph.proofs.Common.{◌≡◌, ℕ, suc, ◌*◌, ◌/◌, ◌%◌, ◌<◌, ◌≤◌, ◌==◌, Bool, true, false, List, [], ◌∷◌, length, map, get_or, All, if◌then◌else◌, refl, ap, subst, ◌∙◌, arith, mod-lt, AllZip, nat_tests, length-map-range_with_len, div-add-mod', Entry, IsCoupler, IsingContent, IsIsing, Chimera, qubits_of, clique_places, spot_of, down_qubit, along_qubit, path_of, clique_chain, clique_of, path_len, cell_of, cells_rise, chain_at_node, clique_valid, AreParents, Embedding, IsEmbedding, IsPlace, IsPlaceOf, IsChecked, checked_embeds, but_last, place_of_spots, clique_place, joined_on}
+use Rattle.working_graph.proofs.Common.{eqb-true, ◌≡◌, ℕ, suc, ◌*◌, ◌/◌, ◌%◌, ◌<◌, ◌≤◌, ◌==◌, Bool, true, false, List, [], ◌∷◌, length, map, get_or, All, if◌then◌else◌, refl, ap, ◌∙◌, arith, mod-lt, AllZip, nat_tests, length-map-range_with_len, div-add-mod', Entry, IsCoupler, IsingContent, IsIsing, Chimera, qubits_of, clique_places, spot_of, down_qubit, along_qubit, clique_chain, clique_of, path_len, cell_of, cells_rise, chain_at_node, clique_valid, AreParents, Embedding, IsEmbedding, IsPlace, IsPlaceOf, IsChecked, checked_embeds, but_last, place_of_spots, clique_place, joined_on}
 use Rattle.working_graph.proofs.PathParents.{path_parents}
 use Rattle.working_graph.proofs.CliquePaths.{clique_path}
 use Rattle.working_graph.proofs.LeastMeetings.{same_cell, other_cell}
@@ -19,9 +19,6 @@ chosen : (graph : Chimera) (c d : List ℕ) (b : Bool) (x y : ℕ × ℕ)
     → (b ≡ true → IsPlace (joined_on graph) c d x) → (b ≡ false → IsPlace (joined_on graph) c d y)
     → IsPlace (joined_on graph) c d (if b then x else y)
 chosen graph c d b x y one other = grind (arith, nat_tests)
-
-is_same : (a b : ℕ) → (a == b) ≡ true → a ≡ b
-is_same a b e = grind (arith, nat_tests)
 
 is_other : (a b : ℕ) → (a == b) ≡ false → a ≡ b → ⊥
 is_other a b e = grind (arith, nat_tests)
@@ -43,9 +40,8 @@ least_place graph u v before below =
     chosen graph (clique_chain graph u) (clique_chain graph v) (i == j)
     (down_qubit graph i k i, along_qubit graph j l j) (down_qubit graph j l i, along_qubit graph i k j)
     (λ e.
-    let same : i ≡ j = is_same i j e in
-    subst (λ n. IsPlace (joined_on graph) (path_of graph i k) (path_of graph n l)
-    (down_qubit graph i k i, along_qubit graph n l n)) same
+    let same : i ≡ j = eqb-true i j e in
+    rw (← same)
     (same_cell graph i k l (omega (arith, order, cell)) (at_order graph u v before same) at'))
     (λ e. other_cell graph i k j l (omega (arith, order, is_other i j e)) cell at at')
 
@@ -83,8 +79,7 @@ coupling_places : (graph : Chimera) (f : IsingContent) → IsIsing f
     (map (clique_place graph) f.couplings)
 coupling_places graph f kept fits =
     zip_map (IsPlaceOf (joined_on graph) (clique_of graph (length f.fields))) (clique_place graph)
-    f.couplings
-    (λ k d below.
+    f.couplings (λ k d below.
     coupling_place graph (length f.fields) (get_or f.couplings k d) fits (kept.couplings k d below))
 
 -- its parts, as they are made
@@ -97,18 +92,12 @@ pub record IsMade (graph : Chimera) (f : IsingContent) (e : Embedding) : Type 0 
 
 pub made_of_parts : (graph : Chimera) (f : IsingContent) (nodes qubits : ℕ)
     (chains parents : List (List ℕ)) (places : List (ℕ × ℕ)) → nodes ≡ length f.fields
-    → chains ≡ clique_of graph nodes
-    → qubits ≡ qubits_of graph → parents ≡ map but_last chains
-    → places ≡ map (clique_place graph) f.couplings
-    → IsMade graph f
+    → chains ≡ clique_of graph nodes → qubits ≡ qubits_of graph → parents ≡ map but_last chains
+    → places ≡ map (clique_place graph) f.couplings → IsMade graph f
     (record { ising = f; chains = chains; qubits = qubits; parents = parents; places = places })
-made_of_parts graph f nodes qubits chains parents places count cs qs ps rs = record {
-  ising = refl;
-  chains = cs ∙ ap (clique_of graph) count;
-  qubits = qs;
-  parents = ps;
-  places = rs;
-}
+made_of_parts graph f nodes qubits chains parents places count cs qs ps rs =
+    let same = ap (clique_of graph) count in
+    record { ising = refl; chains = cs ∙ same; qubits = qs; parents = ps; places = rs }
 
 pub made_checked : (graph : Chimera) (f : IsingContent) (e : Embedding) → IsIsing f
     → length f.fields ≤ clique_places graph → IsMade graph f e

@@ -1,6 +1,6 @@
 -- What the proofs of this crate stand on, of std and of the crates below.
-pub use Rattle.std.proofs.Common.{◌≡◌, ℕ, ◌+◌, ◌-◌, ◌<◌, ◌≤◌, List, length, get_or, inl, inr, sym, subst, ap, ◌∙◌, arith, suc, ◌*◌, ◌/◌, ◌%◌, ◌==◌, Bool, true, false, [], ◌∷◌, map, All, if◌then◌else◌, refl, mod-lt, zero, ◌^◌, pos, not, ◌&&◌, ◌||◌, ◌++◌, take, set, min, max, ◌⊎◌, Ok, Err, ◌≢◌, nat_lt, eqb, rules, of_calls}
-pub use Rattle.std.proofs.lemmas.Bool.{cases_eq, cases_lt, eqb-true, or_cases, or_left, or_right, and_left}
+pub use Rattle.std.proofs.Common.{◌≡◌, ℕ, ◌+◌, ◌-◌, ◌<◌, ◌≤◌, List, length, get_or, inl, inr, sym, subst, ap, ◌∙◌, arith, suc, ◌*◌, ◌/◌, ◌%◌, ◌==◌, Bool, true, false, [], ◌∷◌, map, All, if◌then◌else◌, refl, mod-lt, zero, ◌^◌, pos, not, ◌&&◌, ◌||◌, ◌++◌, take, set, min, max, ◌⊎◌, Ok, Err, ◌≢◌, nat_lt, rules, of_calls}
+pub use Rattle.std.proofs.lemmas.Bool.{and_parts, cases_eq, cases_lt, eqb-true, or_cases, or_left, or_right, and_left}
 pub use Rattle.working_graph.specs.Index.{AreRising, pair_number, has_pair, coupler_number, numbers_of}
 pub use Rattle.std.specs.List.{AllZip, list_all, list_any, slice_range, position_or_len, sum_by, range_with_len, count_by}
 pub use Rattle.std.proofs.lemmas.Bool.Decides.{nat_tests}
@@ -13,7 +13,7 @@ pub use Rattle.chimera_graph.specs.declared.chimera.Chimera.{Chimera}
 pub use Rattle.chimera_graph.specs.Graph.{qubits_of, place_of, index_of, IsPlaceIn}
 pub use Rattle.chain_map.specs.Chains.{chain_of, occurrences, Joins}
 pub use Rattle.chain_map.specs.Cliques.{clique_places, spot_of, down_qubit, along_qubit, path_of, clique_chain, clique_of, diagonal_of}
-pub use Rattle.chain_map.proofs.CliqueChains.{path_len, cell_of, cells_rise, chain_at_node, clique_valid, down_place, along_place, place_again, down_in, along_in, path_down, path_along, down_joined, along_joined, cell_joined}
+pub use Rattle.chain_map.proofs.CliqueChains.{path_len, cell_of, cells_rise, chain_at_node, clique_valid, down_place, along_place, place_again, down_in, along_in, path_down, path_along, cell_joined}
 pub use Rattle.embedding_check.specs.Distances.{AreParents, HasDistance, IsParent}
 pub use Rattle.embedding_check.specs.Embeddings.{Embedding, IsEmbedding}
 pub use Rattle.embedding_check.specs.Checked.{IsPlace, IsPlaceOf, IsChecked, IsBefore}
@@ -26,7 +26,7 @@ pub use Rattle.std.specs.List.Sorted.{IsPermutation, IsPartitionedBy, IsPartitio
 unfoldable pub use Rattle.std.specs.List.Sorted.{IsStrictlySortedBy}
 pub use Rattle.std.proofs.lemmas.List.{length-replicate, append-nil, get_or-set_same, get_or-set_other, length-map, length-take, map-append, take_all, append_assoc, length-append, get_or_append_left, get_or-map, get_or-take, take_more, take_rest, length-set}
 pub use Rattle.std.proofs.Math.ListN.{replicate}
-pub use Rattle.std.proofs.Math.Nat.{min-le_left, mul-le-mul_left, le-mul_of_pos_right, min-le_right}
+pub use Rattle.std.proofs.Math.Nat.{min-le_left, mul-le-mul_left, le-mul_of_pos_right}
 pub use Rattle.bits_model.specs.Entries.{node_entries}
 pub use Rattle.bits_model.specs.Output.{entry_cmp, weight_total}
 pub use Rattle.chain_map.specs.Valid.{IsValid, IsCrossing}

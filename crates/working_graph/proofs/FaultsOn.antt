@@ -6,33 +6,30 @@ use Rattle.chain_map.specs.declared.faults.EmbedFault.TheVariants.{ChainCount, E
 pub exists_below : (w : WorkingGraph) (q : ℕ) → exists_in w q ≡ true → q < qubits_of w.graph
 exists_below w q h = grind (arith, nat_tests)
 
-pub all_exist : (fabric : Fabric) (map : List (List ℕ))
-    → ((u : ℕ) → u < length map → (j : ℕ) → j < length (chain_of map u) → ExistsAt fabric map u j)
-    → AllExist fabric map
+pub all_exist : (fabric : Fabric) (map : List (List ℕ)) → ((u : ℕ) → u < length map → (j : ℕ)
+    → j < length (chain_of map u) → ExistsAt fabric map u j) → AllExist fabric map
 all_exist fabric map existing = all_of_places map (λ chain q. fabric.exists q ≡ true) existing
 
 -- where all numbers are those of qubits that exist, what comes before a fault is the same
-pub inside_on : (fabric : Fabric) (f : IsingContent) (map : List (List ℕ)) → AllExist fabric map
-    → IsInside (λ q. q < fabric.qubits) f map → IsInside (λ q. fabric.exists q ≡ true) f map
-inside_on fabric f map all inside = record { listed = inside.listed; within = all }
+module _ (fabric : Fabric) (f : IsingContent) (map : List (List ℕ))
+    (all : AllExist fabric map) where
+  pub inside_on : IsInside (λ q. q < fabric.qubits) f map
+      → IsInside (λ q. fabric.exists q ≡ true) f map
+  inside_on inside = record { listed = inside.listed; within = all }
 
-pub apart_on : (fabric : Fabric) (f : IsingContent) (map : List (List ℕ)) → AllExist fabric map
-    → IsApart (λ q. q < fabric.qubits) f map → IsApart (λ q. fabric.exists q ≡ true) f map
-apart_on fabric f map all apart =
-    record { inside = inside_on fabric f map all apart.inside; once = apart.once }
+  pub apart_on : IsApart (λ q. q < fabric.qubits) f map
+      → IsApart (λ q. fabric.exists q ≡ true) f map
+  apart_on apart = record { inside = inside_on apart.inside; once = apart.once }
 
-pub linked_on : (fabric : Fabric) (f : IsingContent) (map : List (List ℕ)) → AllExist fabric map
-    → IsLinked fabric.joined (λ q. q < fabric.qubits) f map
-    → IsLinked fabric.joined (λ q. fabric.exists q ≡ true) f map
-linked_on fabric f map all linked =
-    record { apart = apart_on fabric f map all linked.apart; connected = linked.connected }
+  pub linked_on : IsLinked fabric.joined (λ q. q < fabric.qubits) f map
+      → IsLinked fabric.joined (λ q. fabric.exists q ≡ true) f map
+  linked_on linked = record { apart = apart_on linked.apart; connected = linked.connected }
 
 -- so a fault on the joins is one here
 pub fault_on : (fabric : Fabric) (f : IsingContent) (map : List (List ℕ)) (x : EmbedFault)
-    → AllExist fabric map
-    → ((u : ℕ) → u < length map → (j : ℕ) → j < length (chain_of map u)
-    → Exists fabric.qubits map u j)
-    → IsFault fabric.joined fabric.qubits f map x → IsFaultOn fabric f map x
+    → AllExist fabric map → ((u : ℕ) → u < length map → (j : ℕ) → j < length (chain_of map u)
+    → Exists fabric.qubits map u j) → IsFault fabric.joined fabric.qubits f map x
+    → IsFaultOn fabric f map x
 fault_on fabric f map (ChainCount n) all within h = h
 fault_on fabric f map (EmptyChain v) all within h = h
 fault_on fabric f map (NoSuchQubit v q) all within h =

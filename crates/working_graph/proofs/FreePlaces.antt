@@ -17,9 +17,8 @@ all_from p [] each = refl
 all_from p (x ∷ xs) each =
     rw (each 0 (omega arith), all_from p xs (λ i low. each (suc i) (omega (arith, low)))) refl
 
-pub linked_from : (joined : Joins) (xs : List ℕ)
-    → ((j : ℕ) → suc j < length xs → joined (get_or xs j 0) (get_or xs (suc j) 0) ≡ true)
-    → are_linked joined xs ≡ true
+pub linked_from : (joined : Joins) (xs : List ℕ) → ((j : ℕ) → suc j < length xs
+    → joined (get_or xs j 0) (get_or xs (suc j) 0) ≡ true) → are_linked joined xs ≡ true
 linked_from joined [] each = refl
 linked_from joined (a ∷ []) each = refl
 linked_from joined (a ∷ b ∷ qs) each =
@@ -45,8 +44,7 @@ place_below graph row other low below = mul-add-lt row graph.shore other
 
 -- the chain of one place is coupled to that of another
 abbrev meets : WorkingGraph → ℕ → ℕ → Bool
-meets w place u =
-    are_coupled (joined_in w) (clique_chain w.graph place) (clique_chain w.graph u)
+meets w place u = are_coupled (joined_in w) (clique_chain w.graph place) (clique_chain w.graph u)
 
 -- the answer that dead couplers part a place from a marked one, and that they part it from none
 abbrev IsBar : WorkingGraph → List Bool → ℕ → Type 0
@@ -56,11 +54,10 @@ abbrev IsUnbarred : WorkingGraph → List Bool → ℕ → Type 0
 IsUnbarred w marks place = (u : ℕ) → is_marked marks u ≡ true → IsParted w place u → ⊥
 
 free_when : (w : WorkingGraph) (marks : List Bool) (place : ℕ) (xs : List ℕ) (b : Bool)
-    → place < clique_places w.graph → (b ≡ true → IsBar w marks place)
-    → (b ≡ false → IsUnbarred w marks place)
-    → is_whole (fabric_of w) (clique_chain w.graph place) ≡ true → AreMarked marks xs
-    → AreTaken (fabric_of w) (clique_chain w.graph) place xs
-    → not b ≡ list_all (meets w place) xs
+    → place < clique_places w.graph → (b ≡ true → IsBar w marks place) → (b ≡ false
+    → IsUnbarred w marks place) → is_whole (fabric_of w) (clique_chain w.graph place) ≡ true
+    → AreMarked marks xs → AreTaken (fabric_of w) (clique_chain w.graph) place xs → not b
+    ≡ list_all (meets w place) xs
 free_when w marks place xs true below found none whole marked taken =
     let bar = found refl in
     let at = at_of_in xs bar.0 (sym (marked bar.0) ∙ bar.1) in
@@ -69,16 +66,14 @@ free_when w marks place xs true below found none whole marked taken =
     sym (list_all_at (meets w place) xs at.0 0 at.1 (rw at.2 apart))
 free_when w marks place xs false below found none whole marked taken =
     sym (all_from (meets w place) xs (λ i low.
-    let u = get_or xs i 0 in
-    unparted_coupled w u place (taken.below i low) below (taken.whole i low) whole
-    (none refl u (marked u ∙ is_in_at xs i u low refl))))
+    unparted_coupled w _ place (taken.below i low) below (taken.whole i low) whole
+    (none refl _ (marked _ ∙ is_in_at xs i _ low refl))))
 
 pub free_by : (w : WorkingGraph) (marks : List Bool) (place : ℕ) (xs : List ℕ) (b : Bool)
-    → place < clique_places w.graph → (b ≡ true → IsBar w marks place)
-    → (b ≡ false → IsUnbarred w marks place)
-    → is_whole (fabric_of w) (clique_chain w.graph place) ≡ true → AreMarked marks xs
-    → AreTaken (fabric_of w) (clique_chain w.graph) place xs
-    → not b ≡ is_free (fabric_of w) (clique_chain w.graph) xs place
+    → place < clique_places w.graph → (b ≡ true → IsBar w marks place) → (b ≡ false
+    → IsUnbarred w marks place) → is_whole (fabric_of w) (clique_chain w.graph place) ≡ true
+    → AreMarked marks xs → AreTaken (fabric_of w) (clique_chain w.graph) place xs → not b
+    ≡ is_free (fabric_of w) (clique_chain w.graph) xs place
 free_by w marks place xs b below found none whole marked taken =
     free_when w marks place xs b below found none whole marked taken
     ∙ sym (λ i. whole i && list_all (meets w place) xs)
@@ -123,12 +118,11 @@ BarsIn w marks place row at =
     (is_marked marks u ≡ true) × IsParted w place u
 
 pub unbarred : (w : WorkingGraph) (place row k : ℕ) (cuts : List ℕ) (from : ℕ) (marks : List Bool)
-    → place < clique_places w.graph → row ≤ place / w.graph.shore
-    → ((p q : ℕ) → p < 2 ^ 32 → q < 2 ^ 32 → has_pair cuts p q ≡ is_cut w p q)
-    → from ≡ first_across w.graph place row → AreRising cuts
-    → HasPassed cuts from k (BarsIn w marks place row)
-    → (k < length cuts → get_or cuts k 0 - from < w.graph.shore → ⊥)
-    → (u : ℕ) → u / w.graph.shore ≡ row → is_marked marks u ≡ true → IsParted w place u → ⊥
+    → place < clique_places w.graph → row ≤ place / w.graph.shore → ((p q : ℕ) → p < 2 ^ 32
+    → q < 2 ^ 32 → has_pair cuts p q ≡ is_cut w p q) → from ≡ first_across w.graph place row
+    → AreRising cuts → HasPassed cuts from k (BarsIn w marks place row) → (k < length cuts
+    → get_or cuts k 0 - from < w.graph.shore → ⊥) → (u : ℕ) → u / w.graph.shore ≡ row
+    → is_marked marks u ≡ true → IsParted w place u → ⊥
 unbarred w place row k cuts from marks below high said is_from rising inv done u e marked parted =
     let T = w.graph.shore in
     let some = w.graph.shape.some_shore in
@@ -159,10 +153,9 @@ pub more_chains : (F : ℕ → List ℕ) (xs ys : List ℕ) (v : ℕ) (m : List 
 more_chains F xs ys v m c same here more = rw (same, here, ← more) (sym (map-append F xs (v ∷ [])))
 
 -- the chains of so many places, once so many are taken
-pub chains_front : (w : WorkingGraph) (n nodes : ℕ) (m : List (List ℕ))
-    → n ≤ clique_places w.graph
-    → m ≡ map (clique_chain w.graph) (taken_of (fabric_of w) (clique_chain w.graph) n)
-    → length m ≡ nodes → m ≡ working_clique w nodes
+pub chains_front : (w : WorkingGraph) (n nodes : ℕ) (m : List (List ℕ)) → n ≤ clique_places w.graph
+    → m ≡ map (clique_chain w.graph) (taken_of (fabric_of w) (clique_chain w.graph) n) → length m
+    ≡ nodes → m ≡ working_clique w nodes
 chains_front w n nodes m low same len =
     let F = clique_chain w.graph in
     let xs = taken_of (fabric_of w) F n in

@@ -6,8 +6,7 @@ use Rattle.working_graph.specs.declared.parts.DeadPart.TheVariants.{Qubit, Coupl
 
 -- a dead qubit is one of the graph
 pub dead_below : (graph : Chimera) (part : DeadPart) → IsPartOf graph part → (q : ℕ)
-    → is_qubit q part ≡ true
-    → q < qubits_of graph
+    → is_qubit q part ≡ true → q < qubits_of graph
 dead_below graph (Qubit a) below q test = omega (arith, below, eqb-true a q test)
 dead_below graph (Coupler a b) below q test = absurd cc
 
@@ -39,18 +38,14 @@ pairs_same a b p q low_a low_b low_p low_q = grind (arith, nat_tests)
 
 -- the number of a part tells whether it is the coupler of these two
 numbered_is : (graph : Chimera) (p q : ℕ) → p < 2 ^ 32 → q < 2 ^ 32 → (part : DeadPart)
-    → IsPartOf graph part
-    → has_pair (coupler_number part) p q ≡ is_coupler p q part
+    → IsPartOf graph part → has_pair (coupler_number part) p q ≡ is_coupler p q part
 numbered_is graph p q low_p low_q (Qubit a) below = refl
 numbered_is graph p q low_p low_q (Coupler a b) below =
-    or_none _
-    ∙ pairs_same a b p q (omega (arith, below.0, graph.shape.few))
+    or_none _ ∙ pairs_same a b p q (omega (arith, below.0, graph.shape.few))
     (omega (arith, below.1, graph.shape.few)) low_p low_q
 
-pub any_numbered : (graph : Chimera) (p q : ℕ) → p < 2 ^ 32 → q < 2 ^ 32
-    → (parts : List DeadPart)
-    → All (IsPartOf graph) parts
-    → has_pair (numbers_of parts) p q ≡ list_any (is_coupler p q) parts
+pub any_numbered : (graph : Chimera) (p q : ℕ) → p < 2 ^ 32 → q < 2 ^ 32 → (parts : List DeadPart)
+    → All (IsPartOf graph) parts → has_pair (numbers_of parts) p q ≡ list_any (is_coupler p q) parts
 any_numbered graph p q low_p low_q [] all = refl
 any_numbered graph p q low_p low_q (part ∷ parts) all =
     let first = numbered_is graph p q low_p low_q part (all 0 part (omega arith)) in

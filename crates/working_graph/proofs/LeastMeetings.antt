@@ -3,9 +3,9 @@
 -- Two chains have different lines, so that they meet in cells alone: where the later one goes down
 -- its column through the row of the earlier one. Only in one cell of the diagonal the earlier one
 -- also goes down through the row of the later one, and there it stands before it.
-use Rattle.working_graph.proofs.Common.{nat_tests, ◌≡◌, ℕ, ◌+◌, ◌-◌, ◌<◌, ◌≤◌, ◌⊎◌, inl, inr, Bool, true, ◌&&◌, ◌||◌, List, refl, sym, ap, ◌∙◌, arith, cases_lt, or_cases, is_in, Chimera, Place, index_of, place_of, are_joined, are_joined-comm, number_again, Joins, IsCrossing, diagonal_of, down_qubit, along_qubit, path_of, IsBefore, IsPlace, down_place, along_place, place_again, down_in, along_in, path_len, path_down, path_along, cell_joined, joined_on}
-use Rattle.chain_map.proofs.Paths.{is_in_at}
-use Rattle.working_graph.proofs.CliquePaths.{IsStep, step_of, joined_at, down_down, along_along, down_along, along_down}
+use Rattle.working_graph.proofs.Common.{and_parts, nat_tests, ◌≡◌, ℕ, ◌<◌, ◌≤◌, ◌⊎◌, inl, inr, Bool, true, ◌&&◌, ◌||◌, List, refl, sym, ap, ◌∙◌, arith, cases_lt, or_cases, is_in, Chimera, Place, index_of, place_of, are_joined, are_joined-comm, number_again, Joins, IsCrossing, diagonal_of, down_qubit, along_qubit, path_of, IsBefore, IsPlace, down_place, along_place, place_again, down_in, along_in, cell_joined, joined_on}
+use Rattle.working_graph.proofs.CliquePaths.{IsStep, step_of, joined_at}
+use Rattle.working_graph.proofs.Meetings.{in_down, in_along}
 
 -- ---- where two chains meet
 
@@ -22,26 +22,21 @@ record MeetsEarlier (i k j l : ℕ) (p q : Place) : Type 0 where
 
 meets : (i k j l m n : ℕ) (p q : Place) → i ≤ j → (i ≡ j → k < l) → IsStep i k m p → IsStep j l n q
     → are_joined p q ≡ true → MeetsLater i k j l p q ⊎ MeetsEarlier i k j l p q
-meets i k j l m n p q before apart s t linked = elim (cases_lt i m) [
-  | inr low ↦ elim (cases_lt j n) [
-    | inr below ↦
-        let line = down_down i k m j l n (joined_at p q _ _ (s.down low) (t.down below) linked) in
-        absurd (omega (arith, apart line.line, line.at))
-    | inl above ↦
-        let met = down_along i k m j l (n - 1) (joined_at p q _ _ (s.down low) (t.along above) linked) in
-        let row : m ≡ i = omega (arith, met.0, low, before) in
-        let col : n - 1 ≡ j = omega (arith, met.0, met.1, low, before) in
-        inr (record { cell = omega (arith, met.0, low, before); first = rw row at (s.down low); second = rw col at (t.along above) })
-  ]
-  | inl high ↦ elim (cases_lt j n) [
-    | inr below ↦
-        let met = along_down i k (m - 1) j l n (joined_at p q _ _ (s.along high) (t.down below) linked) in
-        inl (record { first = rw met.1 at (s.along high); second = rw met.0 at (t.down below) })
-    | inl above ↦
-        let line = along_along i k (m - 1) j l (n - 1) (joined_at p q _ _ (s.along high) (t.along above) linked) in
-        absurd (omega (arith, apart line.line, line.at))
-  ]
-]
+meets i k j l m n p q before apart s t linked =
+    let here = s.down in
+    let there = s.along in
+    let this = t.down in
+    let that = t.along in
+    elim (cases_lt i m) [
+      | inr low ↦ elim (cases_lt j n) [
+        | inr below ↦ grind (arith, nat_tests)
+        | inl above ↦ grind (arith, nat_tests)
+      ]
+      | inl high ↦ elim (cases_lt j n) [
+        | inr below ↦ grind (arith, nat_tests)
+        | inl above ↦ grind (arith, nat_tests)
+      ]
+    ]
 
 -- a qubit by its place
 numbered : (graph : Chimera) (q : ℕ) (p : Place) → place_of graph q ≡ p → q ≡ index_of graph p
@@ -53,9 +48,6 @@ side_before : (graph : Chimera) (i j k l : ℕ) → l < graph.shore
 side_before graph i j k l at = omega (arith, at)
 
 -- ---- the ends of a crossing
-
-both_true : (x y : Bool) → (x && y) ≡ true → (x ≡ true) × (y ≡ true)
-both_true x y both = grind (arith, nat_tests)
 
 -- two qubits are a pair, in one order or the other
 abbrev AreEnds : ℕ × ℕ → ℕ → ℕ → Type 0
@@ -74,16 +66,15 @@ ends_of graph c d pair crossing =
     let back = are_joined-comm (place_of graph pair.1) (place_of graph pair.0) in
     elim (or_cases (is_in c pair.0 && is_in d pair.1) (is_in d pair.0 && is_in c pair.1) crossing.between.ends) [
       | inl ends ↦
-          let both = both_true (is_in c pair.0) (is_in d pair.1) ends in
+          let both = and_parts (is_in c pair.0) (is_in d pair.1) ends in
           (pair.0, pair.1, record { first = both.0; second = both.1; linked = crossing.linked; ordered = inl (refl, refl) })
       | inr ends ↦
-          let both = both_true (is_in d pair.0) (is_in c pair.1) ends in
+          let both = and_parts (is_in d pair.0) (is_in c pair.1) ends in
           (pair.1, pair.0, record { first = both.1; second = both.0; linked = back ∙ crossing.linked; ordered = inr (refl, refl) })
     ]
 
 -- a pair whose lesser qubit is before both ends, or that has these ends
-before_both : (x y a b : ℕ) (pair : ℕ × ℕ) → AreEnds pair a b → x < a → x < b
-    → IsBefore (x, y) pair
+before_both : (x y a b : ℕ) (pair : ℕ × ℕ) → AreEnds pair a b → x < a → x < b → IsBefore (x, y) pair
 before_both x y a b pair e low low' = grind (arith, nat_tests)
 
 before_same : (x y a b : ℕ) (pair : ℕ × ℕ) → AreEnds pair a b → a ≡ x → b ≡ y → x < y
@@ -101,26 +92,13 @@ left_end p q r e f = rw (e, f) refl
 right_end : (p q r : Bool) → q ≡ true → r ≡ true → (p || (q && r)) ≡ true
 right_end p q r e f = grind (arith, nat_tests)
 
-down_listed : (graph : Chimera) (i k m : ℕ) → i < diagonal_of graph → m ≤ i
-    → is_in (path_of graph i k) (down_qubit graph i k m) ≡ true
-down_listed graph i k m cell low =
-    is_in_at (path_of graph i k) m (down_qubit graph i k m)
-    (omega (arith, cell, low, path_len graph i k cell)) (path_down graph i k m low)
-
-along_listed : (graph : Chimera) (i k m : ℕ) → i < diagonal_of graph → i ≤ m → m < diagonal_of graph
-    → is_in (path_of graph i k) (along_qubit graph i k m) ≡ true
-along_listed graph i k m cell high below =
-    is_in_at (path_of graph i k) (m + 1) (along_qubit graph i k m)
-    (omega (arith, below, path_len graph i k cell)) (path_along graph i k m high below)
-
 joined_in_cell : (graph : Chimera) (i j k l : ℕ) → i ≤ j → j < diagonal_of graph → k < graph.shore
     → l < graph.shore → joined_on graph (down_qubit graph j l i) (along_qubit graph i k j) ≡ true
 joined_in_cell graph i j k l before cell at at' =
     joined_at _ _ _ _
     (sym (place_again graph (down_place j l i) (down_in graph j l i cell at' before)))
     (sym (place_again graph (along_place i k j)
-    (along_in graph i k j (omega (arith, before, cell)) at cell)))
-    (cell_joined i j k l)
+    (along_in graph i k j (omega (arith, before, cell)) at cell))) (cell_joined i j k l)
 
 -- of two nodes of one cell
 pub same_cell : (graph : Chimera) (i k l : ℕ) → i < diagonal_of graph → k < l → l < graph.shore
@@ -130,7 +108,8 @@ same_cell graph i k l cell less at =
     let at' : k < graph.shore = omega (arith, less, at) in
     let here : i ≤ i = omega arith in
     let up = side_before graph i i l k at' in
-    let ends = left_end _ _ _ (down_listed graph i k i cell here) (along_listed graph i l i cell here cell) in
+    let ends = left_end _ _ _ (in_down graph i k i cell here) (in_along graph i l i cell here cell)
+    in
     record {
       crossing = record {
         between = record { upward = up; ends = ends };
@@ -154,13 +133,13 @@ same_cell graph i k l cell less at =
 
 -- of nodes of two cells
 pub other_cell : (graph : Chimera) (i k j l : ℕ) → i < j → j < diagonal_of graph → k < graph.shore
-    → l < graph.shore
-    → IsPlace (joined_on graph) (path_of graph i k) (path_of graph j l)
+    → l < graph.shore → IsPlace (joined_on graph) (path_of graph i k) (path_of graph j l)
     (down_qubit graph j l i, along_qubit graph i k j)
 other_cell graph i k j l before cell at at' =
     let first : i < diagonal_of graph = omega (arith, before, cell) in
     let order : i ≤ j = omega (arith, before) in
-    let ends = right_end _ _ _ (down_listed graph j l i cell order) (along_listed graph i k j first order cell) in
+    let ends = right_end _ _ _ (in_down graph j l i cell order)
+    (in_along graph i k j first order cell) in
     record {
       crossing = record {
         between = record { upward = side_before graph i j k l at'; ends = ends };

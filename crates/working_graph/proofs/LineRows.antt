@@ -54,8 +54,7 @@ unfolding tokens_from
 later_past style m n [] low = tt
 later_past style m n (line ∷ lines) low =
     let found = line_words style n line in
-    rw found.1
-    (past_words m n found.0 (tokens_from style (n + 1) lines) low
+    rw found.1 (past_words m n found.0 (tokens_from style (n + 1) lines) low
     (later_past style m (n + 1) lines (omega (arith, low))))
 
 onto_front : (w : Word) (r : Row) (rs others : List Row)

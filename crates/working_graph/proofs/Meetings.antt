@@ -3,7 +3,7 @@
 -- A place goes down a column and on along a row. Of two places the later one goes down through the
 -- row of the earlier one; in one cell of the diagonal the earlier one goes down through that of the
 -- later one, too. Qubits of one kind are joined along a line, and no two places share one.
-use Rattle.working_graph.proofs.Common.{true_or_false, ◌≡◌, ℕ, ◌+◌, ◌-◌, ◌*◌, ◌/◌, ◌%◌, ◌<◌, ◌≤◌, ◌⊎◌, inl, inr, Bool, true, false, not, ◌&&◌, List, refl, sym, ap, ◌∙◌, arith, mod-lt, list_any, cases_eq, cases_lt, nat_tests, list_any_at, div-add-mod', min-le_left, min-le_right, is_in, Chimera, Place, IsPlaceIn, place_of, index_of, are_joined, Joins, diagonal_of, clique_places, down_qubit, along_qubit, path_of, clique_chain, down_place, along_place, place_again, down_in, along_in, path_len, path_down, path_along, cell_joined, cell_of, cells_rise, is_in_at, at_of_in, Fabric, WorkingGraph, exists_in, joined_in, fabric_of, are_coupled, is_whole, is_cut, is_cut_at, IsParted, joined_in-comm, joined_in-plain}
+use Rattle.working_graph.proofs.Common.{true_or_false, ◌≡◌, ℕ, ◌+◌, ◌-◌, ◌*◌, ◌/◌, ◌%◌, ◌<◌, ◌≤◌, ◌⊎◌, inl, inr, Bool, true, false, not, ◌&&◌, List, refl, sym, ap, ◌∙◌, arith, mod-lt, list_any, cases_eq, cases_lt, nat_tests, list_any_at, div-add-mod', is_in, Chimera, Place, IsPlaceIn, place_of, index_of, are_joined, Joins, diagonal_of, clique_places, down_qubit, along_qubit, path_of, clique_chain, down_place, along_place, place_again, down_in, along_in, path_len, path_down, path_along, cell_joined, cell_of, cells_rise, is_in_at, at_of_in, Fabric, WorkingGraph, exists_in, joined_in, fabric_of, are_coupled, is_whole, is_cut, is_cut_at, IsParted, joined_in-comm, joined_in-plain}
 use Rattle.working_graph.proofs.WorkingCliques.{any_of, whole_exists}
 
 -- ---- the qubits of a place
@@ -48,23 +48,19 @@ record AreSame (a b c d : ℕ) : Type 0 where
 
 down_down : (i j k l r s : ℕ) → are_joined (down_place j l r) (down_place i k s) ≡ true
     → AreSame j i l k
-down_down i j k l r s h =
-    record { one = grind (arith, nat_tests); other = grind (arith, nat_tests) }
+down_down i j k l r s h = grind (arith, nat_tests)
 
 along_along : (i j k l c d : ℕ) → are_joined (along_place j l c) (along_place i k d) ≡ true
     → AreSame j i l k
-along_along i j k l c d h =
-    record { one = grind (arith, nat_tests); other = grind (arith, nat_tests) }
+along_along i j k l c d h = grind (arith, nat_tests)
 
 down_along : (i j k l r c : ℕ) → are_joined (down_place j l r) (along_place i k c) ≡ true
     → AreSame r i c j
-down_along i j k l r c h =
-    record { one = grind (arith, nat_tests); other = grind (arith, nat_tests) }
+down_along i j k l r c h = grind (arith, nat_tests)
 
 along_down : (i j k l c r : ℕ) → are_joined (along_place j l c) (down_place i k r) ≡ true
     → AreSame r j c i
-along_down i j k l c r h =
-    record { one = grind (arith, nat_tests); other = grind (arith, nat_tests) }
+along_down i j k l c r h = grind (arith, nat_tests)
 
 -- ---- joins of the working graph
 
@@ -81,10 +77,9 @@ all_true j e f c p q r s = rw (p, q, r, s) refl
 
 -- two places of a graph are joined in what is left of it
 left_joined : (w : WorkingGraph) (p q : Place) → IsPlaceIn w.graph p → IsPlaceIn w.graph q
-    → are_joined p q ≡ true
-    → exists_in w (index_of w.graph p) ≡ true → exists_in w (index_of w.graph q) ≡ true
-    → is_cut w (index_of w.graph p) (index_of w.graph q) ≡ false
-    → joined_in w (index_of w.graph p) (index_of w.graph q) ≡ true
+    → are_joined p q ≡ true → exists_in w (index_of w.graph p) ≡ true
+    → exists_in w (index_of w.graph q) ≡ true → is_cut w (index_of w.graph p) (index_of w.graph q)
+    ≡ false → joined_in w (index_of w.graph p) (index_of w.graph q) ≡ true
 left_joined w p q in_p in_q linked here there free =
     all_true _ _ _ _
     ((λ i. are_joined (place_again w.graph p in_p i) (place_again w.graph q in_q i)) ∙ linked)
@@ -98,8 +93,7 @@ any_in p xs q inside test =
     let at = at_of_in xs q inside in list_any_at p xs at.0 0 at.1 (rw at.2 test)
 
 coupled_by : (joined : Joins) (c d : List ℕ) (a b : ℕ) → is_in c a ≡ true → is_in d b ≡ true
-    → joined a b ≡ true
-    → are_coupled joined c d ≡ true
+    → joined a b ≡ true → are_coupled joined c d ≡ true
 coupled_by joined c d a b in_c in_d linked =
     any_in (λ p. list_any (joined p) d) c a in_c (any_in (joined a) d b in_d linked)
 
@@ -111,30 +105,23 @@ exists_of fabric xs q whole inside =
 on_cell : (graph : Chimera) (row col side at : ℕ) → row < diagonal_of graph
     → col < diagonal_of graph → side < 2
     → at < graph.shore → IsPlaceIn graph (record { row = row; col = col; side = side; at = at })
-on_cell graph row col side at low low' two below = record {
-  row_below = omega (arith, low, min-le_left graph.rows graph.cols);
-  col_below = omega (arith, low', min-le_right graph.rows graph.cols);
-  side_below = two;
-  at_below = below;
-}
+on_cell graph row col side at low low' two below = grind (arith, nat_tests)
 
 -- where no dead coupler names the qubits in which two places meet, they are joined
-meet_joined : (w : WorkingGraph) (i j k l : ℕ) → i < diagonal_of w.graph
-    → j < diagonal_of w.graph → k < w.graph.shore
-    → l < w.graph.shore
-    → exists_in w (down_qubit w.graph j l i) ≡ true → exists_in w (along_qubit w.graph i k j) ≡ true
-    → is_cut w (down_qubit w.graph j l i) (along_qubit w.graph i k j) ≡ false
-    → joined_in w (down_qubit w.graph j l i) (along_qubit w.graph i k j) ≡ true
+meet_joined : (w : WorkingGraph) (i j k l : ℕ) → i < diagonal_of w.graph → j < diagonal_of w.graph
+    → k < w.graph.shore → l < w.graph.shore → exists_in w (down_qubit w.graph j l i) ≡ true
+    → exists_in w (along_qubit w.graph i k j) ≡ true → is_cut w (down_qubit w.graph j l i)
+    (along_qubit w.graph i k j) ≡ false → joined_in w (down_qubit w.graph j l i)
+    (along_qubit w.graph i k j) ≡ true
 meet_joined w i j k l cell cell' at at' here there free =
     left_joined w (down_place j l i) (along_place i k j) (on_cell w.graph i j 0 l cell cell' (omega arith) at')
     (on_cell w.graph i j 1 k cell cell' (omega arith) at) (cell_joined i j k l) here there free
 
 -- two whole places that are not parted are coupled
 pub unparted_coupled : (w : WorkingGraph) (u v : ℕ) → u < v → v < clique_places w.graph
-    → is_whole (fabric_of w) (clique_chain w.graph u) ≡ true
-    → is_whole (fabric_of w) (clique_chain w.graph v) ≡ true
-    → (IsParted w v u → ⊥)
-    → are_coupled (joined_in w) (clique_chain w.graph v) (clique_chain w.graph u) ≡ true
+    → is_whole (fabric_of w) (clique_chain w.graph u) ≡ true → is_whole (fabric_of w)
+    (clique_chain w.graph v) ≡ true → (IsParted w v u → ⊥) → are_coupled (joined_in w)
+    (clique_chain w.graph v) (clique_chain w.graph u) ≡ true
 unparted_coupled w u v before below whole_u whole_v unparted =
     let graph = w.graph in
     let i = u / graph.shore in
@@ -160,8 +147,7 @@ unparted_coupled w u v before below whole_u whole_v unparted =
           | inr e ↦
               let down_in_u = in_down graph i (u % graph.shore) j cell_u (omega (arith, same)) in
               let along_in_v = in_along graph j (v % graph.shore) i cell_v (omega (arith, same)) cell_u in
-              coupled_by (joined_in w) d c _ _ along_in_v down_in_u
-              (joined_in-comm w _ _
+              coupled_by (joined_in w) d c _ _ along_in_v down_in_u (joined_in-comm w _ _
               ∙ meet_joined w j i _ _ cell_v cell_u at_v at_u (in_u _ down_in_u) (in_v _ along_in_v) e)
           | inl e ↦ absurd (unparted (record { down = cut; across = λ _. e }))
         ]
@@ -175,8 +161,7 @@ at_down : (graph : Chimera) (i k r q : ℕ) → i < diagonal_of graph → k < gr
 at_down graph i k r q cell at low e = rw (← e) (place_again graph (down_place i k r) (down_in graph i k r cell at low))
 
 at_along : (graph : Chimera) (i k c q : ℕ) → i < diagonal_of graph → k < graph.shore
-    → c < diagonal_of graph
-    → along_qubit graph i k c ≡ q → place_of graph q ≡ along_place i k c
+    → c < diagonal_of graph → along_qubit graph i k c ≡ q → place_of graph q ≡ along_place i k c
 at_along graph i k c q cell at high e =
     rw (← e) (place_again graph (along_place i k c) (along_in graph i k c cell at high))
 

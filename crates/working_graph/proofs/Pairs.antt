@@ -23,12 +23,10 @@ rising_parted xs from rising = λ i j d le low test.
     let two = get_or_default_zero xs j d low in
     grind (arith, nat_tests)
 
-pub below_point : (xs : List ℕ) (from at : ℕ)
-    → IsPartitionPoint (λ n. nat_lt n from ≡ true) (λ n. nat_lt n from ≡ false) xs at
-    → (i : ℕ) → i < at → get_or xs i 0 < from
+pub below_point : (xs : List ℕ) (from at : ℕ) → IsPartitionPoint (λ n. nat_lt n from ≡ true)
+    (λ n. nat_lt n from ≡ false) xs at → (i : ℕ) → i < at → get_or xs i 0 < from
 below_point xs from at parted i low = is_below (get_or xs i 0) from (parted.0 i 0 (omega arith) low)
 
-pub above_point : (xs : List ℕ) (from at : ℕ)
-    → IsPartitionPoint (λ n. nat_lt n from ≡ true) (λ n. nat_lt n from ≡ false) xs at
-    → (i : ℕ) → at ≤ i → i < length xs → from ≤ get_or xs i 0
+pub above_point : (xs : List ℕ) (from at : ℕ) → IsPartitionPoint (λ n. nat_lt n from ≡ true)
+    (λ n. nat_lt n from ≡ false) xs at → (i : ℕ) → at ≤ i → i < length xs → from ≤ get_or xs i 0
 above_point xs from at parted i high low = is_above (get_or xs i 0) from (parted.1 i 0 high low)

@@ -16,9 +16,8 @@ said_of (Ok bs) = bs
 said_of (Err f) = []
 
 step_more : {B : Type 0} (front next : List B) (b : Result B TextFault)
-    (some all rest : Result (List B) TextFault)
-    → ((c : B) → after_front (front ++ c ∷ []) some ≡ Ok next
-    → after_front (front ++ c ∷ []) all ≡ rest)
+    (some all rest : Result (List B) TextFault) → ((c : B) → after_front (front ++ c ∷ []) some
+    ≡ Ok next → after_front (front ++ c ∷ []) all ≡ rest)
     → after_front front (b >>= λ c. some >>= λ more. Ok (c ∷ more)) ≡ Ok next
     → after_front front (b >>= λ c. all >>= λ more. Ok (c ∷ more)) ≡ rest
 step_more front next (Ok c) some all rest go said =
@@ -37,9 +36,8 @@ each_more read front next (x ∷ xs) ys said =
     (after_front next (each read ys)) (λ c. each_more read (front ++ c ∷ []) next xs ys) said
 
 step_fails : {B : Type 0} (front : List B) (b : Result B TextFault)
-    (some all : Result (List B) TextFault) (f : TextFault)
-    → ((c : B) → after_front (front ++ c ∷ []) some ≡ Err f
-    → after_front (front ++ c ∷ []) all ≡ Err f)
+    (some all : Result (List B) TextFault) (f : TextFault) → ((c : B)
+    → after_front (front ++ c ∷ []) some ≡ Err f → after_front (front ++ c ∷ []) all ≡ Err f)
     → after_front front (b >>= λ c. some >>= λ more. Ok (c ∷ more)) ≡ Err f
     → after_front front (b >>= λ c. all >>= λ more. Ok (c ∷ more)) ≡ Err f
 step_fails front (Ok c) some all f go fails =
@@ -65,8 +63,7 @@ parts_none graph ws none = rw none refl
 
 -- a line that names a part, or is bad
 pub line_says : (graph : Chimera) (n : ℕ) (line : List ℕ) (w : Word) (ws : List Word)
-    → tokens_of_line Plain n line ≡ w ∷ ws
-    → parts_of_words graph (tokens_of_line Plain n line)
+    → tokens_of_line Plain n line ≡ w ∷ ws → parts_of_words graph (tokens_of_line Plain n line)
     ≡ part_at graph (row_of w ws) >>= λ part. Ok (part ∷ [])
 unfolding parts_of_words each
 line_says graph n line w ws said = rw (said, one_row Plain n line w ws said) refl

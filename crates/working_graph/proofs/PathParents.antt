@@ -2,7 +2,7 @@
 --
 -- A step of a walk goes at most one place on in the chain. So the distance of a qubit is its place
 -- in the chain, and the one qubit nearer to the first that it is joined to stands before it.
-use Rattle.working_graph.proofs.Common.{◌≡◌, ℕ, zero, suc, ◌+◌, ◌-◌, ◌<◌, ◌≤◌, inl, inr, true, eqb, List, [], ◌∷◌, length, get_or, take, refl, ap, subst, arith, AllZip, eqb-true, or_cases, is_in, IsWalk, end_of, Joins, HasDistance, IsParent, AreParents, one_distance, but_last}
+use Rattle.working_graph.proofs.Common.{at_of_in, ◌≡◌, ℕ, zero, suc, ◌+◌, ◌-◌, ◌<◌, ◌≤◌, true, List, [], ◌∷◌, length, get_or, take, refl, ap, arith, AllZip, IsWalk, end_of, Joins, HasDistance, IsParent, AreParents, one_distance, but_last}
 use Rattle.chain_map.proofs.Paths.{is_in_at}
 
 -- each qubit is joined to the next one, and to none further on; and none stands twice
@@ -13,15 +13,6 @@ pub record IsPath (joined : Joins) (chain : List ℕ) : Type 0 where
       → joined (get_or chain j 0) (get_or chain k 0) ≡ true → k ≤ j + 1
   pub once : (j k : ℕ) → j < length chain → k < length chain
       → get_or chain j 0 ≡ get_or chain k 0 → j ≡ k
-
--- a qubit of a chain has a place in it
-pub place_in : (chain : List ℕ) (q : ℕ) → is_in chain q ≡ true
-    → (k : ℕ) × (k < length chain) × (get_or chain k 0 ≡ q)
-place_in [] q in' = absurd cc
-place_in (c ∷ cs) q in' = elim (or_cases (eqb c q) (is_in cs q) in') [
-  | inl here ↦ (0, omega arith, eqb-true c q here)
-  | inr rest ↦ let later = place_in cs q rest in (suc later.0, omega (arith, later.1), later.2)
-]
 
 -- ---- distances
 
@@ -45,11 +36,12 @@ walk_on : (joined : Joins) (chain : List ℕ) → IsPath joined chain → (j m :
     → IsWalk joined chain (get_or chain j 0) (steps_on chain j m)
 unfolding steps_on
 walk_on joined chain path j zero below = tt
-walk_on joined chain path j (suc m) below = (
-  is_in_at chain (j + 1) (get_or chain (j + 1) 0) (omega (arith, below)) refl,
-  path.linked j (omega (arith, below)),
-  walk_on joined chain path (j + 1) m (omega (arith, below)),
-)
+walk_on joined chain path j (suc m) below =
+    let here = is_in_at chain (j + 1) (get_or chain (j + 1) 0) (omega (arith, below)) refl in (
+      here,
+      path.linked j (omega (arith, below)),
+      walk_on joined chain path (j + 1) m (omega (arith, below)),
+    )
 
 -- a walk goes on by at most a place for each of its steps
 walk_short : (joined : Joins) (chain : List ℕ) → IsPath joined chain → (steps : List ℕ) (j k : ℕ)
@@ -57,7 +49,7 @@ walk_short : (joined : Joins) (chain : List ℕ) → IsPath joined chain → (st
     → end_of (get_or chain j 0) steps ≡ get_or chain k 0 → k ≤ j + length steps
 walk_short joined chain path [] j k low high walk ends = omega (arith, path.once j k low high ends)
 walk_short joined chain path (q ∷ qs) j k low high walk ends =
-    let next = place_in chain q walk.0 in
+    let next = at_of_in chain q walk.0 in
     let one = path.near j next.0 low next.1 (rw next.2 walk.1) in
     let rest = walk_short joined chain path qs next.0 k next.1 high (rw next.2 walk.2) (rw next.2 ends) in
     omega (arith, one, rest)
@@ -90,7 +82,7 @@ place_parent joined chain path k below =
         nearer = (k, here, further);
       };
       least = λ r near.
-          let at = place_in chain r near.inside in
+          let at = at_of_in chain r near.inside in
           let there = rw at.2 at (place_distance joined chain path at.0 at.1) in
           let one = one_distance joined chain r near.nearer.0 at.0 near.nearer.1 there in
           let two = one_distance joined chain _ (suc near.nearer.0) (suc k) near.nearer.2 further in
@@ -99,9 +91,8 @@ place_parent joined chain path k below =
     }
 
 -- what holds of each two neighbours
-zip_neighbours : (R : ℕ → ℕ → Type 0) (c : ℕ) (cs : List ℕ)
-    → ((k : ℕ) → suc k < length (c ∷ cs) → R (get_or (c ∷ cs) (suc k) 0) (get_or (c ∷ cs) k 0))
-    → AllZip R cs (take (length cs) (c ∷ cs))
+zip_neighbours : (R : ℕ → ℕ → Type 0) (c : ℕ) (cs : List ℕ) → ((k : ℕ) → suc k < length (c ∷ cs)
+    → R (get_or (c ∷ cs) (suc k) 0) (get_or (c ∷ cs) k 0)) → AllZip R cs (take (length cs) (c ∷ cs))
 zip_neighbours R c [] each = tt
 zip_neighbours R c (d ∷ ds) each =
     (each 0 (omega arith), zip_neighbours R d ds (λ k below. each (suc k) (omega (arith, below))))
@@ -112,5 +103,4 @@ pub path_parents : (joined : Joins) (chain : List ℕ) → IsPath joined chain �
 path_parents joined [] path some = absurd (omega (arith, some))
 path_parents joined (c ∷ cs) path some =
     let less : length cs ≡ length (c ∷ cs) - 1 = omega arith in
-    subst (λ n. AllZip (IsParent joined (c ∷ cs)) cs (take n (c ∷ cs))) less
-    (zip_neighbours (IsParent joined (c ∷ cs)) c cs (place_parent joined (c ∷ cs) path))
+    rw (← less) (zip_neighbours (IsParent joined (c ∷ cs)) c cs (place_parent joined (c ∷ cs) path))

@@ -2,15 +2,14 @@
 --
 -- A whole place is a path of the working graph, and two that are taken have a join. That its
 -- numbers are below those of the graph and none is listed twice is so on the whole graph.
-use Rattle.working_graph.proofs.Common.{nat_tests, ◌≡◌, ◌≢◌, ℕ, zero, suc, ◌+◌, ◌/◌, ◌%◌, ◌<◌, ◌≤◌, ◌==◌, inl, inr, Bool, true, List, [], ◌∷◌, length, take, get_or, All, refl, sym, ap, ◌∙◌, arith, count_by, list_any, list_all, cases_eq, cases_lt, or_cases, or_left, or_right, length-map, length-take, get_or-map, get_or-take, sum_by-take-le, is_in, IsConnected, IsCoupler, qubits_of, Joins, occurrences, IsCrossing, clique_places, clique_chain, clique_of, path_len, cell_of, occurrences-sum, path_connected, default_free, same_test, Fabric, WorkingGraph, exists_in, joined_in, fabric_of, are_linked, are_coupled, is_whole, taken_places, working_clique, IsForWorkingClique, joined_in-comm, joined_in-self}
+use Rattle.working_graph.proofs.Common.{and_parts, nat_tests, ◌≡◌, ◌≢◌, ℕ, zero, suc, ◌+◌, ◌/◌, ◌%◌, ◌<◌, ◌≤◌, ◌==◌, inl, inr, Bool, true, List, [], ◌∷◌, length, take, get_or, All, refl, sym, ap, ◌∙◌, arith, count_by, list_any, list_all, cases_eq, cases_lt, or_cases, or_left, or_right, length-map, length-take, get_or-map, get_or-take, sum_by-take-le, is_in, IsConnected, IsCoupler, qubits_of, Joins, occurrences, IsCrossing, clique_places, clique_chain, clique_of, path_len, cell_of, occurrences-sum, path_connected, default_free, same_test, Fabric, WorkingGraph, exists_in, joined_in, fabric_of, are_linked, are_coupled, is_whole, taken_places, working_clique, IsForWorkingClique, joined_in-comm, joined_in-self}
 use Rattle.working_graph.proofs.EmptyForm.{clique_once, clique_within}
-use Rattle.working_graph.proofs.TakenPlaces.{left_true, right_true, all_at, are_taken, sum_by-map, taken_sum}
+use Rattle.working_graph.proofs.TakenPlaces.{all_at, are_taken, sum_by-map, taken_sum}
 
 -- ---- one chain
 
 pub linked_at : (joined : Joins) (xs : List ℕ) → are_linked joined xs ≡ true → (j : ℕ)
-    → suc j < length xs
-    → joined (get_or xs j 0) (get_or xs (suc j) 0) ≡ true
+    → suc j < length xs → joined (get_or xs j 0) (get_or xs (suc j) 0) ≡ true
 linked_at joined [] h j low = absurd (omega (arith, low))
 linked_at joined (a ∷ []) h j low = absurd (omega (arith, low))
 linked_at joined (a ∷ b ∷ qs) h zero low = grind (arith, nat_tests)
@@ -22,14 +21,15 @@ whole_connected fabric xs whole =
     path_connected fabric.joined xs (λ j low.
     let next : j + 1 ≡ suc j = omega arith in
     rw next (linked_at fabric.joined xs
-    (right_true (list_all fabric.exists xs) (are_linked fabric.joined xs) whole) j
+    (and_parts (list_all fabric.exists xs) (are_linked fabric.joined xs) whole).1 j
     (omega (arith, low))))
 
 pub whole_exists : (fabric : Fabric) (xs : List ℕ) → is_whole fabric xs ≡ true
     → All (λ q. fabric.exists q ≡ true) xs
 whole_exists fabric xs whole = λ j d low.
     rw (← default_free xs j 0 d low)
-    (all_at fabric.exists xs (left_true (list_all fabric.exists xs) (are_linked fabric.joined xs) whole) j low)
+    (all_at fabric.exists xs (and_parts (list_all fabric.exists xs) (are_linked fabric.joined xs)
+    whole).0 j low)
 
 -- ---- two chains
 
@@ -48,11 +48,8 @@ crossing_of w c d a b in_d in_c linked =
     let self = joined_in-self w a in
     let back = joined_in-comm w b a in
     elim (cases_lt a b) [
-      | inl low ↦
-          ((a, b), record { between = record { upward = low; ends = grind (arith, nat_tests) }; linked = linked })
-      | inr high ↦
-          let less : b < a = grind (arith, nat_tests, cases_eq a b) in
-          ((b, a), record { between = record { upward = less; ends = grind (arith, nat_tests) }; linked = back ∙ linked })
+      | inl low ↦ ((a, b), grind (arith, nat_tests))
+      | inr high ↦ ((b, a), grind (arith, nat_tests, cases_eq a b))
     ]
 
 pub coupled_crossing : (w : WorkingGraph) (c d : List ℕ) → are_coupled (joined_in w) d c ≡ true
@@ -68,8 +65,7 @@ abbrev on_place : WorkingGraph → ℕ → ℕ
 on_place w v = get_or (taken_places w) v 0
 
 chain_at : (w : WorkingGraph) (nodes v : ℕ) (d : List ℕ) → nodes ≤ length (taken_places w)
-    → v < nodes
-    → get_or (working_clique w nodes) v d ≡ clique_chain w.graph (on_place w v)
+    → v < nodes → get_or (working_clique w nodes) v d ≡ clique_chain w.graph (on_place w v)
 chain_at w nodes v d fits low =
     let taken = taken_places w in
     get_or-map (clique_chain w.graph) (take nodes taken) v 0 d (omega

@@ -1,4 +1,4 @@
-use Rattle.chain_map.proofs.Common.{◌<◌, length, take, sym, ◌∙◌, arith, length-take}
+use Rattle.chain_map.proofs.Common.{take, sym, ◌∙◌, arith, length-take}
 use Rattle.chain_map.proofs.LineNumbers.{digits_end, digits_number}
 use Rattle.chain_map.proofs.digits.first_number.Goals.{then-len-bytes, else-len-bytes}
 use Rattle.chain_map.proofs.digits.first_number.Goals as goal
@@ -15,10 +15,9 @@ returns-then-is_blank-clause-len c =
 
 pub returns-then-is_blank-clause-value : goal.returns-then-is_blank-clause-value
 returns-then-is_blank-clause-value c =
-    let bytes = c.args.bytes.now in
     let n = c.front_digits-value.result.1 in
     let d = c.front_digits-value.ensures in
-    let all = returns-then-is_blank-clause-len c in
-    let some : 0 < length (take n bytes) = omega (arith, length-take n bytes, d.within, c.if-len-gt0.true) in
-    let number = digits_number c.args.line c.front_digits-value.result.0 (take n bytes) d.digits some d.small d.value in
-    rw (← all) number
+    let some = length-take n c.args.bytes.now in
+    rw (← returns-then-is_blank-clause-len c)
+    (digits_number c.args.line _ (take n c.args.bytes.now) d.digits
+    (omega (arith, c.if-len-gt0.true)) d.small d.value)

@@ -31,10 +31,9 @@ returns-in_err-qubit c =
 
 pub loop-at-smaller : goal.loop-at-smaller
 loop-at-smaller c =
-    let ink : is_blank (get_or c.args.text.now c.loop-at.at 0) ≡ false =
-    sym c.is_blank.ensures ∙ c.if-is_blank.false in
-    let w = first_word c.args.text.now c.loop-at.at c.args.end c.in_ok-qubit.len c.args.line
-    c.loop-at-test.true c.requires.within ink c.in_ok-qubit.ensures.len in
+    let ink = sym c.is_blank.ensures ∙ c.if-is_blank.false in
+    let w = first_word _ _ _ _ c.args.line c.loop-at-test.true c.requires.within ink
+    c.in_ok-qubit.ensures.len in
     omega (arith, w.0, c.loop-at-test.true)
 
 pub loop-at-preserved : goal.loop-at-preserved
@@ -57,6 +56,4 @@ returns c =
     let end = c.args.end in
     let here : c.loop-at.at ≡ end = omega (arith, c.loop-at.invariant.high, c.loop-at-test.false) in
     let none : words (slice_range text c.loop-at.at end) ≡ [] = rw here (ap words (slice_none text end) ∙ words_none) in
-    sym c.loop-at.invariant.read
-    ∙ ap (λ ws. after_front c.loop-at.qubits.items (qubits_at (map (word c.args.line) ws))) none
-    ∙ qubits_end c.loop-at.qubits.items
+    rw (← c.loop-at.invariant.read, none) (qubits_end c.loop-at.qubits.items)

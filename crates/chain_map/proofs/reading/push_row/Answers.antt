@@ -1,5 +1,4 @@
-use Rattle.chain_map.proofs.Common.{◌≡◌, [], ◌∷◌, ◌++◌, length, refl, arith, rules, slice_range, err_from_is_err_and, tokens_of_line}
-use Rattle.whole_text.specs.declared.token.Style.TheVariants.{Plain}
+use Rattle.chain_map.proofs.Common.{◌≡◌, [], ◌∷◌, ◌++◌, length, refl, arith, rules, slice_range, err_from_is_err_and, tokens_of_line, Plain}
 use Rattle.chain_map.proofs.LineNumbers.{line_blank, line_comment, line_tokens}
 use Rattle.chain_map.proofs.Rows.{chain_none, chain_fail, chain_unread, chain_one}
 use Rattle.chain_map.proofs.reading.push_row.Goals.{then-at-end-via-then-at-end, then-at-end-via-else-at-end+then-text-at-eq99}

@@ -1,5 +1,4 @@
-use Rattle.chain_map.proofs.Common.{◌+◌, inl, inr, [], length, ap, ◌∙◌, arith, slice_range, cases_lt, take_rest, err_from_is_err_and, tokens_of_line, Fails, lines_from, line_cut, line_last, rows_from, chain_at, chains_at, after_front, reading}
-use Rattle.whole_text.specs.declared.token.Style.TheVariants.{Plain}
+use Rattle.chain_map.proofs.Common.{◌+◌, inl, inr, [], length, ap, ◌∙◌, arith, slice_range, cases_lt, take_rest, err_from_is_err_and, tokens_of_line, Fails, lines_from, line_cut, line_last, rows_from, chain_at, chains_at, after_front, reading, Plain}
 use Rattle.chain_map.proofs.Rows.{front_none, row_more, row_fails, rows_end, rows_next, rows_last}
 use Rattle.chain_map.proofs.reading.read_map.Goals as goal
 

@@ -4,15 +4,14 @@ use Rattle.conflict_clauses.proofs.replacing.replace_each.Goals as goal
 
 pub loop-i-preserved : goal.loop-i-preserved
 loop-i-preserved c =
-    let ks = c.args.problem.now.constraints in
     let i = c.loop-i.i in
     let p = c.loop-i.problem in
     let spent = c.loop-i.spent in
     let h = c.loop-i.invariant in
     let count = ap (λ (q : ProblemContent). length q.constraints) c.problem.view_is in
-    let here = place ks i (omega (arith, c.loop-i-test.true, c.len-i-end.ensures, count)) in
+    let here = place _ i (omega (arith, c.loop-i-test.true, c.len-i-end.ensures, count)) in
     let k = here.element in
-    let rest = drop (i + 1) ks in
+    let rest = drop (i + 1) _ in
     let at : slice_get p.constraints i ≡ Some k = (λ j. slice_get (h.constraints j) i) ∙ here.at in
     let problem : c.replace_at.new.problem ≡ with_clauses_of p spent k = c.in_ok-stays.ensures.clauses k at in
     let after : c.replace_at.new.spent ≡ spent_after spent k = c.in_ok-stays.ensures.spent k at in

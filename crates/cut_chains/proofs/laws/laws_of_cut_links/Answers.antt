@@ -2,7 +2,4 @@ use Rattle.cut_chains.proofs.Common.{chains_sound, as_chains, cut_joins}
 use Rattle.cut_chains.proofs.laws.laws_of_cut_links.Goals as goal
 
 pub returns : goal.returns
-returns c = record {
-  sound = λ link e fits. chains_sound (as_chains link) e fits;
-  joins = λ link e fits. cut_joins link e fits;
-}
+returns c = record { sound = λ link. chains_sound (as_chains link); joins = cut_joins }

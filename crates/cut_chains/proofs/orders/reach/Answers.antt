@@ -1,5 +1,5 @@
-use Rattle.cut_chains.proofs.Common.{◌≡◌, ◌<◌, ◌≤◌, ◌-◌, length, get_or, drop, take, refl, ap, subst, ◌∙◌, arith, take_more, take_all, length-drop, is_in, first_of, is_in_at}
-use Rattle.cut_chains.proofs.Reaching.{IsReaching, reach_more, reach_end, reach_others, chain_parts}
+use Rattle.cut_chains.proofs.Common.{◌≡◌, ◌<◌, ◌-◌, length, get_or, drop, take, refl, ap, ◌∙◌, arith, take_more, take_all, length-drop, is_in, first_of, is_in_at}
+use Rattle.cut_chains.proofs.Reaching.{reach_more, reach_end, reach_others, chain_parts}
 use Rattle.cut_chains.proofs.orders.reach.Goals as goal
 
 pub loop-qubit-preserved : goal.loop-qubit-preserved
@@ -24,23 +24,19 @@ loop-qubit-preserved c =
 
 pub returns-clause-ordered : goal.returns-clause-ordered
 returns-clause-ordered c t =
-    let before = c.args.seen.now in
-    let first = first_of c.args.chain.now in
-    let cs = drop 1 c.args.chain.now in
     let chain = c.args.chain.now in
+    let cs = drop 1 chain in
     let whole : take (length chain - 1) cs ≡ cs =
     take_all (length chain - 1) cs (omega (arith, length-drop 1 chain)) in
-    let all : length cs ≤ c.loop-qubit.qubit-index = omega (arith, ap length whole) in
-    reach_end c.args.up.now before first cs t c.loop-qubit.seen c.loop-qubit.order.items
-    (subst (IsReaching c.args.up.now before first cs t c.loop-qubit.seen c.loop-qubit.order.items)
-    (take_all c.loop-qubit.qubit-index cs all) (c.loop-qubit.invariant.reaching t))
+    let all = take_all c.loop-qubit.qubit-index cs (omega (arith, ap length whole)) in
+    let reaching = c.loop-qubit.invariant.reaching t in
+    reach_end c.args.up.now c.args.seen.now (first_of chain) cs t c.loop-qubit.seen
+    c.loop-qubit.order.items (rw all at reaching)
 
 pub returns-clause-others : goal.returns-clause-others
 returns-clause-others c q within out =
     let chain = c.args.chain.now in
-    let first = first_of chain in
-    let cs = drop 1 chain in
     let t = c.requires.tree in
-    reach_others c.args.up.now c.args.seen.now first cs t c.loop-qubit.seen c.loop-qubit.order.items
-    (take c.loop-qubit.qubit-index cs) (c.loop-qubit.invariant.reaching t) q within
+    reach_others c.args.up.now c.args.seen.now (first_of chain) (drop 1 chain) t _ _ _
+    (c.loop-qubit.invariant.reaching t) q within
     (ap (λ qs. is_in qs q) (chain_parts chain c.requires.filled) ∙ out)

@@ -1,6 +1,7 @@
-use Rattle.cut_chains.proofs.Common.{◌≡◌, ◌<◌, ◌≤◌, ◌+◌, ◌++◌, ℕ, true, false, All, length, get_or, flat_map, append_assoc, sym, ap, subst, ◌∙◌, arith, range_with_len, false_from_ne_true, All-from_recursion, is_in, chain_of, each_in, one_chain, each_at, chain_within, zip_lengths, flat_range, node_ties}
+use Rattle.cut_chains.proofs.Common.{◌≡◌, ◌<◌, ◌≤◌, ◌+◌, ℕ, true, false, All, length, get_or, flat_map, append_assoc, ap, subst, ◌∙◌, arith, range_with_len, false_from_ne_true, All-from_recursion, is_in, chain_of, each_in, one_chain, zip_lengths, flat_range, node_ties}
 use Rattle.cut_chains.proofs.Noting.{tree_lengths}
 use Rattle.cut_chains.proofs.NodeTies.{IsNext, next_tree, next_small, all_small, parts_small, node_made}
+use Rattle.cut_chains.proofs.CutWeights.{chain_below}
 use Rattle.cut_chains.proofs.ties.tie_chains.Goals.{After-list-parents}
 use Rattle.cut_chains.proofs.ties.tie_chains.Goals as goal
 
@@ -32,9 +33,8 @@ pub weigh_chain-requires-clause-unseen : goal.weigh_chain-requires-clause-unseen
 weigh_chain-requires-clause-unseen c =
     let next = next_at (goal.at.weigh_chain-requires-clause-unseen c).After-list-parents in
     let chain = chain_of c.args.source.now.chains c.loop-i.i in
-    subst (All (λ q. get_or c.loop-i.seen q true ≡ false)) (sym next.chain_is)
-    (All-from_recursion (λ q. get_or c.loop-i.seen q true ≡ false) chain
-    (each_in (λ q. get_or c.loop-i.seen q true ≡ false) chain
+    rw next.chain_is
+    (All-from_recursion _ chain (each_in (λ q. get_or c.loop-i.seen q true ≡ false) chain
     (λ q in'. c.loop-i.invariant.unseen c.loop-i.i (omega arith) next.within q in')))
 
 pub weigh_chain-requires-clause-small : goal.weigh_chain-requires-clause-small
@@ -71,15 +71,15 @@ loop-i-preserved c =
     let apart : (j : ℕ) → i + 1 ≤ j → j < length e.ising.fields → (q : ℕ)
     → is_in (chain_of e.chains j) q ≡ true → is_in c.list-qubits.result.now q ≡ false =
     λ j later j_in q q_in. ap (λ qs. is_in qs q) next.chain_is ∙ false_from_ne_true _ (λ here.
-    let same =
-    one_chain e.chains q i j (next.kept.once q) (omega (arith, next.within, next.kept.counted))
-    (omega (arith, j_in, next.kept.counted)) here q_in in
-    omega (arith, same, later)) in
+    omega (
+      arith,
+      one_chain e.chains q i j (next.kept.once q) (omega (arith, next.within, next.kept.counted))
+          (omega (arith, j_in, next.kept.counted)) here q_in,
+    )) in
     record {
       made =
-          c.in_ok-push_ties.ensures ∙ (λ k. so_far.made k ++ tied k)
-          ∙ append_assoc c.args.made.now before (node_ties e i)
-          ∙ ap (λ es. c.args.made.now ++ es) (sym (flat_range (node_ties e) i));
+          let joined = append_assoc c.args.made.now before (node_ties e i) in
+          cc (c.in_ok-push_ties.ensures, flat_range (node_ties e) i);
       sized = weighed.sized ∙ so_far.sized;
       ups = weighed.ups ∙ so_far.ups;
       known = subst (λ n. All (λ q. q < n) c.weigh_chain.new.up) so_far.sized weighed.known;
@@ -88,9 +88,7 @@ loop-i-preserved c =
       held = λ j later j_in q q_in. weighed.others q (apart j later j_in q q_in)
           ∙ so_far.held j (omega (arith, later)) j_in q q_in;
       unseen = λ j later j_in q q_in.
-          let below_all : q < e.qubits =
-          each_at (λ p. p < e.qubits) (chain_of e.chains j) q
-          (chain_within e next.kept j j_in) q_in in
+          let below_all = chain_below e next.kept j j_in q q_in in
           weighed.listed q (omega (arith, below_all, so_far.seens)) (apart j later j_in q q_in)
           ∙ so_far.unseen j (omega (arith, later)) j_in q q_in;
     }

@@ -1,4 +1,4 @@
-use Rattle.cut_chains.proofs.Common.{◌≡◌, ◌<◌, ◌+◌, ◌∷◌, length, drop, unsigned_abs, pos, sym, ap, ◌∙◌, arith, ints, drop_more, Entry, CanRaise, next_small, can_raise, first_fits, second_fits, raised_more, AreLeft, left_more}
+use Rattle.cut_chains.proofs.Common.{◌≡◌, ◌+◌, ◌∷◌, length, drop, unsigned_abs, pos, arith, ints, drop_more, Entry, CanRaise, next_small, can_raise, first_fits, second_fits, raised_more, left_more}
 use Rattle.cut_chains.proofs.weights.add_couplings.Goals.{After-unsigned_abs-size}
 use Rattle.cut_chains.proofs.weights.add_couplings.Goals as goal
 
@@ -6,11 +6,8 @@ use Rattle.cut_chains.proofs.weights.add_couplings.Goals as goal
 next : (c : After-unsigned_abs-size) → drop c.loop-k.k c.args.couplings.now
     ≡ c.at-coupling.result ∷ drop (c.loop-k.k + 1) c.args.couplings.now
 next c =
-    let all = c.args.couplings.now in
-    let k = c.loop-k.k in
-    let within : k < length all = omega arith in
-    drop_more all k (record { first = 0; second = 0; weight = pos 0 }) within
-    ∙ ap (λ d. d ∷ drop (k + 1) all) (sym c.at-coupling.ensures.value)
+    let none : Entry = record { first = 0; second = 0; weight = pos 0 } in
+    cc (drop_more c.args.couplings.now c.loop-k.k none (omega arith), c.at-coupling.ensures.value)
 
 -- both of its ends have room for its weight
 can : (c : After-unsigned_abs-size)
@@ -40,22 +37,6 @@ raise-requires-in-loop-k-clause-small c =
 pub loop-k-preserved : goal.loop-k-preserved
 loop-k-preserved c =
     let at = (goal.at.loop-k-preserved c).After-unsigned_abs-size in
-    let start = c.args.weights.now in
-    let xs = c.loop-k.weights in
-    let all = c.args.couplings.now in
-    let e : Entry = c.at-coupling.result in
-    let so_far = c.loop-k.invariant in
-    let raised = raised_more xs _ _ e _ _ (can at) c.raise.ensures c.raise-in-loop-k.ensures in
-    let left : AreLeft start xs all (drop c.loop-k.k all) = record {
-      same_length = so_far.same_length;
-      within = so_far.within;
-      small = so_far.small;
-      sums = so_far.sums;
-    } in
-    let more = left_more start xs _ all (drop c.loop-k.k all) e _ (next at) left raised in
-    record {
-      same_length = more.same_length;
-      within = more.within;
-      small = more.small;
-      sums = more.sums;
-    }
+    left_more c.args.weights.now c.loop-k.weights _ c.args.couplings.now _ _ _
+    (next at) c.loop-k.invariant
+    (raised_more c.loop-k.weights _ _ _ _ _ (can at) c.raise.ensures c.raise-in-loop-k.ensures)

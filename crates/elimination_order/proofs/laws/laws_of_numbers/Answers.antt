@@ -12,7 +12,9 @@ pub returns-clause-first : goal.returns-clause-first
 returns-clause-first c = first-taken_back
 
 pub returns-clause-widths : goal.returns-clause-widths
-returns-clause-widths c = first_wider-named
+returns-clause-widths c most names numbers m r v w formed are same =
+    first_wider-named names numbers m r formed are same most v w
 
 pub returns-clause-narrow : goal.returns-clause-narrow
-returns-clause-narrow c = none_wider-named
+returns-clause-narrow c most names numbers m r formed are same =
+    none_wider-named names numbers m r formed are same most

@@ -1,4 +1,4 @@
-use Rattle.elimination_order.proofs.Common.{nat_tests, ◌≡◌, [], ◌∷◌, ◌++◌, Bool, length, length-set, set, true, sym, ap, subst, ◌∙◌, arith, err_from_is_err_and, word_of, AreMarks, after_front, nodes_at}
+use Rattle.elimination_order.proofs.Common.{nat_tests, ◌≡◌, [], ◌∷◌, ◌++◌, Bool, length, length-set, set, true, arith, err_from_is_err_and, word_of}
 use Rattle.elimination_order.proofs.Named.{named_more, named_fault, named_end, marks_more}
 use Rattle.elimination_order.proofs.reading.read_words.Goals as goal
 
@@ -7,10 +7,9 @@ returns-in_err-node c =
     let front = c.loop-word.order.items in
     let nodes = length c.loop-word.marks in
     let p = err_from_is_err_and c.from_residual.result c.from_residual.ensures.1 in
-    rw (p.1, p.2) (sym c.loop-word.invariant.read
-    ∙ ap (λ ws. after_front front (nodes_at nodes front ws)) c.in-Some.ensures
-    ∙ named_fault nodes front (word_of c.in-Some.word) c.next.new.self _
-    (c.in_err-node.ensures.read front c.loop-word.invariant.marks))
+    let fault = named_fault nodes front (word_of c.in-Some.word) c.next.new.self _
+    (c.in_err-node.ensures.read front c.loop-word.invariant.marks) in
+    rw (p.1, p.2) (cc (c.loop-word.invariant.read, c.in-Some.ensures))
 
 pub bounds-marks-node : goal.bounds-marks-node
 bounds-marks-node c = c.in_ok-node.ensures.below
@@ -25,11 +24,9 @@ loop-word-preserved c =
     let more = named_more (length marks) front (word_of c.in-Some.word) c.next.new.self n
     (c.in_ok-node.ensures.read front c.loop-word.invariant.marks) in
     record {
-      read = (λ i. after_front (pushed i) (nodes_at (long i) (pushed i) c.next.new.self)) ∙ sym more
-          ∙ ap (λ ws. after_front front (nodes_at (length marks) front ws)) (sym c.in-Some.ensures)
-          ∙ c.loop-word.invariant.read;
-      marks = subst (AreMarks (length (set marks n true)) (set marks n true)) (sym pushed)
-          (marks_more marks front n c.in_ok-node.ensures.below c.loop-word.invariant.marks);
+      read = cc (c.in-Some.ensures, c.loop-word.invariant.read);
+      marks = rw pushed (marks_more marks front n c.in_ok-node.ensures.below
+          c.loop-word.invariant.marks);
     }
 
 pub returns : goal.returns

@@ -1,4 +1,4 @@
-use Rattle.elimination_order.proofs.Common.{◌≡◌, ◌++◌, ◌∷◌, [], length, sym, ap, subst, ◌∙◌, arith, rules, length-append, AllByRecursion, listed_entries}
+use Rattle.elimination_order.proofs.Common.{◌≡◌, ◌++◌, ◌∷◌, [], length, ap, subst, arith, rules, length-append, AllByRecursion, ℕ, ℤ}
 use Rattle.elimination_order.proofs.Weighed.{all-push}
 use Rattle.elimination_order.proofs.renumbering.weights_of.Goals as goal
 
@@ -13,12 +13,10 @@ loop-entry-preserved c =
     let more_nodes : c.push.new.self.items ≡ ns ++ e.first ∷ [] = search rules in
     let more_weights : c.push-in-loop-entry.new.self.items ≡ ws ++ e.weight ∷ [] = search rules in
     let left = subst (AllByRecursion (λ f. f.first ≡ f.second)) taken so_far.left in
+    let longer_nodes = ap length more_nodes in
+    let longer_weights = ap length more_weights in
     record {
-      long = ap length more_nodes
-          ∙ omega (arith, so_far.long, length-append ns (e.first ∷ []), length-append ws (e.weight ∷ []))
-          ∙ sym (ap length more_weights);
-      all = (λ i. listed_entries (more_nodes i) (more_weights i) ++ rest)
-          ∙ all-push ns ws e rest c.args.list.now so_far.long
-          (ap (λ es. listed_entries ns ws ++ es) (sym taken) ∙ so_far.all) left.0;
+      long = omega (arith, so_far.long, length-append {A = ℕ}, length-append {A = ℤ});
+      all = cc (all-push ns ws e rest c.args.list.now so_far.long (cc (so_far.all)) left.0);
       left = left.1;
     }

@@ -5,14 +5,11 @@ use Rattle.embedding_check.proofs.checking.check.Goals as goal
 
 pub returns-in_err-layout-clause-invalid : goal.returns-in_err-layout-clause-invalid
 returns-in_err-layout-clause-invalid g c =
-    let joined = g.H.Hardware.joined c.args.hardware.now in
-    let n = g.H.Hardware.qubits c.args.hardware.now in
-    let f = c.args.ising in
     let map = c.args.map.now in
     let p = err_from_is_err_and c.from_residual.result c.from_residual.ensures.1 in
     rw (p.1, p.2)
-    (if_fault c.in_err-layout.field-0.0 (IsFault joined n f map) (λ x. IsValid joined n f map → ⊥)
-    (fault_invalid joined n f map) c.in_err-layout.ensures.fault)
+    (if_fault c.in_err-layout.field-0.0 (IsFault _ _ _ map) (λ x. IsValid _ _ _ map → ⊥)
+    (fault_invalid _ _ _ map) c.in_err-layout.ensures.fault)
 
 pub invariant_of-result : goal.invariant_of-result
 invariant_of-result g c =
@@ -27,8 +24,7 @@ invariant_of-result g c =
     subst (λ (m : List (List ℕ)). ArePlaces joined m f.couplings layout.places) (sym laid.chains)
     laid.places in
     checked_embeds joined _ f c.args.map.now _ (g.met.H.Hardware.few c.args.hardware.now)
-    laid.form laid.valid
-    (record {
+    laid.form laid.valid (record {
       ising = refl;
       chains = laid.chains;
       qubits = c.qubits.ensures;

@@ -1,4 +1,4 @@
-use Rattle.embedding_check.proofs.Common.{◌<◌, ◌≡◌, length, sym, subst, ap, ◌∙◌, IfOk-weaker, IfErr-weaker, IsingContent, Exists, IsInside}
+use Rattle.embedding_check.proofs.Common.{◌<◌, ◌≡◌, length, sym, ap, ◌∙◌, IfOk-weaker, IfErr-weaker, IsingContent, IsInside}
 use Rattle.embedding_check.proofs.Faulty.{is_inside, is_apart, repeated_fault}
 use Rattle.embedding_check.proofs.checking.check_apart.Given.{Over}
 use Rattle.embedding_check.proofs.checking.check_apart.Goals.{In_ok-check_inside}
@@ -10,13 +10,10 @@ inside : (g : Over) (c : In_ok-check_inside g)
 inside g c =
     let map = c.args.map.now in
     let counted : length map ≡ length c.args.ising.now.fields =
-    sym c.len.ensures
-    ∙ c.if-len-as_slice.false
-    ∙ ap (λ xs. length xs) c.as_slice.ensures
+    sym c.len.ensures ∙ c.if-len-as_slice.false ∙ ap (λ xs. length xs) c.as_slice.ensures
     ∙ ap (λ (x : IsingContent). length x.fields) c.ising.view_is in
     is_inside _ c.args.ising.now map counted c.in-None.ensures
-    (λ u hu j hj. subst (λ m. Exists m map u j) c.qubits-qubits.ensures
-    (c.in_ok-check_inside.ensures.within u hu j hj))
+    (λ u hu j hj. rw (← c.qubits-qubits.ensures) (c.in_ok-check_inside.ensures.within u hu j hj))
 
 pub returns-clause-apart : goal.returns-clause-apart
 returns-clause-apart g c =

@@ -1,10 +1,8 @@
-use Rattle.embedding_check.proofs.Common.{◌≤◌, ℕ, List, sym, subst, occurrences}
 use Rattle.embedding_check.proofs.checking.laid_out.Goals as goal
 
 pub sorted_chains-requires : goal.sorted_chains-requires
 sorted_chains-requires g c =
-    subst (λ (m : List (List ℕ)). (q : ℕ) → occurrences q m ≤ 1) (sym c.in_ok-chains.ensures.same)
-    c.in_ok-check_apart.ensures.apart.once
+    rw c.in_ok-chains.ensures.same c.in_ok-check_apart.ensures.apart.once
 
 pub parents_and_places-requires-clause-apart : goal.parents_and_places-requires-clause-apart
 parents_and_places-requires-clause-apart g c =

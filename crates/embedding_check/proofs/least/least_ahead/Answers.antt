@@ -1,4 +1,4 @@
-use Rattle.embedding_check.proofs.Common.{ℕ, ◌<◌, Option, sym, subst, Span, CanBeJoined, IsAhead, IsNumberedAhead}
+use Rattle.embedding_check.proofs.Common.{ℕ, ◌<◌, CanBeJoined, IsAhead, IsNumberedAhead}
 use Rattle.embedding_check.proofs.Sorting.{at_of_in}
 use Rattle.embedding_check.proofs.LeastPairs.{least_of_two, ahead_ways}
 use Rattle.embedding_check.proofs.least.least_ahead.Goals as goal
@@ -14,11 +14,9 @@ returns g c =
     let after = c.after-after.result in
     let findable : (b : ℕ) → IsAhead joined a chain b → CanBeJoined span before after b = λ b h.
     let i = at_of_in chain b h.inside in
-    let below : b < g.H.Hardware.qubits graph = subst (λ x. x < g.H.Hardware.qubits graph) i.2 (c.requires.within i.0 0 i.1) in
+    let below : b < g.H.Hardware.qubits graph = rw (← i.2) (c.requires.within i.0 0 i.1) in
     let law = g.met.H.Hardware.findable graph a b c.requires.qubit below h.linked in
-    subst (λ (s : Span). CanBeJoined s before after b) (sym c.facing-span.ensures)
-    (subst (λ (x : Option ℕ). CanBeJoined (g.H.Hardware.facing graph a) x after b) (sym c.before-before.ensures)
-    (subst (λ (x : Option ℕ). CanBeJoined (g.H.Hardware.facing graph a) (g.H.Hardware.before graph a) x b) (sym c.after-after.ensures) law)) in
+    rw c.facing-span.ensures (rw c.before-before.ensures (rw c.after-after.ensures law)) in
     let line = least_of_two (IsNumberedAhead joined a chain before) (IsNumberedAhead joined a chain after) c.numbered-one.result c.numbered-other.result c.lesser-of_line.result
     c.numbered-one.ensures c.numbered-other.ensures c.lesser-of_line.ensures.left c.lesser-of_line.ensures.right c.lesser-of_line.ensures.both in
     ahead_ways joined a chain span before after c.least_faced-faced.result c.numbered-one.result c.numbered-other.result c.lesser-of_line.result c.lesser.result findable

@@ -1,4 +1,4 @@
-use Rattle.embedding_check.proofs.Common.{◌≡◌, ℕ, ◌⊎◌, true, List, All, length, ◌<◌, sym, subst, ◌∙◌, arith, is_in, owner_of}
+use Rattle.embedding_check.proofs.Common.{All, length, ◌<◌, sym, subst, ◌∙◌, arith}
 use Rattle.embedding_check.proofs.Owning.{own_more, owned_all}
 use Rattle.embedding_check.proofs.Passing.{chain_within}
 use Rattle.embedding_check.proofs.owners.own_all.Goals as goal
@@ -11,14 +11,11 @@ own-requires c =
 
 pub loop-node-preserved : goal.loop-node-preserved
 loop-node-preserved c =
-    let chains = c.args.chains.now in
-    let node = c.loop-node.node in
-    let new = c.own.new.owners in
     record {
       len = c.own.ensures.len ∙ c.loop-node.invariant.len;
-      owned = own_more chains c.loop-node.owners new node c.requires.once (omega arith) c.requires.few c.loop-node.invariant.owned c.own.ensures.len
-          (subst (λ (xs : List ℕ). (b : ℕ) → is_in xs b ≡ true → owner_of new b ≡ node) c.list.ensures.listed c.own.ensures.inside)
-          (subst (λ (xs : List ℕ). (b : ℕ) → (is_in xs b ≡ true) ⊎ (owner_of new b ≡ owner_of c.loop-node.owners b)) c.list.ensures.listed c.own.ensures.outside);
+      owned = own_more _ c.loop-node.owners _ _ c.requires.once (omega arith) c.requires.few c.loop-node.invariant.owned c.own.ensures.len
+          (rw (← c.list.ensures.listed) c.own.ensures.inside)
+          (rw (← c.list.ensures.listed) c.own.ensures.outside);
     }
 
 pub returns-clause-owners : goal.returns-clause-owners

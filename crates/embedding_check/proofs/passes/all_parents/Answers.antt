@@ -12,8 +12,7 @@ parents_of-requires-clause-once g c = λ q.
 pub parents_of-requires-clause-within : goal.parents_of-requires-clause-within
 parents_of-requires-clause-within g c =
     chain_within (g.H.Hardware.qubits c.args.hardware.now) c.args.chains.now c.loop-node.node
-    c.list-listed.result.now c.list-listed.ensures.listed
-    (omega arith) c.requires.chains.within
+    c.list-listed.result.now c.list-listed.ensures.listed (omega arith) c.requires.chains.within
 
 pub parents_of-requires-clause-sorted : goal.parents_of-requires-clause-sorted
 parents_of-requires-clause-sorted g c =
@@ -56,6 +55,4 @@ loop-node-preserved g c =
 pub returns-clause-parents : goal.returns-clause-parents
 returns-clause-parents g c =
     let R = AreParents (g.H.Hardware.joined c.args.hardware.now) in
-    subst (λ (xs : List (List ℕ)). AllZip R xs c.loop-node.parents)
-    (take_all c.loop-node.node c.args.chains.now (omega arith))
-    c.loop-node.invariant.parents
+    rw (← (take_all c.loop-node.node c.args.chains.now (omega arith))) c.loop-node.invariant.parents

@@ -1,4 +1,4 @@
-use Rattle.embedding_check.proofs.Common.{◌≡◌, ◌+◌, ℕ, ◌<◌, ◌==◌, List, length, take, get_or, refl, sym, subst, ap, ◌∙◌, arith, count_by, chain_of, occurrences, IsNew, occurrences_more, take_all}
+use Rattle.embedding_check.proofs.Common.{◌≡◌, ◌+◌, ℕ, ◌<◌, ◌==◌, List, length, take, get_or, refl, sym, ap, ◌∙◌, arith, count_by, chain_of, occurrences, IsNew, occurrences_more, take_all}
 use Rattle.embedding_check.proofs.Passing.{places_more}
 use Rattle.embedding_check.proofs.Passing.{marked-le}
 use Rattle.embedding_check.proofs.passes.first_repeated.Goals as goal
@@ -17,8 +17,7 @@ loop-node-preserved c =
           let one = none.all refl q in
           let count = ap (λ (xs : List ℕ). count_by (λ p. p == q) xs) same in
           omega (arith, one, count, c.loop-node.invariant.all q, occurrences_more q map node below);
-      before = places_more map (IsNew map) node c.loop-node.invariant.before
-          (subst (λ (xs : List ℕ). (j : ℕ) → j < length xs → occurrences (get_or xs j 0) (take node map) + count_by (λ p. p == get_or xs j 0) (take j xs) ≡ 0) same
+      before = places_more map (IsNew map) node c.loop-node.invariant.before (rw (← same)
           (λ j low. sym (ap (λ n. n + count_by (λ p. p == get_or chain j 0) (take j chain)) (c.loop-node.invariant.all (get_or chain j 0))) ∙ none.first j low));
     }
 

@@ -1,4 +1,4 @@
-use Rattle.embedding_check.proofs.Common.{◌<◌, List, All, ℕ, pos, length, get_or, sym, subst, arith, Entry, IsCoupler, chain_of, qubit_at, IsLeastPair, AreNoted, noted_at, IsChainJoin}
+use Rattle.embedding_check.proofs.Common.{◌<◌, All, pos, length, get_or, arith, Entry, IsCoupler, AreNoted, noted_at}
 use Rattle.embedding_check.proofs.Noting.{noted_place}
 use Rattle.embedding_check.proofs.Passing.{chain_within}
 use Rattle.embedding_check.proofs.places.note_row.Given.{Over}
@@ -31,17 +31,13 @@ note_chain-requires-clause-within g c =
 
 pub returns-clause-noted : goal.returns-clause-noted
 returns-clause-noted g c = λ yes k d low.
-    let graph = c.args.hardware.now in
-    let joined = g.H.Hardware.joined graph in
+    let joined = g.H.Hardware.joined _ in
     let chains = c.args.chains.now in
-    let owners = c.args.owners.now in
     let node = c.first-node.result in
     let noted = c.note_chain.new.self in
     let here : AreNoted joined chains node noted = λ v later below.
-    noted_place joined chains owners node v (noted_at noted v) (g.met.H.Hardware.symmetric graph)
-    (g.met.H.Hardware.irreflexive graph) c.requires.owners later below
-    (λ j h. subst (λ n. qubit_at (chain_of chains v) j < n) (sym c.requires.all)
+    noted_place joined chains _ node v (noted_at noted v) (g.met.H.Hardware.symmetric _)
+    (g.met.H.Hardware.irreflexive _) c.requires.owners later below (λ j h. rw c.requires.all
     (c.requires.within v below j h))
-    (subst (λ (xs : List ℕ). IsLeastPair (IsChainJoin joined owners node xs (length xs) v) (noted_at noted v))
-    c.list-own.ensures.listed (c.note_chain.ensures.noted v (omega (arith, below)))) in
-    subst (λ n. AreNoted joined chains n noted) (sym (c.first-node.ensures k d low)) here
+    (rw (← c.list-own.ensures.listed) (c.note_chain.ensures.noted v (omega (arith, below)))) in
+    rw (c.first-node.ensures k d low) here

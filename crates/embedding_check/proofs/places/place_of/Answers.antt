@@ -1,23 +1,20 @@
-use Rattle.embedding_check.proofs.Common.{◌<◌, List, ℕ, length, sym, subst, arith, All, chain_of, IsPlaceIn}
+use Rattle.embedding_check.proofs.Common.{◌<◌, length, arith, chain_of}
 use Rattle.embedding_check.proofs.Faulty.{place_same, sorted_within}
 use Rattle.embedding_check.proofs.places.place_of.Goals as goal
 
 pub place_between-requires-clause-from : goal.place_between-requires-clause-from
 place_between-requires-clause-from g c =
-    let n = g.H.Hardware.qubits c.args.hardware.now in
     let first = c.args.first in
     let below : first < length c.args.chains.now = omega arith in
-    subst (λ (xs : List ℕ). All (λ q. q < n) xs) (sym c.list.ensures.listed)
-    (sorted_within n (chain_of c.args.chains.now first) (chain_of c.args.sorted.now first)
+    rw c.list.ensures.listed
+    (sorted_within _ (chain_of c.args.chains.now first) (chain_of c.args.sorted.now first)
     (c.requires.within first below) (c.requires.sorted first below))
 
 pub place_between-requires-clause-to : goal.place_between-requires-clause-to
 place_between-requires-clause-to g c =
-    let n = g.H.Hardware.qubits c.args.hardware.now in
-    let second = c.args.second in
-    subst (λ (xs : List ℕ). All (λ q. q < n) xs) (sym c.list-2.ensures.listed)
-    (sorted_within n (chain_of c.args.chains.now second) (chain_of c.args.sorted.now second)
-    (c.requires.within second c.requires.node) (c.requires.sorted second c.requires.node))
+    rw c.list-2.ensures.listed
+    (sorted_within _ (chain_of c.args.chains.now _) (chain_of c.args.sorted.now _)
+    (c.requires.within _ c.requires.node) (c.requires.sorted _ c.requires.node))
 
 pub returns : goal.returns
 returns g c =
@@ -30,7 +27,5 @@ returns g c =
     let r = c.place_between.result in
     place_same joined (chain_of chains first) (chain_of chains second) (chain_of sorted first)
     (chain_of sorted second) r (c.requires.sorted first below)
-    (c.requires.sorted second c.requires.node)
-    (subst (λ (xs : List ℕ). IsPlaceIn joined xs (chain_of sorted second) r) c.list.ensures.listed
-    (subst (λ (ys : List ℕ). IsPlaceIn joined c.list.result.now ys r) c.list-2.ensures.listed
-    c.place_between.ensures))
+    (c.requires.sorted second c.requires.node) (rw (← c.list.ensures.listed)
+    (rw (← c.list-2.ensures.listed) c.place_between.ensures))

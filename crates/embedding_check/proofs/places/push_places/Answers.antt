@@ -1,4 +1,4 @@
-use Rattle.embedding_check.proofs.Common.{◌≡◌, ◌<◌, pos, inl, inr, length, get_or, subst, refl, arith, cases_lt, Entry, IsCoupler, chain_of, IsCoupled, IsPlace, IsPlaceOf}
+use Rattle.embedding_check.proofs.Common.{◌≡◌, ◌<◌, pos, inl, inr, length, get_or, refl, arith, cases_lt, Entry, IsCoupler, chain_of, IsCoupled, IsPlace, IsPlaceOf}
 use Rattle.embedding_check.proofs.Passing.{default_free}
 use Rattle.embedding_check.proofs.PlacedRows.{placed_next}
 use Rattle.embedding_check.proofs.places.push_places.Goals as goal
@@ -71,8 +71,7 @@ returns-in-None-clause-fault g c =
         below = below;
         bad = λ d coupled.
             let pair : IsCoupled joined chains (record { first = c.first-first.result; second = c.second-second.result; weight = pos 0 }) =
-            subst (λ n. IsCoupled joined chains (record { first = n; second = c.second-second.result; weight = pos 0 })) (first d)
-            (subst (λ n. IsCoupled joined chains (record { first = (get_or row k d).first; second = n; weight = pos 0 })) (second d) coupled) in
+            rw (← (first d)) (rw (← (second d)) coupled) in
             c.in-None.ensures pair.0 pair.1;
         before = c.loop-k.invariant.coupled;
         first = first;

@@ -1,4 +1,4 @@
-use Rattle.embedding_check.proofs.Common.{◌≡◌, ◌<◌, ◌+◌, ℕ, List, ◌++◌, length, All, sym, ap, subst, ◌∙◌, arith, AllZip, err_from_is_err_and, Entry, rows_of, IsCoupler, IsCoupled, ArePlaces, IsPlaceOf, IsUncoupled, rows_before, rows_more, rows_all}
+use Rattle.embedding_check.proofs.Common.{◌≡◌, ◌<◌, ◌+◌, ℕ, List, ◌++◌, length, All, sym, ap, subst, ◌∙◌, arith, err_from_is_err_and, Entry, rows_of, IsCoupler, IsCoupled, IsPlaceOf, IsUncoupled, rows_before, rows_more, rows_all}
 use Rattle.chain_map.specs.declared.faults.EmbedFault.TheVariants.{NoCoupler}
 use Rattle.embedding_check.proofs.Faulty.{if_fault, zip_all}
 use Rattle.embedding_check.proofs.PlacedRows.{all_in_row, some_in_row, uncoupled_in_row}
@@ -12,8 +12,7 @@ note_row-noting-requires-clause-nodes g c =
 
 pub note_row-noting-requires-clause-some : goal.note_row-noting-requires-clause-some
 note_row-noting-requires-clause-some g c =
-    subst (λ (es : List Entry). 0 < length es) (sym c.row-row.ensures)
-    (some_in_row c.args.couplings.now c.loop-k.k (omega arith))
+    rw c.row-row.ensures (some_in_row c.args.couplings.now c.loop-k.k (omega arith))
 
 pub push_places-requires-clause-nodes : goal.push_places-requires-clause-nodes
 push_places-requires-clause-nodes g c =
@@ -28,9 +27,9 @@ loop-k-preserved g c =
     let k = c.loop-k.k in
     record {
       table = c.note_row-noting.ensures.len;
-      placed = subst (λ (es : List Entry). ArePlaces joined c.args.chains.now es c.push_places.new.places.items)
-          (ap (λ (row : List Entry). rows_before couplings k ++ row) c.row-row.ensures
-          ∙ sym (rows_more couplings k (omega arith)))
+      placed =
+          rw (← (ap (λ (row : List Entry). rows_before couplings k ++ row) c.row-row.ensures
+          ∙ sym (rows_more couplings k (omega arith))))
           (c.in_ok-push_places.ensures.places (rows_before couplings k) c.loop-k.invariant.placed);
     }
 
@@ -45,8 +44,7 @@ returns-in_err-push_places-clause-fault g c =
     zip_all (IsPlaceOf joined chains) (IsCoupled joined chains) (rows_before couplings k) c.loop-k.places.items
     (λ e place p. (place, p.crossing)) c.loop-k.invariant.placed in
     let p = err_from_is_err_and c.from_residual.result c.from_residual.ensures.1 in
-    rw (p.1, p.2)
-    (if_fault c.in_err-push_places.field-0.0 _
+    rw (p.1, p.2) (if_fault c.in_err-push_places.field-0.0 _
     (λ f. (u : ℕ) × (v : ℕ) × (n : ℕ) × IsUncoupled joined couplings chains u v n × (f ≡ NoCoupler u v))
     (λ f h. (
       h.0,
@@ -55,12 +53,9 @@ returns-in_err-push_places-clause-fault g c =
       uncoupled_in_row joined chains couplings k h.0 h.1 h.2 below coupled
           (subst (λ (es : List Entry). IsUncoupled joined es chains h.0 h.1 h.2) c.row-row.ensures h.3),
       h.4,
-    ))
-    c.in_err-push_places.ensures.fault)
+    )) c.in_err-push_places.ensures.fault)
 
 pub returns-clause-places : goal.returns-clause-places
 returns-clause-places g c =
     let R = IsPlaceOf (g.H.Hardware.joined c.args.hardware.now) c.args.chains.now in
-    subst (λ (xs : List Entry). AllZip R xs c.loop-k.places.items)
-    (rows_all c.args.couplings.now c.loop-k.k (omega arith))
-    c.loop-k.invariant.placed
+    rw (← (rows_all c.args.couplings.now c.loop-k.k (omega arith))) c.loop-k.invariant.placed

@@ -18,12 +18,11 @@ pub loop-i-preserved : goal.loop-i-preserved
 loop-i-preserved c = λ joined found.
     let chain = c.args.chain.now in
     let i = c.loop-i.i in
-    let q = qubit_at chain i in
     let at = c.position_in-at.result in
     let place = c.position_in-at.ensures in
     let view = c.search.view_is in
     let waits : waits_at c.args.search.now at ≡ false =
-    subst (λ (f : Found). waits_at f at ≡ false) view (sym c.has.ensures ∙ c.if-has.false) in
+    rw (← view) (sym c.has.ensures ∙ c.if-has.false) in
     let reached = rw place.same at (found.reached at place.within waits) in
     let not_first : qubit_at c.args.sorted.now at ≢ first_of chain = λ e.
     one_place chain c.requires.once 0 i (omega arith) c.loop-i-test.true (sym e ∙ place.same) in
@@ -34,10 +33,10 @@ loop-i-preserved c = λ joined found.
     c.index.ensures ∙ get_or_default_zero inner at c.index.result.now few ∙ ap (λ (f : Found). parent_at f at) view in
     let some : 1 ≤ i = omega arith in
     let R = IsParent joined chain in
-    let more = all_zip_more R (drop 1 chain) c.loop-i.parents.items (i - 1) q c.index.result.now
+    let more = all_zip_more R (drop 1 chain) c.loop-i.parents.items (i - 1) _ c.index.result.now
     (omega (arith, some, length-drop 1 chain))
-    (sym (rest_at chain i q some ∙ get_or_default_zero chain i q c.loop-i-test.true))
-    (c.loop-i.invariant joined found).parents (subst (λ x. R q x) (sym pushed) parent) in
+    (sym (rest_at chain i _ some ∙ get_or_default_zero chain i _ c.loop-i-test.true))
+    (c.loop-i.invariant joined found).parents (rw pushed parent) in
     let step : i + 1 - 1 ≡ i - 1 + 1 = omega (arith, some) in
     record {
       parents = rw (c.in_ok-push.ensures.items, step) more;

@@ -3,8 +3,7 @@ use Rattle.embedding_check.proofs.search.parents_of.Goals as goal
 
 pub search_chain-requires-clause-within : goal.search_chain-requires-clause-within
 search_chain-requires-clause-within g c =
-    let n = g.H.Hardware.qubits c.args.hardware.now in
-    sorted_within n c.args.chain.now c.args.sorted.now (λ j h. c.requires.within j 0 h) c.requires.sorted
+    sorted_within _ c.args.chain.now c.args.sorted.now (λ j h. c.requires.within j 0 h) c.requires.sorted
 
 pub returns : goal.returns
 returns g c =

@@ -4,11 +4,10 @@ use Rattle.embedding_check.proofs.search.search_chain.Goals as goal
 
 pub levels-init : goal.levels-init
 levels-init g c =
-    let joined = g.H.Hardware.joined c.args.hardware.now in
     let first = c.args.first in
     let begun = c.in_ok-search.ensures in
     let one : c.in_ok-level.level.items ≡ first ∷ [] = c.in_ok-level.ensures.items in
-    let at = level_first joined c.args.chain.now c.args.sorted.now c.in_ok-search.search first c.requires.sorted begun.waits
+    let at = level_first _ c.args.chain.now c.args.sorted.now c.in_ok-search.search first c.requires.sorted begun.waits
     c.requires.below c.requires.first begun.gone begun.others in
     record {
       at = (0, rw one at);
@@ -46,7 +45,7 @@ levels-preserved g c =
     let in' : is_in chain (first_of chain) ≡ true =
     subst (λ q. is_in chain q ≡ true) c.requires.first (c.requires.sorted.inside c.args.first c.requires.below) in
     let takes = rw c.deref.ensures.value at c.in_ok-spread_level.ensures in
-    let after = level_next joined chain qs c.levels.level.items next inv.at.0 c.levels.search t in' c.requires.sorted inv.at.1 inv.none inv.rising takes
+    let after = level_next joined chain qs c.levels.level.items inv.at.0 c.levels.search c.requires.sorted inv.at.1 next t in' inv.none inv.rising takes
     (λ i h. Contains-permutation next t.next i (IsPermutation-sym t.next next moved) h)
     (λ i h. Contains-permutation t.next next i moved h) in
     record {
@@ -58,10 +57,8 @@ levels-preserved g c =
 
 pub returns : goal.returns
 returns g c =
-    let joined = g.H.Hardware.joined c.args.hardware.now in
     let chain = c.args.chain.now in
-    let qs = c.args.sorted.now in
     let in' : is_in chain (first_of chain) ≡ true =
     subst (λ q. is_in chain q ≡ true) c.requires.first (c.requires.sorted.inside c.args.first c.requires.below) in
     let none : length c.levels.level.items ≡ 0 = search (rules, nat_tests, c.is_empty.ensures, c.levels-test.false) in
-    level_last joined chain qs c.levels.level.items c.levels.invariant.at.0 c.levels.search in' c.requires.sorted c.levels.invariant.at.1 (nothing_in c.levels.level.items none) c.levels.invariant.parents
+    level_last _ chain _ c.levels.level.items c.levels.invariant.at.0 c.levels.search in' c.requires.sorted c.levels.invariant.at.1 (nothing_in c.levels.level.items none) c.levels.invariant.parents

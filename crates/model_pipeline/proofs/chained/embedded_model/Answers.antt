@@ -9,16 +9,14 @@ after-requires-clause-sum c =
     let made = c.in_ok-target.ensures in
     let offset = to_z-of_z w128 c.in_ok-target.offset (search rules) ∙ made.offset in
     tied_fits c.args.ties c.args.embedded c.args.figures.offset _ made.kept c.requires.total
-    c.requires.offset
-    offset
+    c.requires.offset offset
 
 pub after-requires-clause-sum_2 : goal.after-requires-clause-sum_2
 after-requires-clause-sum_2 c =
     let made = c.in_ok-target.ensures in
     let offset = to_z-of_z w128 c.in_ok-target.offset (search rules) ∙ made.offset in
     tied_fits c.args.ties c.args.embedded c.args.figures.threshold _ made.kept c.requires.total
-    c.requires.threshold
-    offset
+    c.requires.threshold offset
 
 pub chained_model-requires-clause-kind : goal.chained_model-requires-clause-kind
 chained_model-requires-clause-kind c =
@@ -28,8 +26,7 @@ chained_model-requires-clause-kind c =
     let kept = made.kept in
     rw (c.kind_of.ensures, made.chains, made.form)
     (tied_fits_output e kept c.args.ties graph.rows graph.cols graph.shore c.args.own
-    c.requires.qubits
-    (omega (arith, kept.counted, c.requires.own)))
+    c.requires.qubits (omega (arith, kept.counted, c.requires.own)))
 
 pub chained_model-requires-clause-scale : goal.chained_model-requires-clause-scale
 chained_model-requires-clause-scale c =
@@ -42,8 +39,7 @@ chained_model-requires-clause-offset c =
     let offset = to_z-of_z w128 c.in_ok-target.offset (search rules) ∙ made.offset in
     subst (λ (r : Figures). unsigned_abs r.offset < 2 ^ 124) (sym c.after.ensures)
     (tied_figure c.args.ties c.args.embedded c.args.figures.offset _ made.kept c.requires.total
-    c.requires.offset
-    offset)
+    c.requires.offset offset)
 
 pub chained_model-requires-clause-threshold : goal.chained_model-requires-clause-threshold
 chained_model-requires-clause-threshold c =
@@ -51,8 +47,7 @@ chained_model-requires-clause-threshold c =
     let offset = to_z-of_z w128 c.in_ok-target.offset (search rules) ∙ made.offset in
     subst (λ (r : Figures). unsigned_abs r.threshold < 2 ^ 124) (sym c.after.ensures)
     (tied_figure c.args.ties c.args.embedded c.args.figures.threshold _ made.kept c.requires.total
-    c.requires.threshold
-    offset)
+    c.requires.threshold offset)
 
 pub returns-clause-kept : goal.returns-clause-kept
 returns-clause-kept c = if_ok-always c.chained_model.result (λ m. c.in_ok-target.ensures.kept)
@@ -62,7 +57,6 @@ returns-clause-model c =
     let made = c.in_ok-target.ensures in
     let tied = to_z-of_z w128 c.in_ok-target.offset (search rules) ∙ made.offset in
     let figures = c.after.ensures ∙ (λ i. figures_after c.args.figures (pos 1) (tied i)) in
-    IfOk-weaker c.chained_model.result _ _
-    (λ m same. same
+    IfOk-weaker c.chained_model.result _ _ (λ m same. same
     ∙ (λ i. chained_model c.args.unit (made.form i) c.args.own (figures i) (c.kind_of.ensures i) (made.chains i)))
     c.chained_model.ensures

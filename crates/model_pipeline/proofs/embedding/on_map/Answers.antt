@@ -4,8 +4,7 @@ use Rattle.model_pipeline.proofs.embedding.on_map.Goals as goal
 
 pub returns-in-All-clause-fault : goal.returns-in-All-clause-fault
 returns-in-All-clause-fault c =
-    rw c.in-All.is
-    (IfErr-weaker c.check.result _ _
+    rw c.in-All.is (IfErr-weaker c.check.result _ _
     (λ e h. if_fault e _ _ (whole_fault c.in-All.graph c.args.form c.args.map.now) h)
     c.check.ensures.fault)
 

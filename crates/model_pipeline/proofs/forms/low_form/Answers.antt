@@ -11,7 +11,6 @@ into_form-requires c =
 
 pub returns-in-Monomial-clause-image : goal.returns-in-Monomial-clause-image
 returns-in-Monomial-clause-image c t (u, adds, held) =
-    rw c.in-Monomial.is
-    (IfOk-weaker c.into_form.result _ _
+    rw c.in-Monomial.is (IfOk-weaker c.into_form.result _ _
     (λ form same. same ∙ ap (λ s. flat.image (monomials.image s)) adds.table)
     (c.into_form.ensures.quad u (IsWithin-small t u adds) held))

@@ -12,8 +12,7 @@ form_model-requires-clause-figures g c = formed_have_room _ _ _ c.in_ok-made.ens
 pub returns-clause-image : goal.returns-clause-image
 returns-clause-image g c =
     let made = c.in_ok-made.ensures in
-    IfOk-weaker c.form_model.result _ _
-    (λ m same. same
+    IfOk-weaker c.form_model.result _ _ (λ m same. same
     ∙ (λ i. form_model c.args.target c.args.unit (made.image i) c.args.variables (made.stands.figures i)))
     c.form_model.ensures.model
 
@@ -23,5 +22,4 @@ returns-clause-stands g c =
     IfOk-weaker c.form_model.result _ _
     (λ m same. subst (λ w. IsModelOf p c.args.variables c.args.target c.args.unit w) (sym same)
     (formed_model c.args.target c.args.unit p c.args.variables _ _ c.form_model.ensures.kept
-    c.in_ok-made.ensures.stands c.requires.own))
-    c.form_model.ensures.model
+    c.in_ok-made.ensures.stands c.requires.own)) c.form_model.ensures.model

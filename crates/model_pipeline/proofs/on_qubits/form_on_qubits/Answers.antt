@@ -1,7 +1,7 @@
-use Rattle.model_pipeline.proofs.Common.{◌+◌, ◌*◌, ◌^◌, ◌≤◌, ◌∙◌, length, ap, arith, rules, subst, sym, FitsSigned, w128, size_fits, IsIsing, ising_total, chains_of, fabric_in, graph_in, kind_of, qubit_model, IsQubitModelOf}
+use Rattle.model_pipeline.proofs.Common.{size_fits, ◌+◌, ◌*◌, ◌^◌, ◌≤◌, ◌∙◌, length, ap, arith, rules, subst, sym, FitsSigned, w128, IsIsing, ising_total, chains_of, fabric_in, graph_in, kind_of, qubit_model, IsQubitModelOf}
 use Rattle.model_pipeline.proofs.QubitModels.{model_stands, moved_by_ties}
-use Rattle.model_pipeline.proofs.Sites.{joined_both_ways, site_valid, sized_in}
 use Rattle.model_pipeline.proofs.on_qubits.form_on_qubits.Goals as goal
+use Rattle.model_pipeline.proofs.Sites.{sized_in, site_valid, joined_both_ways}
 
 pub returns-clause-stands : goal.returns-clause-stands
 returns-clause-stands c =
@@ -25,10 +25,6 @@ returns-clause-stands c =
     subst (λ m. IsQubitModelOf f n own unit site.ties graph fabric map m) (sym same)
     (model_stands f n own site.ties graph fabric map e made.kept (sized_in site.qubits)
     (joined_both_ways site.qubits) embedded.checked
-    (site_valid site.qubits site.chain_source f kept embedded.can_stand)
-    c.requires.own
-    (size_fits n.scale fits)
-    c.requires.scale
-    unit
-    total
+    (site_valid site.qubits site.chain_source f kept embedded.can_stand) c.requires.own
+    (size_fits n.scale fits) c.requires.scale unit total
     (moved_by_ties site.ties n e made.kept total c.requires.offset c.requires.threshold))

@@ -7,14 +7,12 @@ pub state_of-requires : goal.state_of-requires
 state_of-requires c =
     let extended = c.in_ok-x.ensures in
     made_fits c.args.steps.now.choices c.args.problem.now extended.room c.args.model.now c.args.x.now _
-    c.requires.made
-    extended.least
+    c.requires.made extended.least
 
 pub returns-clause-exact : goal.returns-clause-exact
 returns-clause-exact c =
     IfOk-weaker c.state_of.result _ _
-    (λ y same. same ∙ ap (state_on c.args.model.now) c.in_ok-x.ensures.exact)
-    c.state_of.ensures
+    (λ y same. same ∙ ap (state_on c.args.model.now) c.in_ok-x.ensures.exact) c.state_of.ensures
 
 pub returns-clause-extends : goal.returns-clause-extends
 returns-clause-extends c =

@@ -29,8 +29,6 @@ returns-in_ok-made-in-Reduce c =
     let unit = to_z-of_z w128 c.in_ok-made-in-Reduce.made.unit (search rules) ∙ made.unit in
     let back = to_z-of_z w128 c.in_ok-made-in-Reduce.made.offset (search rules) in
     let figures = c.moved-figures.ensures ∙ ap (λ b. figures_moved c.args.form.figures b) (back ∙ made.offset) in
-    rw c.in-Reduce.is
-    (IfOk-weaker c.output-in-Reduce.result _ _
-    (λ m same. same
+    rw c.in-Reduce.is (IfOk-weaker c.output-in-Reduce.result _ _ (λ m same. same
     ∙ (λ i. written_of (made.target i) c.args.variables (figures i) (unit i) c.args.kind c.args.chains))
     c.output-in-Reduce.ensures)

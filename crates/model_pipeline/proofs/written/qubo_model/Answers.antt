@@ -24,7 +24,6 @@ returns-in_ok-made-in-Reduce-clause-model c =
     let unit = to_z-of_z w128 c.in_ok-made-in-Reduce.made.unit (search rules) ∙ made.unit in
     let back = to_z-of_z w128 c.in_ok-made-in-Reduce.made.offset (search rules) in
     let figures = c.moved-figures.ensures ∙ ap (λ b. figures_moved c.args.form.figures b) (back ∙ made.offset) in
-    rw c.in-Reduce.is
-    (IfOk-weaker c.output-in-Reduce.result _ _
+    rw c.in-Reduce.is (IfOk-weaker c.output-in-Reduce.result _ _
     (λ m same. same ∙ (λ i. written_of (made.target i) c.args.variables (figures i) (unit i)))
     c.output-in-Reduce.ensures)

@@ -1,4 +1,4 @@
-use Rattle.monomial_layer.proofs.Common.{nat_tests, ◌≡◌, ◌++◌, ◌∙◌, ap, add-one, arith, append_assoc, first_values, is_taken}
+use Rattle.monomial_layer.proofs.Common.{nat_tests, ◌≡◌, add-one, arith, append_assoc}
 use Rattle.monomial_layer.proofs.bits.push_taken.Goals as goal
 
 pub loop-place-preserved : goal.loop-place-preserved
@@ -6,6 +6,4 @@ loop-place-preserved c = grind (arith, nat_tests, append_assoc, add-one)
 
 pub returns : goal.returns
 returns c =
-    let all : c.loop-place.place ≡ c.args.nodes = omega arith in
-    c.loop-place.invariant
-    ∙ ap (λ n. c.args.bits.now.items ++ first_values (is_taken c.args.count) n) all
+    let all : c.loop-place.place ≡ c.args.nodes = omega arith in cc (c.loop-place.invariant)

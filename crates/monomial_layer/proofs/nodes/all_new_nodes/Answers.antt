@@ -9,12 +9,9 @@ overflow_add-nodes c =
     let left = rest_more _ c.loop-literals.literals-iterator c.next.new.self c.next.result (c.in-Some.literals, c.in-Some.coefficient) c.in-Some.is c.next.ensures.steps in
     let back = to_z-of_z w128 c.in-Some.coefficient (search rules) in
     let new : c.new_nodes-nodes.result ≡ new_nodes t = c.new_nodes-nodes.ensures c.in-Some.literals.now refl ∙ ap (λ z. new_nodes (c.in-Some.literals.now, z)) back in
-    omega (
-      arith,
-      nodes_left c.loop-literals.nodes c.new_nodes-nodes.result _ t _ _ left new c.loop-literals.invariant.whole,
-      size-all_new_terms c.args.table.now.content.terms 0,
-      c.requires,
-    )
+    let more = nodes_left c.loop-literals.nodes c.new_nodes-nodes.result _ t _ _ left new
+    c.loop-literals.invariant.whole in
+    omega (arith, size-all_new_terms c.args.table.now.content.terms 0, c.requires)
 
 pub loop-literals-preserved : goal.loop-literals-preserved
 loop-literals-preserved c =

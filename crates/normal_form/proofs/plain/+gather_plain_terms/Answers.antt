@@ -8,11 +8,10 @@ gather-requires g t c =
     let fs = c.args.list.now.items in
     let ls = c.args.literals.now in
     let n = c.first_complement-place.result in
-    let k = c.args.coefficient.now in
     let same : c.deref.result.now ≡ fs ++ take n ls = search rules in
-    let last = last_terms fs ls n k (search rules) c.first_complement-place.ensures.before in
-    let back = to_z-of_z w128 k (search rules) in
-    room_as g.T.Gather.takes c.args.terms.now _ _ k _ same back
+    let last = last_terms fs ls n _ (search rules) c.first_complement-place.ensures.before in
+    let back = to_z-of_z w128 _ (search rules) in
+    room_as g.T.Gather.takes c.args.terms.now _ _ _ _ same back
     (room_same g.T.Gather.takes c.args.terms.now _ _ last c.requires.room)
 
 pub gather_plain_terms-requires : goal.gather_plain_terms-requires
@@ -21,11 +20,10 @@ gather_plain_terms-requires g t c κs below =
     let fs = c.args.list.now.items in
     let ls = c.args.literals.now in
     let n = c.first_complement-place.result in
-    let k = c.args.coefficient.now in
     let same : c.extend_from_slice.new.self.items ≡ fs ++ take n ls = search rules in
     let rest : take (length ls - (n + 1)) (drop (n + 1) ls) ≡ drop (n + 1) ls =
     take_all _ _ (omega (arith, length-drop (n + 1) ls)) in
-    let parts = more_terms fs ls n none k (search rules) c.first_complement-place.ensures.before (search rules) in (
+    let parts = more_terms fs ls n none _ (search rules) c.first_complement-place.ensures.before (search rules) in (
       search rules,
       (
         below,

@@ -41,8 +41,7 @@ add_plain_terms-requires c =
     let whole : to_z w128 (of_z w128 parts.coefficient) ≡ parts.coefficient = search rules in
     let coefficient : to_z w128 (of_z w128 parts.coefficient) ≡ l.coefficient =
     whole ∙ ap (λ (k : Line). k.coefficient) c.literals.view_is in
-    rw (set, coefficient) (behind_fits c.loop-literals.terms _ c.loop-literals.list.items l
-    c.loop-literals.literals-iterator c.next.new.self c.in-Some.ensures.steps h.list h.whole h.fits)
+    rw (set, coefficient) (behind_fits _ _ _ _ _ _ c.in-Some.ensures.steps h.list h.whole h.fits)
 
 pub loop-literals-preserved : goal.loop-literals-preserved
 loop-literals-preserved c =
@@ -58,9 +57,7 @@ loop-literals-preserved c =
     let made = rw (set, coefficient) at c.in_ok-add_plain_terms.ensures.added in
     record {
       whole =
-          behind_left c.loop-literals.terms c.add_plain_terms.new.terms _
-          c.loop-literals.list.items l c.loop-literals.literals-iterator c.next.new.self
-          c.in-Some.ensures.steps h.list h.whole made;
+          behind_left _ _ _ _ _ _ _ c.in-Some.ensures.steps h.list h.whole made;
       fits = h.fits;
       list = c.in_ok-add_plain_terms.ensures.kept ∙ h.list;
     }

@@ -4,9 +4,7 @@ use Rattle.posiform_check.proofs.forms.model_constant.Goals as goal
 
 pub loop-entry-preserved : goal.loop-entry-preserved
 loop-entry-preserved c =
-    let left =
-    rest_more _ c.loop-entry.entry-iterator c.next.new.self c.next.result c.in-Some.entry
-    c.in-Some.is c.next.ensures.steps in
+    let left = rest_more _ _ _ _ _ c.in-Some.is c.next.ensures.steps in
     let kind = c.args.kind in
     let e = c.in-Some.entry in
     let rest = c.next.new.self in
@@ -27,17 +25,13 @@ loop-entry-preserved c =
 
 pub constant_of-sum-requires : goal.constant_of-sum-requires
 constant_of-sum-requires c =
-    let left =
-    rest_more _ c.loop-entry.entry-iterator c.next.new.self c.next.result c.in-Some.entry
-    c.in-Some.is c.next.ensures.steps in
+    let left = rest_more _ _ _ _ _ c.in-Some.is c.next.ensures.steps in
     let weight = weight_left c.loop-entry.entry-iterator c.next.new.self c.in-Some.entry left in
     omega (arith, c.loop-entry.invariant.small)
 
 pub overflow_add-sum : goal.overflow_add-sum
 overflow_add-sum c =
-    let left =
-    rest_more _ c.loop-entry.entry-iterator c.next.new.self c.next.result c.in-Some.entry
-    c.in-Some.is c.next.ensures.steps in
+    let left = rest_more _ _ _ _ _ c.in-Some.is c.next.ensures.steps in
     fits_signed_from_abs w128 _
     (let weight = weight_left c.loop-entry.entry-iterator c.next.new.self c.in-Some.entry left in
     let constant_size = constant-size c.args.kind c.in-Some.entry in

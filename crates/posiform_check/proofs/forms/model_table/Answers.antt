@@ -4,8 +4,6 @@ use Rattle.posiform_check.proofs.forms.model_table.Goals as goal
 
 pub add_entry-requires-clause-fits : goal.add_entry-requires-clause-fits
 add_entry-requires-clause-fits c =
-    let left =
-    rest_more _ c.loop-entry.entry-iterator c.next.new.self c.next.result c.in-Some.entry
-    c.in-Some.is c.next.ensures.steps in
+    let left = rest_more _ _ _ _ _ c.in-Some.is c.next.ensures.steps in
     next_fits c.args.kind c.loop-entry.terms _ c.in-Some.entry _ _ left c.loop-entry.invariant.whole
     (model_fits c.args.kind c.args.nodes c.args.entries.now c.requires.placed c.requires.small)

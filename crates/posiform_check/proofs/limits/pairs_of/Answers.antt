@@ -23,5 +23,4 @@ loop-line-preserved c = record {
 
 pub returns : goal.returns
 returns c =
-    answered_end products c.loop-line.line-iterator c.loop-line.total _
-    c.in-None.ensures.steps.0 c.loop-line.invariant.counted
+    answered_end _ _ _ _ c.in-None.ensures.steps.0 c.loop-line.invariant.counted

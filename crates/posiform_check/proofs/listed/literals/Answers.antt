@@ -16,9 +16,7 @@ returns-in_err-literal-clause-read c =
     let before = rw c.in-Some.ensures at c.loop-word.invariant.read in
     let here : (w.line == c.args.line) ≡ true = search rules in
     let p = err_from_is_err_and c.from_residual.result c.from_residual.ensures.1 in
-    rw (p.1, p.2) (sym before
-    ∙ literal_fails c.args.nodes c.args.line c.loop-word.list.items w c.next.new.self
-    c.in_err-literal.field-0.0 here (sym c.in_err-literal.ensures.value))
+    rw (p.1, p.2) (sym before ∙ literal_fails _ _ _ _ _ _ here (sym c.in_err-literal.ensures.value))
 
 pub loop-word-preserved : goal.loop-word-preserved
 loop-word-preserved c =
@@ -40,6 +38,4 @@ loop-word-preserved c =
 
 pub returns-clause-read : goal.returns-clause-read
 returns-clause-read c =
-    sym c.loop-word.invariant.read
-    ∙ literals_end c.args.nodes c.args.line c.loop-word.list.items c.loop-word.words
-    c.in_default.ensures.0
+    sym c.loop-word.invariant.read ∙ literals_end _ _ _ _ c.in_default.ensures.0

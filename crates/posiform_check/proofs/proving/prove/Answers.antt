@@ -36,8 +36,7 @@ returns-then-energy-certificate-clause-first c =
     let m = c.args.model.now in
     let cert = c.args.certificate.now in
     let none : first_negative cert.lines ≡ None = search rules in
-    let found : None
-    ≡ difference (model_list m) (certificate_list cert) = search rules in
+    let found : None ≡ difference (model_list m) (certificate_list cert) = search rules in
     let value : c.total_energy-energy.result ≡ energy (form_of m) c.args.y.now = search rules in
     let over : to_z w128 (of_z w128 c.above.result) ≡ c.total_energy-energy.result -ℤ cert.bound =
     search rules in
@@ -57,8 +56,7 @@ returns-clause-faultless c =
     let m = c.args.model.now in
     let cert = c.args.certificate.now in
     let none : first_negative cert.lines ≡ None = search rules in
-    let found : None
-    ≡ difference (model_list m) (certificate_list cert) = search rules in
+    let found : None ≡ difference (model_list m) (certificate_list cert) = search rules in
     let value : c.total_energy-energy.result ≡ energy (form_of m) c.args.y.now = search rules in
     let equal : c.total_energy-energy.result ≡ cert.bound = search rules in
     fault_from m cert c.args.y.now None None (pos 0) none found (omega (arith, ints, value, equal))

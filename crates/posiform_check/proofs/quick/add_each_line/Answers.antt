@@ -32,8 +32,7 @@ add_line-requires-clause-fits c =
     let coefficient : to_z w128 (of_z w128 parts.coefficient) ≡ l.coefficient =
     whole ∙ ap (λ (k : Line). k.coefficient) c.literals.view_is in
     rw (set, coefficient)
-    (next_line_fits c.loop-literals.long l c.loop-literals.literals-iterator c.next.new.self
-    c.in-Some.ensures.steps c.loop-literals.invariant.fits)
+    (next_line_fits _ _ _ _ c.in-Some.ensures.steps c.loop-literals.invariant.fits)
 
 pub loop-literals-preserved : goal.loop-literals-preserved
 loop-literals-preserved c =

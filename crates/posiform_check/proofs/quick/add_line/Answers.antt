@@ -13,8 +13,7 @@ pub returns-in_ok-add_short-clause-added : goal.returns-in_ok-add_short-clause-a
 returns-in_ok-add_short-clause-added c =
     let k = c.args.coefficient in
     let own : to_z w128 (of_z w128 k) ≡ k = search rules in
-    more_before c.args.sums.now c.add_short.new.sums (plain_terms c.args.line.now k)
-    c.args.long.now.terms (rw own at c.in_ok-add_short.ensures)
+    more_before _ _ _ _ (rw own at c.in_ok-add_short.ensures)
 
 pub returns-in_ok-add_short-clause-left : goal.returns-in_ok-add_short-clause-left
 returns-in_ok-add_short-clause-left c =

@@ -4,9 +4,7 @@ use Rattle.posiform_check.proofs.quick.take_entries.Goals as goal
 
 pub loop-entry-preserved : goal.loop-entry-preserved
 loop-entry-preserved c =
-    let left =
-    rest_more _ c.loop-entry.entry-iterator c.next.new.self c.next.result c.in-Some.entry
-    c.in-Some.is c.next.ensures.steps in
+    let left = rest_more _ _ _ _ _ c.in-Some.is c.next.ensures.steps in
     let kind = c.args.kind in
     λ set.
     let same = ap (λ es. coefficient_of set (flat_map (entry_terms kind) es)) left in

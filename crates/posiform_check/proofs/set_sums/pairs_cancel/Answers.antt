@@ -3,10 +3,8 @@ use Rattle.posiform_check.proofs.set_sums.pairs_cancel.Goals as goal
 
 pub loop-pair-preserved : goal.loop-pair-preserved
 loop-pair-preserved c =
-    pairs-step c.args.pairs.now c.loop-pair.pair-index _ c.loop-pair.sum c.in-Some.next
-    c.loop-pair-test.true c.loop-pair.invariant c.in-Some.ensures
+    pairs-step _ _ _ _ _ c.loop-pair-test.true c.loop-pair.invariant c.in-Some.ensures
 
 pub returns : goal.returns
 returns c = λ t.
-    pairs-end c.args.pairs.now c.loop-pair.pair-index c.loop-pair.sum c.loop-pair-test.false
-    (c.is_settled.ensures t) c.loop-pair.invariant
+    pairs-end _ _ _ c.loop-pair-test.false (c.is_settled.ensures t) c.loop-pair.invariant

@@ -1,4 +1,4 @@
-use Rattle.program_run.proofs.Common.{arith, nat_tests, map, string_bytes, model_files, last_files, planning, last_step, text_of, made_refused, made_then, may_first, may_next, ended, IfOk-weaker, returned}
+use Rattle.program_run.proofs.Common.{arith, nat_tests, map, string_bytes, model_files, last_files, made_refused, made_then, may_first, may_next, IfOk-weaker, returned}
 use Rattle.program_run.proofs.Endings.{plan_ends, plan_refused}
 use Rattle.program_run.proofs.Answering.{made_answers}
 use Rattle.program_run.proofs.answers.answer_to.Goals as goal
@@ -16,11 +16,10 @@ returns-clause-step g c = λ held may.
     let told = g.F.Files.held c.args.files.now in
     let made = model_files command in
     let last = last_files command in
-    plan_ends (ended c.answer_by.result) (planning words held command)
-    (last_step words held command.ask) c.in_ok-plan.plan
-    (c.in_ok-plan.ensures.step held (may_first told made last held may))
+    plan_ends _ _ _ _ (c.in_ok-plan.ensures.step held (may_first told made last held may))
     (c.answer_by.ensures.step held
-    (may_next told (g.F.Files.held c.take_plan.new.files) made last held c.in_ok-plan.ensures.held may))
+    (may_next told (g.F.Files.held c.take_plan.new.files) made last held c.in_ok-plan.ensures.held
+    may))
 
 pub returns-clause-files : goal.returns-clause-files
 returns-clause-files g c = grind (arith, nat_tests, made_then)
@@ -32,10 +31,7 @@ returns-clause-answer g c =
     let told = g.F.Files.held c.args.files.now in
     let made = model_files command in
     let last = last_files command in
-    IfOk-weaker c.answer_by.result _ _
-    (λ answer its held may.
-    made_answers words held command c.in_ok-plan.plan (text_of answer)
-    (c.in_ok-plan.ensures.step held (may_first told made last held may))
-    (its held
-    (may_next told (g.F.Files.held c.take_plan.new.files) made last held c.in_ok-plan.ensures.held may)))
-    c.answer_by.ensures.answer
+    IfOk-weaker c.answer_by.result _ _ (λ answer its held may. made_answers _ _ _ _ _
+    (c.in_ok-plan.ensures.step held (may_first told made last held may)) (its held
+    (may_next told (g.F.Files.held c.take_plan.new.files) made last held c.in_ok-plan.ensures.held
+    may))) c.answer_by.ensures.answer

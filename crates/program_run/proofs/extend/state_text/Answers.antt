@@ -4,8 +4,7 @@ use Rattle.program_run.proofs.extend.state_text.Goals as goal
 pub returns : goal.returns
 returns c =
     let state = c.in_ok-state.state.items in
-    IfOk-weaker c.written_extension.result _ _
-    (λ text told.
+    IfOk-weaker c.written_extension.result _ _ (λ text told.
     let said : text.items
     ≡ extension_text state c.args.cost (energy (form_of c.args.model.now) state) =
     search (rules, told) in
@@ -15,5 +14,4 @@ returns c =
       extends = c.in_ok-state.ensures.extends;
       least = c.in_ok-state.ensures.least;
       said = said;
-    })
-    c.written_extension.ensures
+    }) c.written_extension.ensures

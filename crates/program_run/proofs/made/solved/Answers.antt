@@ -31,7 +31,6 @@ returns-clause-answer c =
 
 pub returns-clause-some : goal.returns-clause-some
 returns-clause-some c =
-    solved_some None c.args.plan.now.read c.args.model.now _
-    (c.in_ok-text.ensures None
+    solved_some None c.args.plan.now.read c.args.model.now _ (c.in_ok-text.ensures None
     (subst (IsFirstLeast (form_of c.args.model.now)) (sym c.deref.ensures.value)
     c.in-Ok.ensures.state))

@@ -1,14 +1,11 @@
-use Rattle.program_run.proofs.Common.{sym, subst, ising_of, IsMadeOf, Placement, ties_of}
+use Rattle.program_run.proofs.Common.{sym, subst, IsMadeOf, Placement, ties_of}
 use Rattle.program_run.proofs.Embedded.{fault_unembedded}
 use Rattle.program_run.proofs.models.model_on.Goals as goal
 
 pub returns-in-Err-clause-refused : goal.returns-in-Err-clause-refused
 returns-in-Err-clause-refused g c =
     rw c.unembedded.ensures
-    (fault_unembedded c.in-Qubits.site c.args.base.now
-    (ising_of c.args.choices.now (g.P.Held.problem c.args.problem)) c.in-Err.answer
-    c.in-Qubits.is c.in-Err.ensures.fault
-    c.in-Err.ensures.refused)
+    (fault_unembedded _ _ _ _ c.in-Qubits.is c.in-Err.ensures.fault c.in-Err.ensures.refused)
 
 pub returns-in-Ok-clause-made : goal.returns-in-Ok-clause-made
 returns-in-Ok-clause-made g c =

@@ -1,4 +1,4 @@
-use Rattle.program_run.proofs.Common.{arith, nat_tests, map, string_bytes, request_of}
+use Rattle.program_run.proofs.Common.{arith, nat_tests, map, string_bytes}
 use Rattle.program_run.proofs.Endings.{done_is_complete}
 use Rattle.program_run.proofs.Headlines.{headline_delivered, writing_so}
 use Rattle.program_run.proofs.running.answered.Goals as goal
@@ -7,9 +7,8 @@ pub returns-in-Ok-Command-clause-complete : goal.returns-in-Ok-Command-clause-co
 returns-in-Ok-Command-clause-complete g c = λ calm quiet held may done.
     let words = map string_bytes c.args.words.now in
     let ends = c.carried_out.ensures in
-    done_is_complete words held (request_of words) c.carried_out.result
-    (g.F.Files.counts c.args.files.now) (g.F.Files.counts c.carried_out.new.files)
-    (ends.outcome held may) ends.files calm (λ is. quiet (ends.write_fault is)) done
+    done_is_complete _ _ _ _ _ _ (ends.outcome held may) ends.files calm
+    (λ is. quiet (ends.write_fault is)) done
 
 pub returns-in-Ok-Command-clause-headline : goal.returns-in-Ok-Command-clause-headline
 returns-in-Ok-Command-clause-headline g c = grind (arith, nat_tests, writing_so, headline_delivered)

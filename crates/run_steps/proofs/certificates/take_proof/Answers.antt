@@ -1,4 +1,4 @@
-use Rattle.run_steps.proofs.Common.{arith, nat_tests, ◌≡◌, Bool, Global, Vec, Ok, Some, map, string_bytes, subst, text_at, Written, certifying, Refuses}
+use Rattle.run_steps.proofs.Common.{arith, nat_tests, ◌≡◌, Ok, Some, map, string_bytes, subst, text_at, Written, certifying, Refuses}
 use Rattle.posiform_check.specs.Certificates.{AreOfNodes}
 use Rattle.run_steps.proofs.Certified.{alone_refused, certificate_refuses, certified_meets, proved_files}
 use Rattle.run_steps.proofs.Taking.{reads, returned}
@@ -7,10 +7,9 @@ use Rattle.run_steps.proofs.certificates.take_proof.Goals as goal
 pub returns-in_err-certificate-clause-step : goal.returns-in_err-certificate-clause-step
 returns-in_err-certificate-clause-step g c = λ held may.
     let name = text_at (map string_bytes c.args.words.now) c.args.at in
-    rw (returned c.from_residual.ensures.1)
-    (certificate_refuses held name c.args.model.now c.args.bits.items c.in_err-certificate.field-0.0
-    (subst (λ (n : Written). Refuses c.in_err-certificate.field-0.0 (certifying held name n.nodes)) c.model.view_is
-    (c.in_err-certificate.ensures.took.step held may)))
+    rw (returned c.from_residual.ensures.1) (certificate_refuses _ _ _ _ _
+    (subst (λ (n : Written). Refuses c.in_err-certificate.field-0.0 (certifying held name n.nodes))
+    c.model.view_is (c.in_err-certificate.ensures.took.step held may)))
 
 pub returns-in_err-certificate-clause-files : goal.returns-in_err-certificate-clause-files
 returns-in_err-certificate-clause-files g c = grind (arith, nat_tests, returned, alone_refused)
@@ -27,11 +26,10 @@ proved-requires-clause-nodes g c =
 pub returns-clause-step : goal.returns-clause-step
 returns-clause-step g c = λ held may.
     let name = text_at (map string_bytes c.args.words.now) c.args.at in
-    certified_meets (λ (b : Vec Bool Global). b.items) c.proved.result held name c.args.model.now
-    c.args.bits.items c.in_ok-certificate.certificate
-    (subst (λ (n : Written). (certifying held name n.nodes).end ≡ Some (Ok c.in_ok-certificate.certificate))
-    c.model.view_is (c.in_ok-certificate.ensures.took.step held may))
-    c.proved.ensures.step
+    certified_meets _ _ _ _ _ _ _
+    (subst (λ (n : Written). (certifying held name n.nodes).end ≡ Some (Ok
+    c.in_ok-certificate.certificate))
+    c.model.view_is (c.in_ok-certificate.ensures.took.step held may)) c.proved.ensures.step
 
 pub returns-clause-files : goal.returns-clause-files
 returns-clause-files g c = grind (arith, nat_tests, proved_files)

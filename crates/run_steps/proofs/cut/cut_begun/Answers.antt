@@ -15,9 +15,8 @@ pub returns-in-Ok-finish-clause-words : goal.returns-in-Ok-finish-clause-words
 returns-in-Ok-finish-clause-words g c =
     let fed = c.in-Ok.ensures in
     let new = c.feed_rest.new.files in
-    words_cut (g.F.Files.held c.args.files.now) (g.F.Files.counts c.args.files.now).name c.args.limit
-    (g.F.Files.counts new).taken c.args.style (g.F.Files.rest new) c.feed_rest.new.lexer _ fed.cut
-    fed.at_end fed.end.0 (fed.style ∙ c.new-lexer.ensures.style) c.in-Ok-finish.ensures.words
+    words_cut _ _ _ _ _ _ _ _ fed.cut fed.at_end fed.end.0 (fed.style ∙ c.new-lexer.ensures.style)
+    c.in-Ok-finish.ensures.words
 
 pub returns-in-Ok-finish-clause-short : goal.returns-in-Ok-finish-clause-short
 returns-in-Ok-finish-clause-short g c =

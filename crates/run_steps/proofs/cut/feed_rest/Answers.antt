@@ -1,4 +1,4 @@
-use Rattle.run_steps.proofs.Common.{nat_tests, rules, arith, drop, ◌∙◌, length-take}
+use Rattle.run_steps.proofs.Common.{nat_tests, rules, arith, ◌∙◌, length-take}
 use Rattle.run_steps.proofs.Cutting.{cut_more}
 use Rattle.run_steps.proofs.cut.feed_rest.Goals as goal
 
@@ -15,10 +15,7 @@ loop-count-preserved g c =
       within = search rules;
       counted = search rules;
       filled = search rules;
-      cut = cut_more (g.F.Files.held c.args.files.now) (g.F.Files.counts c.args.files.now).name
-          c.loop-count.taken c.in-Ok.count taken.new.into (drop c.min-room.result c.loop-count.piece)
-          (g.F.Files.rest c.loop-count.files) (g.F.Files.rest taken.new.files)
-          c.loop-count.lexer c.feed.new.self i.cut read.bound.0 read.rest.0 fed.fed;
+      cut = cut_more _ _ _ _ _ _ _ _ _ _ i.cut read.bound.0 read.rest.0 fed.fed;
       styled = fed.style ∙ i.styled;
       same = record {
         begun = read.begun ∙ i.same.begun;

@@ -10,12 +10,9 @@ returns-in_err-bits-clause-step g c = λ held may.
     let words = map string_bytes c.args.words.now in
     let command = c.args.command in
     let status = c.in_err-bits.field-0.0 in
-    rw (returned c.from_residual.ensures.1)
-    (bits_refuse words held c.args.plan.now.read.variables c.args.model.now command.ask c.args.at status
-    c.requires.asked
+    rw (returned c.from_residual.ensures.1) (bits_refuse _ _ _ _ _ _ _ c.requires.asked
     (subst (λ (n : ℕ). Refuses status (stating held (text_at words c.args.at) n))
-    c.width_of-width.ensures
-    (c.in_err-bits.ensures.took.step held
+    c.width_of-width.ensures (c.in_err-bits.ensures.took.step held
     (may_state (g.F.Files.held c.args.files.now) command c.args.at held c.requires.asked may))))
 
 pub returns-in_err-bits-clause-files : goal.returns-in_err-bits-clause-files
@@ -45,8 +42,7 @@ pub returns-in-Prove-clause-width : goal.returns-in-Prove-clause-width
 returns-in-Prove-clause-width g c =
     IfOk-weaker c.take_proof.result _ _
     (λ b same. ap (λ (v : Vec Bool Global). length v.items) same ∙ c.in_ok-bits.ensures.fits
-    ∙ c.width_of-width.ensures)
-    c.take_proof.ensures.same
+    ∙ c.width_of-width.ensures) c.take_proof.ensures.same
 
 pub returns-in-Prove-clause-files : goal.returns-in-Prove-clause-files
 returns-in-Prove-clause-files g c = grind (arith, nat_tests, state_files_are, then_returned)
@@ -55,11 +51,9 @@ pub returns-in-Decode-clause-step : goal.returns-in-Decode-clause-step
 returns-in-Decode-clause-step g c = λ held may.
     let words = map string_bytes c.args.words.now in
     let command = c.args.command in
-    bits_given words held c.args.plan.now.read.variables c.args.model.now command.ask c.args.at
-    c.in_ok-bits.bits.items c.requires.asked (rw c.in-Decode.is refl)
-    (subst (λ (n : ℕ). (stating held (text_at words c.args.at) n).end ≡ Some (Ok c.in_ok-bits.bits.items))
-    c.width_of-width.ensures
-    (c.in_ok-bits.ensures.took.step held
+    bits_given _ _ _ _ _ _ _ c.requires.asked (rw c.in-Decode.is refl)
+    (subst (λ (n : ℕ). (stating held (text_at words c.args.at) n).end ≡ Some (Ok
+    c.in_ok-bits.bits.items)) c.width_of-width.ensures (c.in_ok-bits.ensures.took.step held
     (may_state (g.F.Files.held c.args.files.now) command c.args.at held c.requires.asked may)))
 
 pub returns-in-Decode-clause-files : goal.returns-in-Decode-clause-files
@@ -69,11 +63,9 @@ pub returns-in-Extend-clause-step : goal.returns-in-Extend-clause-step
 returns-in-Extend-clause-step g c = λ held may.
     let words = map string_bytes c.args.words.now in
     let command = c.args.command in
-    bits_given words held c.args.plan.now.read.variables c.args.model.now command.ask c.args.at
-    c.in_ok-bits.bits.items c.requires.asked (rw c.in-Extend.is refl)
-    (subst (λ (n : ℕ). (stating held (text_at words c.args.at) n).end ≡ Some (Ok c.in_ok-bits.bits.items))
-    c.width_of-width.ensures
-    (c.in_ok-bits.ensures.took.step held
+    bits_given _ _ _ _ _ _ _ c.requires.asked (rw c.in-Extend.is refl)
+    (subst (λ (n : ℕ). (stating held (text_at words c.args.at) n).end ≡ Some (Ok
+    c.in_ok-bits.bits.items)) c.width_of-width.ensures (c.in_ok-bits.ensures.took.step held
     (may_state (g.F.Files.held c.args.files.now) command c.args.at held c.requires.asked may)))
 
 pub returns-in-Extend-clause-files : goal.returns-in-Extend-clause-files

@@ -1,5 +1,4 @@
-use Rattle.run_steps.proofs.Common.{refl, List, ℕ, map, string_bytes, NamedFiles, Board, Qubits, ChainSource, Site, Steps, ◌>>=◌, gives, if_named, chains_step, siting}
-use Rattle.command_words.specs.declared.names.Which.TheVariants.{Map}
+use Rattle.run_steps.proofs.Common.{refl, List, ℕ, map, string_bytes, NamedFiles, Board, Qubits, ChainSource, Site, Steps, ◌>>=◌, gives, chains_step, siting}
 use Rattle.run_steps.proofs.Taking.{first_refuses, still_refuses, takes_given, then_takes}
 use Rattle.run_steps.proofs.placements.take_site.Goals as goal
 
@@ -14,9 +13,7 @@ after words board held qubits =
 
 pub returns-in_err-qubits : goal.returns-in_err-qubits
 unfolding siting
-returns-in_err-qubits g c =
-    first_refuses (if_named c.args.command Map) (after (map string_bytes c.args.words.now) c.args.board)
-    c.from_residual.ensures.1 c.in_err-qubits.ensures
+returns-in_err-qubits g c = first_refuses _ _ c.from_residual.ensures.1 c.in_err-qubits.ensures
 
 pub returns : goal.returns
 unfolding siting
@@ -27,6 +24,5 @@ returns g c =
 pub returns-in_err-chain_source : goal.returns-in_err-chain_source
 unfolding siting
 returns-in_err-chain_source g c =
-    then_takes (after (map string_bytes c.args.words.now) c.args.board) c.in_ok-qubits.ensures
-    (still_refuses (λ held chain_source. gives (site_of c.args.board c.in_ok-qubits.qubits chain_source))
-    c.from_residual-in_err-chain_source.ensures.1 c.in_err-chain_source.ensures)
+    then_takes _ c.in_ok-qubits.ensures
+    (still_refuses _ c.from_residual-in_err-chain_source.ensures.1 c.in_err-chain_source.ensures)

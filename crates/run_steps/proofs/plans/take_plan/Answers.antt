@@ -1,4 +1,4 @@
-use Rattle.run_steps.proofs.Common.{arith, nat_tests, refl, List, ℕ, map, string_bytes, Command, NamedFiles, Read, Placement, Plan, Steps, ◌>>=◌, gives, placing, planning}
+use Rattle.run_steps.proofs.Common.{string_bytes, map, arith, nat_tests, refl, List, ℕ, Command, NamedFiles, Read, Placement, Plan, Steps, ◌>>=◌, gives, placing, planning}
 use Rattle.run_steps.proofs.Taking.{refuses, source_refuses, source_then, still_refuses, takes_given}
 use Rattle.run_steps.proofs.plans.take_plan.Goals as goal
 

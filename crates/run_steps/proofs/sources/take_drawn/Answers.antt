@@ -5,13 +5,11 @@ use Rattle.run_steps.proofs.sources.take_drawn.Goals as goal
 pub returns-clause-drawn : goal.returns-clause-drawn
 returns-clause-drawn c =
     let normal = c.args.command.choices.normal in
-    IfOk-weaker c.wanted.result _ _
-    (λ given is. record {
+    IfOk-weaker c.wanted.result _ _ (λ given is. record {
       own = c.in_ok-read.read;
       from = (c.in_ok-read.ensures.read normal).from;
       given = is;
-    })
-    c.wanted.ensures.value
+    }) c.wanted.ensures.value
 
 pub returns-clause-within : goal.returns-clause-within
 returns-clause-within c =

@@ -1,4 +1,4 @@
-use Rattle.run_steps.proofs.Common.{arith, nat_tests, ◌≡◌, refl, Ok, Err, Some, checking_file, reading_file}
+use Rattle.run_steps.proofs.Common.{reading_file, checking_file, Some, Ok, ◌≡◌, arith, nat_tests, refl, Err}
 use Rattle.command_words.specs.declared.names.Which.TheVariants.{Source}
 use Rattle.run_steps.specs.declared.status.Status.TheVariants.{Limit}
 use Rattle.run_steps.proofs.Holding.{told_then}

@@ -1,5 +1,4 @@
-use Rattle.run_steps.proofs.Common.{ℕ, map, string_bytes, name_of, text_at, last_files, taking, Vec, Global}
-use Rattle.command_words.specs.declared.names.Which.TheVariants.{State}
+use Rattle.run_steps.proofs.Common.{State, Global, Vec, taking, last_files, text_at, name_of, ℕ, map, string_bytes}
 use Rattle.run_steps.proofs.Holding.{has_states}
 use Rattle.run_steps.proofs.Taking.{takes_alone}
 use Rattle.run_steps.proofs.states.take_states.Goals as goal

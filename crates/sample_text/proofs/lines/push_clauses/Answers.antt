@@ -7,9 +7,8 @@ loop-preserved c =
     let left = c.args.count - c.loop.counter in
     let rest = c.args.count - (c.loop.counter + 1) in
     let is : left ≡ suc rest = omega (arith, c.loop-test.true) in
-    clause_added c.loop.text.items c.push_clause.new.text.items _ left rest c.args.variables c.args.top
-    c.loop.draws.state c.push_clause.new.draws.state is c.loop.invariant
-    c.in_ok-push_clause.ensures.text c.in_ok-push_clause.ensures.state
+    clause_added _ _ _ _ _ _ _ _ _ is c.loop.invariant c.in_ok-push_clause.ensures.text
+    c.in_ok-push_clause.ensures.state
 
 pub returns : goal.returns
 returns c =

@@ -10,10 +10,8 @@ returns-in_err-put-clause-front g c =
     let pieces = c.args.pieces.now in
     let i = c.loop-piece.piece-index in
     let cut = ap joined_bytes (drop_more pieces i no_piece (omega arith)) in
-    at_error c.from_residual.result
-    (put_fault _ _ _ c.args.buffer.now c.loop-piece.buffer (joined_bytes pieces) (joined_bytes (drop i pieces))
-    (get_or pieces i no_piece).now (joined_bytes (drop (i + 1) pieces)) cut c.loop-piece.invariant.put
-    c.in_err-put.ensures.front)
+    at_error _
+    (put_fault _ _ _ _ _ _ _ _ _ cut c.loop-piece.invariant.put c.in_err-put.ensures.front)
 
 pub loop-piece-preserved : goal.loop-piece-preserved
 loop-piece-preserved g c =
@@ -21,8 +19,6 @@ loop-piece-preserved g c =
     let i = c.loop-piece.piece-index in
     let cut = ap joined_bytes (drop_more pieces i no_piece (omega arith)) in
     record {
-      put = put_more _ _ _ c.args.buffer.now c.loop-piece.buffer c.put.new.self (joined_bytes pieces) (joined_bytes (drop i pieces))
-          (get_or pieces i no_piece).now (joined_bytes (drop (i + 1) pieces)) cut c.loop-piece.invariant.put
-          c.in_ok-put.ensures.passed;
+      put = put_more _ _ _ _ _ _ _ _ _ _ cut c.loop-piece.invariant.put c.in_ok-put.ensures.passed;
       later = search rules;
     }

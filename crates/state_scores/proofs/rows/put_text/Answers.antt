@@ -13,8 +13,7 @@ returns-clause-passed g c =
     let cut = text_parts c.args.scores.now c.args.best c.args.tail.now in
     let scored =
     put_more _ _ _ c.args.buffer.now c.args.buffer.now c.put_scores.new.buffer _ _ _ _ cut (put_none _ c.args.buffer.now _) c.in_ok-put_scores.ensures.passed in
-    then_ok c.put_best.result
-    (λ told. put_all _ _ c.args.buffer.now c.put_best.new.buffer _ [] refl
+    then_ok c.put_best.result (λ told. put_all _ _ c.args.buffer.now c.put_best.new.buffer _ [] refl
     (put_more _ _ _ c.args.buffer.now c.put_scores.new.buffer c.put_best.new.buffer _ _ _ [] (sym (append-nil _)) scored told))
     c.put_best.ensures.passed
 

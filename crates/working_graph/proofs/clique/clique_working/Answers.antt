@@ -11,8 +11,7 @@ returns-then-len-nodes-clause-refused c =
     let taken : length c.in_ok-taken.taken ≡ length (taken_places w) =
     omega (arith, c.if-len-nodes.true, c.len.ensures, made, clique_len w c.args.nodes) in (
       omega (arith, taken, c.if-len-nodes.true, c.len.ensures),
-      ap (TooManyNodes c.args.nodes)
-          (c.len-then-len-nodes.ensures ∙ taken),
+      ap (TooManyNodes c.args.nodes) (c.len-then-len-nodes.ensures ∙ taken),
     )
 
 pub returns-clause-fits : goal.returns-clause-fits

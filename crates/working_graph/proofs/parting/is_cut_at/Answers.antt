@@ -32,7 +32,6 @@ returns c =
     let w = c.args.working.now in
     let v = c.args.place in
     let u = c.args.other in
-    c.is_cut.ensures
-    ∙ (λ i. is_cut w (c.qubit_at.ensures i) (c.qubit_at-2.ensures i))
+    c.is_cut.ensures ∙ (λ i. is_cut w (c.qubit_at.ensures i) (c.qubit_at-2.ensures i))
     ∙ ap (λ (h : Chimera). is_cut w (down_qubit h (v / h.shore) (v % h.shore) (u / h.shore))
     (along_qubit h (u / h.shore) (u % h.shore) (v / h.shore))) c.graph-graph.ensures

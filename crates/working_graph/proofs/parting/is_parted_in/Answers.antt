@@ -82,8 +82,7 @@ loop-k-preserved c =
     (λ bars. c.is_barred.ensures.free c.if-is_barred.false bars.0 bars.1)
 
 -- where no cut from k on is of the row, no marked place of the row is parted
-free : (c : At-loop-k)
-    → (c.loop-k.k < length c.cuts-cuts.result.now
+free : (c : At-loop-k) → (c.loop-k.k < length c.cuts-cuts.result.now
     → get_or c.cuts-cuts.result.now c.loop-k.k 0 - c.pair_number-from.result
     < c.args.working.now.graph.shore → ⊥)
     → (u : ℕ) → u / c.args.working.now.graph.shore ≡ c.args.row
@@ -96,8 +95,7 @@ free c done =
     let cuts = c.cuts-cuts.result.now in
     let from = c.pair_number-from.result in
     let begins : from ≡ first_across w.graph place row =
-    c.pair_number-from.ensures
-    ∙ (λ i. pair_number (c.qubit_at.ensures i) (c.qubit_at-2.ensures i))
+    c.pair_number-from.ensures ∙ (λ i. pair_number (c.qubit_at.ensures i) (c.qubit_at-2.ensures i))
     ∙ ap (λ (h : Chimera). first_across h place row) c.graph-graph.ensures in
     let passed : HasPassed cuts from c.loop-k.k (BarsIn w marks place row) =
     subst (λ (h : Chimera). HasPassed cuts from c.loop-k.k

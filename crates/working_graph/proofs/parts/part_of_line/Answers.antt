@@ -34,8 +34,7 @@ returns-in_err-rest_of_line-clause-read c =
     c.blank_len.ensures.first (omega arith) c.if-text-at-eq99.false c.in_ok-qubit.ensures.len in
     let residual = c.from_residual-in_err-rest_of_line in
     let p = err_from_is_err_and residual.result residual.ensures.1 in
-    rw (p.1, p.2)
-    (follow_bad _ _ _ _ _ _ _ t.2 c.in_ok-qubit.ensures.value
+    rw (p.1, p.2) (follow_bad _ _ _ _ _ _ _ t.2 c.in_ok-qubit.ensures.value
     (sym c.in_err-rest_of_line.ensures.read))
 
 pub returns-clause-read : goal.returns-clause-read

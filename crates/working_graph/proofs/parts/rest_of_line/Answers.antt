@@ -13,8 +13,7 @@ returns-in_err-to-clause-read c =
     let w = some_left _ _ _ _ _ c.args.line c.requires.ordered c.requires.within
     c.blank_len.ensures.first (omega (arith, c.blank_len.ensures.within, c.if-at-end.false)) refl in
     let p = err_from_is_err_and c.from_residual.result c.from_residual.ensures.1 in
-    rw (p.1, p.2)
-    (sym (ap (rest_at c.args.graph.now c.args.from) w.1
+    rw (p.1, p.2) (sym (ap (rest_at c.args.graph.now c.args.from) w.1
     ∙ rest_bad _ _ _ _ _ c.in_err-to.ensures.value))
 
 pub returns-then-last-end-clause-read : goal.returns-then-last-end-clause-read
@@ -34,6 +33,5 @@ returns-else-last-end-clause-read c =
     c.in_ok-to.ensures.len in
     let v = some_left _ _ _ _ _ c.args.line w.0 c.requires.within c.blank_len-2.ensures.first
     (omega (arith, c.blank_len-2.ensures.within, c.if-last-end.false)) refl in
-    ap Err c.fault.ensures
-    ∙ sym (ap (rest_at c.args.graph.now c.args.from) w.1
+    ap Err c.fault.ensures ∙ sym (ap (rest_at c.args.graph.now c.args.from) w.1
     ∙ rest_more _ _ _ _ _ _ _ c.in_ok-to.ensures.value v.1)

@@ -8,6 +8,5 @@ returns-in_err-part-clause-read c =
 
 pub returns-in-None-clause-read : goal.returns-in-None-clause-read
 returns-in-None-clause-read c =
-    let parts = c.args.parts.now.items in
-    ap (after_front parts) (c.in_ok-part.ensures.read ∙ ap (λ v. Ok (option_to_list v)) c.in-None.is)
-    ∙ ap Ok (append-nil parts)
+    ap (after_front _) (c.in_ok-part.ensures.read ∙ ap (λ v. Ok (option_to_list v)) c.in-None.is)
+    ∙ ap Ok (append-nil _)

@@ -17,28 +17,25 @@ loop-parts-init c =
 
 pub returns-in_err-add_line-clause-read : goal.returns-in_err-add_line-clause-read
 returns-in_err-add_line-clause-read c =
-    let text = c.args.text.now in
     let start = c.loop-parts.start in
     let n = c.line_len.result in
-    let first = rw (take_rest text start) at c.line_len.ensures.first in
-    let e = c.in_err-add_line.field-0.0 in
+    let first = rw (take_rest _ start) at c.line_len.ensures.first in
     let p = err_from_is_err_and c.from_residual.result c.from_residual.ensures.1 in
     let fails = c.in_err-add_line.ensures.read in
-    rw (p.1, p.2)
-    (subst (Fails e) c.loop-parts.invariant.read
-    (elim (cases_lt (start + n) (length text)) [
-      | inl low ↦ line_fails c.args.graph.now _ _ _ _ _ e (line_cut text start n first low) fails
+    rw (p.1, p.2) (subst (Fails _) c.loop-parts.invariant.read
+    (elim (cases_lt (start + n) (length _)) [
+      | inl low ↦ line_fails c.args.graph.now _ _ _ _ _ _ (line_cut _ start n first low) fails
       | inr high ↦
-          let last = line_last text start n c.loop-parts.invariant.within first (omega (arith, high)) in
-          line_fails c.args.graph.now _ _ _ _ _ e last fails
+          let last = line_last _ start n c.loop-parts.invariant.within first (omega (arith, high))
+          in
+          line_fails c.args.graph.now _ _ _ _ _ _ last fails
     ]))
 
 pub returns-then-end-text-clause-read : goal.returns-then-end-text-clause-read
 returns-then-end-text-clause-read c =
     let first = rw (take_rest c.args.text.now c.loop-parts.start) at c.line_len.ensures.first in
     let last = line_last _ _ _ c.loop-parts.invariant.within first c.if-end-text.true in
-    sym c.loop-parts.invariant.read
-    ∙ line_more _ _ _ _ _ _ _ last c.in_ok-add_line.ensures.read
+    sym c.loop-parts.invariant.read ∙ line_more _ _ _ _ _ _ _ last c.in_ok-add_line.ensures.read
     ∙ lines_end c.args.graph.now _ (c.loop-parts.line + 1)
 
 pub loop-parts-preserved : goal.loop-parts-preserved

@@ -22,9 +22,8 @@ returns c =
 
 pub is_free-requires-clause-earlier : goal.is_free-requires-clause-earlier
 is_free-requires-clause-earlier c = λ u marked.
-    let chain = clique_chain c.args.working.now.graph in
-    let taken = are_taken (fabric_of c.args.working.now) chain c.loop-place.place in
-    let at = at_of_in (taken_of (fabric_of c.args.working.now) chain c.loop-place.place) u
+    let taken = are_taken (fabric_of c.args.working.now) _ c.loop-place.place in
+    let at = at_of_in (taken_of (fabric_of c.args.working.now) _ c.loop-place.place) u
     (sym (c.loop-place.invariant.1 u) ∙ marked) in
     rw at.2 at (taken.below at.0 at.1)
 

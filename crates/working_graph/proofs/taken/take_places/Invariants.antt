@@ -6,7 +6,5 @@ abbrev pub invariant-loop-place : goal.invariant-loop-place
 invariant-loop-place l =
     let graph = l.working.graph in
     let xs = taken_of (fabric_of l.working) (clique_chain graph) l.place in
-    (l.taken ≡ map (clique_chain graph) xs)
-    × AreMarked l.marks xs
-    × (length l.marks ≡ clique_places graph)
-    × (length l.taken ≤ l.nodes)
+    (l.taken ≡ map (clique_chain graph) xs) × AreMarked l.marks xs
+    × (length l.marks ≡ clique_places graph) × (length l.taken ≤ l.nodes)

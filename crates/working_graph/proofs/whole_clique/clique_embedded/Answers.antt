@@ -1,4 +1,4 @@
-use Rattle.working_graph.proofs.Common.{length, refl, subst, sym, qubits_of, clique_of, Embedding, IsChecked, joined_on}
+use Rattle.working_graph.proofs.Common.{length, refl}
 use Rattle.working_graph.proofs.CliqueEmbeds.{made_of_parts, made_checked, made_embeds}
 use Rattle.working_graph.proofs.whole_clique.clique_embedded.Goals as goal
 
@@ -16,10 +16,6 @@ returns-clause-checked c =
     let graph = c.args.graph.now in
     let f = c.args.ising in
     let made = c.in_ok-layout.ensures in
-    subst
-    (λ (e : Embedding).
-    IsChecked (joined_on graph) (qubits_of graph) f (clique_of graph (length f.fields)) e)
-    (sym c.of.ensures)
-    (made_checked graph f _ made.kept made.fits
+    rw c.of.ensures (made_checked graph f _ made.kept made.fits
     (made_of_parts graph f (length f.fields) _ _ _ _ refl made.chains c.qubits.ensures made.parents
     made.places))

@@ -4,12 +4,10 @@ use Rattle.working_graph.proofs.working.has_number.Goals as goal
 
 pub returns-in-Err : goal.returns-in-Err
 returns-in-Err c =
-    let xs = c.args.numbers.now in
-    let here = searched xs _ (Err c.in-Err.field-0) c.in-Err.ensures.position c.requires in
+    let here = searched _ _ (Err c.in-Err.field-0) c.in-Err.ensures.position c.requires in
     let test : ℕ → Bool = λ n. n == c.args.number in
-    sym
-    (list_any_none test xs
-    (All-from_get_or (λ n. test n ≡ false) xs 0 (λ i below. is_other (get_or xs i 0) _ (λ same.
+    sym (list_any_none test _
+    (All-from_get_or (λ n. test n ≡ false) _ 0 (λ i below. is_other (get_or _ i 0) _ (λ same.
     elim (cases_lt i c.in-Err.field-0) [
       | inl before ↦ omega (arith, same, here.1 i before)
       | inr after ↦ omega (arith, same, here.2 i after below)

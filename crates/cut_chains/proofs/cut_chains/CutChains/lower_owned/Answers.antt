@@ -1,4 +1,4 @@
-use Rattle.cut_chains.proofs.Common.{unsigned_abs, ap, ◌∙◌, arith, rules, w128, to_z-of_z, CutLink, Fits, cut_keeps}
+use Rattle.cut_chains.proofs.Common.{unsigned_abs, ap, ◌∙◌, arith, rules, w128, to_z-of_z, CutLink, cut_keeps}
 use Rattle.cut_chains.proofs.CutSizes.{cut_offset_small}
 use Rattle.cut_chains.proofs.cut_chains.CutChains.lower_owned.Goals as goal
 
@@ -9,13 +9,11 @@ returns-clause-offset c =
 pub returns-clause-keeps : goal.returns-clause-keeps
 returns-clause-keeps c =
     let link : CutLink = record { chains = c.into_chains.result; qubits = c.qubits-qubits.result } in
-    let fits : Fits link c.args.source = record {
-      chains = c.into_chains.ensures;
-      qubits = c.qubits-qubits.ensures;
-      kept = c.in_ok-target.ensures.kept;
-    } in
+    let chains = c.into_chains.ensures in
+    let kept = c.in_ok-target.ensures.kept in
     rw (c.in_ok-target.ensures.image, returns-clause-offset c)
-    (cut_keeps link c.args.source fits)
+    (cut_keeps link c.args.source
+    (record { chains = chains; qubits = c.qubits-qubits.ensures; kept = kept }))
 
 pub returns-clause-offset_high : goal.returns-clause-offset_high
 returns-clause-offset_high c =

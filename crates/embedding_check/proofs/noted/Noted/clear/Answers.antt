@@ -7,8 +7,7 @@ returns-then-self-clause-none c = λ v low.
     let inside = c.self.inside in
     let len : length c.args.self.now ≡ length inside.marks.items =
     sym (ap length c.self.view_is) ∙ length-map inside.marks.items (marked_pair inside.turn) in
-    let below : v < length c.forget.new.marks.items =
-    omega (arith, low, len) in
+    let below : v < length c.forget.new.marks.items = omega (arith, low, len) in
     cleared 1 c.forget.new.marks.items v below (λ i d h. omega (arith, c.forget.ensures.none i d h))
 
 pub returns-else-self-clause-none : goal.returns-else-self-clause-none

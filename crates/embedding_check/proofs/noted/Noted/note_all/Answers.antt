@@ -4,23 +4,17 @@ use Rattle.embedding_check.proofs.noted.Noted.note_all.Goals as goal
 
 pub loop-k-preserved : goal.loop-k-preserved
 loop-k-preserved g c =
-    let joined = g.H.Hardware.joined c.args.hardware.now in
-    let owners = c.args.owners.now in
-    let node = c.args.node in
-    let chain = c.args.chain.now in
     let k = c.loop-k.k in
-    let both = notes_both (IsChainJoin joined owners node chain k) (IsQubitJoin joined owners node (qubit_at chain k)) c.args.self.now
+    let both = notes_both (IsChainJoin _ _ _ _ k) (IsQubitJoin _ _ _ (qubit_at _ k)) c.args.self.now
     c.loop-k.self c.note_qubit-done.new.self c.loop-k.invariant.noted c.note_qubit-done.ensures.noted in
     record {
-      noted = notes_same _ (IsChainJoin joined owners node chain (k + 1)) c.args.self.now c.note_qubit-done.new.self
+      noted = notes_same _ (IsChainJoin _ _ _ _ (k + 1)) c.args.self.now c.note_qubit-done.new.self
           (λ v p low. elim [
             | inl x ↦ (x.0, omega (arith, x.1), x.2)
             | inr x ↦ (k, omega arith, x)
-          ])
-          (λ v p low x. elim (cases_eq x.0 k) [
+          ]) (λ v p low x. elim (cases_eq x.0 k) [
             | inl e ↦ inr (rw e at x.2)
             | inr e ↦ inl (x.0, omega (arith, x.1, e), x.2)
-          ])
-          both;
+          ]) both;
       done = c.note_qubit-done.ensures.done;
     }

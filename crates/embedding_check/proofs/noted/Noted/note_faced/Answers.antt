@@ -5,7 +5,6 @@ use Rattle.embedding_check.proofs.noted.Noted.note_faced.Goals as goal
 pub returns-then-is_same-clause-noted : goal.returns-then-is_same-clause-noted
 returns-then-is_same-clause-noted g c =
     let graph = c.args.hardware.now in
-    let joined = g.H.Hardware.joined graph in
     let owners = c.args.owners.now in
     let node = c.args.node in
     let a = c.args.a in
@@ -13,6 +12,5 @@ returns-then-is_same-clause-noted g c =
     let done : AreNotedFrom now owners node c.in-Some.least c.in-Some.faced =
     subst (λ (x : Option (ℕ × Span)). IfSome x (λ p. AreNotedFrom now owners node p.0 p.1)) c.in-Some.is c.requires.done in
     let same : c.in-Some.faced ≡ g.H.Hardware.facing graph a = c.if-is_same.ensures refl ∙ c.facing-span.ensures in
-    span_done joined owners node c.in-Some.least a (g.H.Hardware.facing graph a) now
-    (omega arith)
+    span_done _ owners node c.in-Some.least a (g.H.Hardware.facing graph a) now (omega arith)
     (subst (AreNotedFrom now owners node c.in-Some.least) same done)

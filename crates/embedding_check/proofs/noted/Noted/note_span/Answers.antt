@@ -6,50 +6,32 @@ use Rattle.embedding_check.proofs.noted.Noted.note_span.Goals as goal
 
 pub runs-preserved-then-all : goal.runs-preserved-then-all
 runs-preserved-then-all g c =
-    let joined = g.H.Hardware.joined c.args.hardware.now in
-    let owners = c.args.owners.now in
-    let node = c.args.node in
-    let a = c.args.a in
-    let span = c.args.span in
     let run = c.note_run-next in
     record {
       from = omega (arith, run.ensures.after);
-      noted = span_more joined owners node a span c.runs.b run.result.0 c.args.self.now c.runs.self
-          run.new.self c.runs.invariant.from run.ensures.after
-          (omega (arith, run.ensures.within))
+      noted = span_more _ _ _ _ _ c.runs.b run.result.0 c.args.self.now c.runs.self
+          run.new.self c.runs.invariant.from run.ensures.after (omega (arith, run.ensures.within))
           c.runs.invariant.noted run.ensures.noted;
-      done = λ yes. done_more (IsRunJoin joined owners node a c.runs.b run.result.0) owners node a span
+      done = λ yes. done_more (IsRunJoin _ _ _ _ c.runs.b run.result.0) _ _ _ _
           c.runs.b run.result.0 c.runs.self run.new.self run.ensures.noted
           (c.runs.invariant.done c.if-all.true) (run.ensures.all yes);
     }
 
 pub runs-preserved : goal.runs-preserved
 runs-preserved g c =
-    let joined = g.H.Hardware.joined c.args.hardware.now in
-    let owners = c.args.owners.now in
-    let node = c.args.node in
-    let a = c.args.a in
-    let span = c.args.span in
     let run = c.note_run-next in
     record {
       from = omega (arith, run.ensures.after);
-      noted = span_more joined owners node a span c.runs.b run.result.0 c.args.self.now c.runs.self
-          run.new.self c.runs.invariant.from run.ensures.after
-          (omega (arith, run.ensures.within))
+      noted = span_more _ _ _ _ _ c.runs.b run.result.0 c.args.self.now c.runs.self
+          run.new.self c.runs.invariant.from run.ensures.after (omega (arith, run.ensures.within))
           c.runs.invariant.noted run.ensures.noted;
       done = λ yes. absurd (not_both _ yes c.if-all.false);
     }
 
 pub returns-clause-noted : goal.returns-clause-noted
 returns-clause-noted g c =
-    let joined = g.H.Hardware.joined c.args.hardware.now in
-    let owners = c.args.owners.now in
-    let node = c.args.node in
-    let a = c.args.a in
-    let span = c.args.span in
-    notes_same (IsJoinBelow joined owners node a span c.runs.b) (IsSpanJoin joined owners node a span)
-    c.args.self.now c.runs.self
-    (λ v p low x. (x.0, x.1, x.3)) (λ v p low x. (
+    notes_same (IsJoinBelow _ _ _ _ _ c.runs.b) (IsSpanJoin _ _ _ _ _)
+    c.args.self.now c.runs.self (λ v p low x. (x.0, x.1, x.3)) (λ v p low x. (
       x.0,
       x.1,
       omega (arith, c.lesser-end.ensures.between x.0 x.1.below (omega (arith, x.2.below))),
@@ -61,7 +43,5 @@ returns-clause-all g c = λ yes b after.
     done_all c.args.owners.now c.args.node c.args.a c.args.span c.runs.b c.runs.self b after
     (λ x faced below. omega (
       arith,
-      c.lesser-end.ensures.between x faced.below
-          (omega (arith, below)),
-    ))
-    (c.runs.invariant.done yes)
+      c.lesser-end.ensures.between x faced.below (omega (arith, below)),
+    )) (c.runs.invariant.done yes)

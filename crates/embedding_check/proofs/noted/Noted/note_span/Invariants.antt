@@ -5,10 +5,8 @@ use Rattle.embedding_check.proofs.noted.Noted.note_span.Given as goal
 abbrev pub invariant-runs : goal.invariant-runs
 invariant-runs g l = record {
   from : l.fn.span.start ≤ l.b;
-  noted : Notes
-      (λ v p. (b : ℕ) × IsFaced l.fn.span b × (b < l.b)
-      × IsJoin (g.H.Hardware.joined l.hardware) l.owners l.node l.a b v p)
-      l.fn.self l.self;
+  noted : Notes (λ v p. (b : ℕ) × IsFaced l.fn.span b × (b < l.b)
+      × IsJoin (g.H.Hardware.joined l.hardware) l.owners l.node l.a b v p) l.fn.self l.self;
   done : l.all ≡ true
       → AreNotedTo l.self l.owners l.node l.a (λ c. IsFaced l.fn.span c × (c < l.b));
 }

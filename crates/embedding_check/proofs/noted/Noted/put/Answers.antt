@@ -1,4 +1,4 @@
-use Rattle.embedding_check.proofs.Common.{◌≡◌, ℕ, ◌<◌, List, length, map, get_or, set, sym, ap, subst, refl, ◌∙◌, arith, Option, Some, length-map, Mark, IsBefore, Notes, marked_pair}
+use Rattle.embedding_check.proofs.Common.{◌≡◌, ℕ, ◌<◌, length, get_or, sym, ap, refl, ◌∙◌, arith, length-map, Mark, marked_pair}
 use Rattle.embedding_check.proofs.Passing.{default_free}
 use Rattle.embedding_check.proofs.Noting.{no_mark, put_new, put_old}
 use Rattle.embedding_check.proofs.noted.Noted.put.Goals as goal
@@ -15,11 +15,7 @@ returns-then-is_lesser c =
     let found : c.index.result.now ≡ get_or marks node no_mark =
     c.index.ensures ∙ default_free marks node c.index.result.now no_mark below in
     let mark : Mark = record { turn = inside.turn; from = c.args.from; to = c.args.to } in
-    subst (λ (xs : List (Option (ℕ × ℕ))). Notes (λ v p. (v ≡ node) × (p ≡ pair)) xs
-    (map (marked_pair inside.turn) (set marks node mark)))
-    c.self.view_is
-    (put_new inside.turn marks node mark below refl
-    (subst (λ (m : Mark). (p : ℕ × ℕ) → marked_pair inside.turn m ≡ Some p → IsBefore pair p) found
+    rw (← c.self.view_is) (put_new inside.turn marks node mark below refl (rw (← found)
     (c.if-is_lesser.ensures.lesser refl)))
 
 pub returns-else-is_lesser : goal.returns-else-is_lesser
@@ -35,6 +31,5 @@ returns-else-is_lesser c =
     let found : mark ≡ get_or marks node no_mark =
     c.index.ensures ∙ default_free marks node mark no_mark below in
     let kept = c.if-is_lesser.ensures.kept refl in
-    subst (λ (xs : List (Option (ℕ × ℕ))). Notes (λ v p. (v ≡ node) × (p ≡ pair)) xs xs) c.self.view_is
-    (put_old inside.turn marks node pair (mark.from, mark.to) below
-    (subst (λ (m : Mark). marked_pair inside.turn m ≡ Some (mark.from, mark.to)) found kept.0) kept.1)
+    rw (← c.self.view_is) (put_old inside.turn marks node pair (mark.from, mark.to) below
+    (rw (← found) kept.0) kept.1)

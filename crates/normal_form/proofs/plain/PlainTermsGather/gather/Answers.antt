@@ -4,20 +4,16 @@ use Rattle.normal_form.proofs.plain.PlainTermsGather.gather.Goals as goal
 
 pub gather-requires : goal.gather-requires
 gather-requires g c =
-    let ls = c.args.literals.now in
-    let k = c.args.coefficient in
-    let back = to_z-of_z w128 k (search rules) in
-    room_as g.T.Gather.takes c.args.self.now.terms ls _ k _ refl back
-    (room-alone g.T.Gather.takes g.T.Gather.holds ls c.first_complement-place.result k (search rules)
+    let back = to_z-of_z w128 _ (search rules) in
+    room_as g.T.Gather.takes c.args.self.now.terms _ _ _ _ refl back
+    (room-alone g.T.Gather.takes g.T.Gather.holds _ c.first_complement-place.result _ (search rules)
     c.first_complement-place.ensures.before c.args.self.now.terms c.requires.0 (c.requires.1).0)
 
 pub returns-then-place-literals-clause-added : goal.returns-then-place-literals-clause-added
 returns-then-place-literals-clause-added g c t held =
-    let ls = c.args.literals.now in
-    let k = c.args.coefficient in
-    let back = to_z-of_z w128 k (search rules) in
+    let back = to_z-of_z w128 _ (search rules) in
     on_ok_weaker c.gather.result
-    (λ one. held-alone g.T.Gather.takes g.T.Gather.holds ls c.first_complement-place.result k (search rules)
+    (λ one. held-alone g.T.Gather.takes g.T.Gather.holds _ c.first_complement-place.result _ (search rules)
     c.first_complement-place.ensures.before _ _ one.held t held)
     (fills_if_ok g.T.Gather.takes g.T.Gather.holds _ _ _ _ _ _ _ refl back c.gather.ensures.added
     c.gather.ensures.takes)

@@ -20,9 +20,7 @@ returns c =
     let count = length-zip_with line_of fields.products fields.numbers.items c.self.invariant in
     let within : c.args.i < length fields.numbers.items =
     omega (arith, c.requires, ap length c.self.view_is, count) in
-    let here =
-    zip_with-at line_of fields.products fields.numbers.items c.args.i c.at.result c.index.result.now
-    c.at.ensures within c.index.ensures in
+    let here = zip_with-at _ _ _ _ _ _ c.at.ensures within c.index.ensures in
     let parts = c.literals.inside in
     let whole : to_z w128 (of_z w128 parts.coefficient) ≡ parts.coefficient = search rules in
     ap (λ (ls : List Line). slice_get ls c.args.i) (sym c.self.view_is) ∙ here

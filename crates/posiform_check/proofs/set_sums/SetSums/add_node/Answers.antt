@@ -17,5 +17,4 @@ returns c =
     search rules in
     let same = same_default ws i c.index.result.now (pos 0) within in
     omega (arith, ints, whole, c.in_ok-self-inside.ensures, now, added, c.index.ensures) in
-    sums_node parts.constant ws parts.pairs.items i c.args.coefficient _ c.args.self.now within
-    value c.self.view_is
+    sums_node _ _ _ _ _ _ _ within value c.self.view_is

@@ -9,5 +9,4 @@ returns c = λ t.
     let tested : list_all (λ w. int_eq w (pos 0)) parts.nodes.items ≡ true = search rules in
     let none : HasNone (map pair_term c.in_ok-pairs.pairs.items) =
     subst (λ xs. HasNone (map pair_term xs)) c.deref-2.ensures.value (c.pairs_cancel.ensures t) in
-    sums_cancel parts.constant parts.nodes.items parts.pairs.items c.in_ok-pairs.pairs.items
-    c.args.self nothing tested c.in_ok-pairs.ensures none c.self.view_is
+    sums_cancel _ _ _ _ _ nothing tested c.in_ok-pairs.ensures none c.self.view_is

@@ -3,5 +3,4 @@ use Rattle.posiform_check.proofs.set_sums.SetSums.new.Goals as goal
 
 pub returns : goal.returns
 returns c =
-    sums_none c.in_ok-vec.field-0.items c.new.result.items c.args.nodes
-    (c.in_ok-vec.ensures.items_if_clones_equal (λ y e. e)) c.new.ensures.items
+    sums_none _ _ _ (c.in_ok-vec.ensures.items_if_clones_equal (λ y e. e)) c.new.ensures.items

@@ -1,4 +1,4 @@
-use Rattle.run_steps.proofs.Common.{◌≡◌, ℕ, Global, Vec, Ok, Some, tokens_of, words_of, cutting, ends, text_end, Meets, Refuses, judged, ordered}
+use Rattle.run_steps.proofs.Common.{judged, Meets, cutting, Some, Ok, ◌≡◌, ℕ, Global, Vec, tokens_of, words_of, ends, text_end, ordered}
 use Rattle.whole_text.specs.declared.token.Style.TheVariants.{Plain}
 use Rattle.command_words.specs.declared.names.Which.TheVariants.{Order}
 use Rattle.elimination_order.specs.Orders.{order_of}
@@ -13,13 +13,10 @@ returns-in_err-text-clause-took g c =
     let took = c.in_err-text.ensures.took in
     let name = c.args.name.now in
     let status = c.in_err-text.field-0.0 in
-    rw (returned c.from_residual.ensures.1)
-    (record {
-      step = told_then (g.F.Files.held c.args.files.now)
-          (λ h. Refuses status (cutting h Order name Plain))
-          (λ h. Refuses status (ordered h name c.args.nodes))
-          (λ h. cut_refuses status h Order name Plain
-          (λ bytes. ends (text_end Order (order_of c.args.nodes (tokens_of Plain bytes))))) took.step;
+    rw (returned c.from_residual.ensures.1) (record {
+      step = told_then _ _ _ (λ h. cut_refuses status h Order name Plain
+          (λ bytes. ends (text_end Order (order_of c.args.nodes (tokens_of Plain bytes)))))
+          took.step;
       held = took.held;
       passed = tt;
       refused = took.refused;

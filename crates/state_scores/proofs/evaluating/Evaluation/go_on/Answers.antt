@@ -24,8 +24,7 @@ returns-then-len-eq0-clause-filled g c =
     let so_far = c.loop-batch.invariant.1 in
     let taken = c.in_ok-read.ensures.taken in
     let j = g.J.Judge.judgement c.args.judge.now in
-    let ended = none_left c.loop-batch.states.states c.read.new.states.states c.read.new.self.lines.items
-    c.read.new.self.states taken.front taken.numbered (search rules) taken.all in
+    let ended = none_left _ _ _ _ taken.front taken.numbered (search rules) taken.all in
     let all = sym (so_far.split ∙ ap (λ (l : List StateLine). done ++ l) ended ∙ append-nil done) in
     subst (λ (states : List StateLine). IsEvaluationOf j states (standing c.loop-batch.self)) all
     (standing_of_all j done (standing c.loop-batch.self) so_far.judged)
@@ -35,14 +34,12 @@ take_all-requires-clause-lines g c =
     let taken = c.in_ok-read.ensures.taken in
     subst (λ (l : List StateLine). All (λ s. s.0 < 2 ^ 32) l)
     (λ k. zip (sym c.judge.ensures.lines k) (sym c.judge.ensures.states k))
-    (low_taken c.loop-batch.states.states (zip c.read.new.self.lines.items c.read.new.self.states)
-    c.read.new.states.states taken.front c.loop-batch.invariant.1.lines)
+    (low_taken _ _ _ taken.front c.loop-batch.invariant.1.lines)
 
 pub loop-batch-smaller : goal.loop-batch-smaller
 loop-batch-smaller g c =
     let taken = c.in_ok-read.ensures.taken in
-    fewer_left c.loop-batch.states.states c.read.new.states.states c.read.new.self.lines.items
-    c.read.new.self.states taken.front taken.numbered (search rules)
+    fewer_left _ _ _ _ taken.front taken.numbered (search rules)
 
 pub loop-batch-preserved : goal.loop-batch-preserved
 loop-batch-preserved g c =

@@ -25,5 +25,4 @@ pub returns-clause-taken : goal.returns-clause-taken
 returns-clause-taken g c =
     c.loop-place.invariant.taken
     ∙ ap (after_states (g.J.Judge.judgement c.args.judge.now) (standing c.args.self.now))
-    (all_taken c.args.batch.now.lines.items c.args.batch.now.states c.loop-place.place c.requires.numbered
-    (search rules))
+    (all_taken _ _ _ c.requires.numbered (search rules))

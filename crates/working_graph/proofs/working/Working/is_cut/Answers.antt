@@ -9,9 +9,7 @@ returns c =
     let a = c.args.a in
     let b = c.args.b in
     let number : c.pair_number.result ≡ pair_number (min a b) (max a b) = search rules in
-    c.has_number.ensures
-    ∙ ap (λ k. list_any (λ n. n == k) c.deref.result.now) number
+    c.has_number.ensures ∙ ap (λ k. list_any (λ n. n == k) c.deref.result.now) number
     ∙ ap (λ (ns : List ℕ). list_any (λ n. n == pair_number (min a b) (max a b)) ns)
-    c.deref.ensures.value
-    ∙ c.self.invariant.cut a b (omega arith) (omega arith)
+    c.deref.ensures.value ∙ c.self.invariant.cut a b (omega arith) (omega arith)
     ∙ ap (λ (w : WorkingGraph). is_cut w a b) c.self.view_is

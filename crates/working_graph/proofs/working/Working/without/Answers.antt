@@ -6,8 +6,7 @@ pub invariant_of-result : goal.invariant_of-result
 invariant_of-result c =
     let numbers : c.in_ok-numbers.numbers.items ≡ numbers_of c.args.parts.items = search rules in
     record {
-      dead = λ q.
-          c.in_ok-dead.ensures q
+      dead = λ q. c.in_ok-dead.ensures q
           ∙ ap (λ (parts : List DeadPart). list_any (is_qubit q) parts) c.deref.ensures.value;
       cut = any_moved c.args.graph c.args.parts.items c.in_ok-numbers.numbers.items
           c.in_ok-cut.cut.items c.requires numbers c.in_ok-cut.ensures.same;
