@@ -67,7 +67,7 @@ waiting-front w (x ∷ waiting) ts p = (p.0, waiting-front (suc w) waiting ts p.
 
 -- ---- a table that is passed
 
-all_push : {X : Type 0} (P : X → Type 0) (xs : List X) (x : X) → AllByRecursion P xs → P x
+pub all_push : {X : Type 0} (P : X → Type 0) (xs : List X) (x : X) → AllByRecursion P xs → P x
     → AllByRecursion P (xs ++ x ∷ [])
 all_push P [] x a p = (p, tt)
 all_push P (y ∷ ys) x a p = (a.0, all_push P ys x a.1 p)
@@ -93,26 +93,6 @@ waiting_energy-push y zero (ts ∷ waiting) t h =
 waiting_energy-push y (suc q) (ts ∷ waiting) t h =
     omega (arith, ints, waiting_energy-push y q waiting t (omega arith))
 
--- an entry that is put to its node
-pub held-push : (w q : ℕ) (held : List (List Entry)) (e : Entry) → q < length held → AreHeld w held
-    → e.first ≤ w + q → e.second ≡ w + q
-    → AreHeld w (set held q (get_or held q [] ++ e ∷ []))
-held-push w q [] e h p f s = absurd (omega arith)
-held-push w zero (es ∷ held) e h p f s =
-    (all_push (λ e. (e.first ≤ w) × (e.second ≡ w)) es e p.0 (omega arith, omega arith), p.1)
-held-push w (suc q) (es ∷ held) e h p f s =
-    (p.0, held-push (suc w) q held e (omega arith) p.1 (omega arith) (omega arith))
-
-pub held_energy-push : (kind : Kind) (y : List Bool) (q : ℕ) (held : List (List Entry)) (e : Entry)
-    → q < length held
-    → held_energy kind y (set held q (get_or held q [] ++ e ∷ []))
-    ≡ held_energy kind y held +ℤ entry_energy kind y e
-held_energy-push kind y q [] e h = absurd (omega arith)
-held_energy-push kind y zero (es ∷ held) e h =
-    omega (arith, ints, total_by_push (entry_energy kind y) es e)
-held_energy-push kind y (suc q) (es ∷ held) e h =
-    omega (arith, ints, held_energy-push kind y q held e (omega arith))
-
 -- ---- at first
 
 pub none_wait : (w n : ℕ) → AreWaiting w (replicate n [])
@@ -122,15 +102,6 @@ none_wait w (suc n) = (tt, none_wait (suc w) n)
 pub waiting_energy-none : (y : List Bool) (n : ℕ) → waiting_energy y (replicate n []) ≡ pos 0
 waiting_energy-none y zero = refl
 waiting_energy-none y (suc n) = omega (arith, ints, waiting_energy-none y n)
-
-pub none_hold : (w n : ℕ) → AreHeld w (replicate n [])
-none_hold w zero = tt
-none_hold w (suc n) = (tt, none_hold (suc w) n)
-
-pub held_energy-none : (kind : Kind) (y : List Bool) (n : ℕ)
-    → held_energy kind y (replicate n []) ≡ pos 0
-held_energy-none kind y zero = refl
-held_energy-none kind y (suc n) = omega (arith, ints, held_energy-none kind y n)
 
 -- ---- one node
 

@@ -1,5 +1,5 @@
 -- Sums over lists, and over lists of lists.
-use Rattle.basic_solve.proofs.Common.{nat_tests, ints, ◌≡◌, ℤ, ◌+ℤ◌, ℕ, zero, suc, ◌+◌, ◌<◌, ◌≤◌, Bool, true, cond, List, [], ◌∷◌, ◌++◌, length, get_or, set, drop, replicate, refl, arith, ap, ◌∙◌, add-one, drop-cons, sum_by, list_any, sum_by-cons, total_by}
+use Rattle.basic_solve.proofs.Common.{nat_tests, ints, ◌≡◌, ℤ, ◌+ℤ◌, ℕ, zero, suc, ◌+◌, ◌<◌, ◌≤◌, Bool, true, cond, List, [], ◌∷◌, ◌++◌, length, get_or, set, drop, replicate, refl, arith, add-one, drop-cons, sum_by, list_any, sum_by-cons, total_by}
 
 -- one item more
 pub sum-push : {X : Type 0} (f : X → ℕ) (xs : List X) (x : X)
@@ -18,10 +18,6 @@ sum-at f (x ∷ xs) (suc k) d h = omega (arith, sum_by-cons f x xs, sum-at f xs 
 pub sum_left : {X : Type 0} (f : X → ℕ) (xs : List X) (at : ℕ) (d : X) → at < length xs
     → sum_by f (drop at xs) ≡ f (get_or xs at d) + sum_by f (drop (at + 1) xs)
 sum_left f xs at d h = grind (arith, nat_tests, drop-cons, sum_by-cons, add-one)
-
-pub sum_parts : {X : Type 0} (left rest : List X) (x : X) → left ≡ x ∷ rest → (f : X → ℕ)
-    → sum_by f left ≡ f x + sum_by f rest
-sum_parts left rest x parts f = ap (sum_by f) parts ∙ sum_by-cons f x rest
 
 pub total_left : {X : Type 0} (f : X → ℤ) (xs : List X) (at : ℕ) (d : X) → at < length xs
     → total_by f (drop at xs) ≡ f (get_or xs at d) +ℤ total_by f (drop (at + 1) xs)

@@ -10,13 +10,14 @@ ghost use Rattle.basic_solve.specs.Tables.{sum_where, step_at, AreChoices, AreEn
 ghost use Rattle.basic_solve.specs.Widths.{AreNeighbourhoods};
 
 use crate::buckets::Buckets;
-use crate::energies::{base, entries_of_nodes, step_of};
+use crate::columns::{Columns, ColumnsLeft};
+use crate::energies::{base, step_of};
 use crate::numbers::Number;
 use crate::passed::{Places, Table, add_table, pass_table, taken_values};
 use crate::steps::add_for;
 use crate::tables::{take_lesser, write_choices, write_doubled};
 use base::Lists;
-use bits_model::{ChainList, Entry, Kind, NoMemory, OutputModel};
+use bits_model::{ChainList, Entry, Kind, NoMemory};
 use std::alloc::Global;
 use std::mem;
 
@@ -173,9 +174,9 @@ impl<'a, T: Number> Scratch<'a, T> {
 fn choose_all<'a, T: Number>(
     alloc: Global,
     scratch: &mut Scratch<'a, T>,
-    model: &OutputModel,
+    model: &Columns,
     sets: &'a ChainList,
-    held: &mut Buckets<Entry>,
+    held: &mut ColumnsLeft<'_>,
     waiting: &mut Buckets<Table<'a, T>>,
     choices: &mut Lists<u8>,
 ) -> Result<(), NoMemory>
@@ -191,7 +192,7 @@ fn choose_all<'a, T: Number>(
     for step in 0..nodes {
         let set = sets.list(step);
         let node = nodes - 1 - step;
-        scratch.entries = held.take_last();
+        held.take_last(&mut scratch.entries)?;
         scratch.tables = waiting.take_last();
         settle(
             &mut scratch.room,
@@ -215,7 +216,7 @@ fn choose_all<'a, T: Number>(
 /// The bits that each node chooses, from the last node to node 0.
 pub(crate) fn all_choices<T: Number>(
     alloc: Global,
-    model: &OutputModel,
+    model: &Columns,
     sets: &ChainList,
 ) -> Result<Lists<u8>, NoMemory>
     requires sets { AreNeighbourhoods 16 model.now sets.now }
@@ -224,8 +225,8 @@ pub(crate) fn all_choices<T: Number>(
         sets.now (map all_bits choices)) }
 {
     let nodes = model.nodes as usize;
-    let mut held = entries_of_nodes(alloc, nodes, &model.entries)?;
-    let mut waiting: Buckets<Table<'_, T>> = Buckets::empty(alloc, nodes, 1)?;
+    let mut held = model.left();
+    let mut waiting: Buckets<Table<'_, T>> = Buckets::empty(alloc, nodes)?;
     let mut scratch = Scratch::empty(alloc);
     let mut choices = Lists::empty(alloc);
     choose_all(

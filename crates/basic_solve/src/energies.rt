@@ -1,12 +1,11 @@
 //! What the entries of a node add to the energy, for each of its bits.
-ghost use Rattle.std.specs.Prelude.{◌≡◌, ◌<◌, ◌≤◌, ◌^◌, ℕ, true, All, IfOk, unsigned_abs};
+ghost use Rattle.std.specs.Prelude.{◌≡◌, ◌<◌, ◌≤◌, ◌^◌, true, unsigned_abs};
 ghost use Rattle.base.specs.Sums.{total_by};
-ghost use Rattle.bits_model.specs.Output.{IsPlaced, weight_total};
-ghost use Rattle.basic_solve.specs.Tables.{base_of, step_of, AreEntriesOf};
+ghost use Rattle.bits_model.specs.Output.{weight_total};
+ghost use Rattle.basic_solve.specs.Tables.{base_of, step_of};
 
-use crate::buckets::Buckets;
-use bits_model::{Entry, EntryList, Kind, NoMemory, times_spin};
-use std::alloc::Global;
+use crate::columns::Columns;
+use bits_model::{Entry, Kind, times_spin};
 
 /// What an entry of a node adds where the node has this bit, and the other node has 0.
 fn base_of(kind: Kind, bit: bool, entry: &Entry) -> i128
@@ -51,39 +50,14 @@ pub(crate) fn base(kind: Kind, bit: bool, entries: &[Entry]) -> i128
     sum
 }
 
-/// Room for the entries of most nodes: its own, and one coupler where there are many.
-fn usual_room(nodes: usize, entries: &EntryList) -> usize {
-    if entries.counts().couplers >= nodes / 2 {
-        2
-    } else {
-        1
-    }
-}
-
-/// The entries of each node: those of which it is the second one.
-pub(crate) fn entries_of_nodes(
-    alloc: Global,
-    nodes: usize,
-    entries: &EntryList,
-) -> Result<Buckets<Entry>, NoMemory>
-    requires { All (IsPlaced nodes) entries.now }
-    ensures { IfOk result (λ held. AreEntriesOf nodes entries.now held) }
-{
-    let mut held = Buckets::empty(alloc, nodes, usual_room(nodes, entries))?;
-    for entry in entries.iter() {
-        held.push(entry.second as usize, entry)?;
-    }
-    Ok(held)
-}
-
-/// Whether the sizes of all weights are below 2^60 together.
-pub(crate) fn is_small(entries: &EntryList) -> bool
-    requires { weight_total entries.now ≤ 2 ^ 124 }
-    ensures { result ≡ true → weight_total entries.now < 2 ^ 60 }
+/// Whether the sizes of all weights are below 2^60 together. They are at most 2^124.
+pub(crate) fn is_small(model: &Columns) -> bool
+    ensures small { result ≡ true → weight_total model.now.entries < 2 ^ 60 }
+    ensures light { weight_total model.now.entries ≤ 2 ^ 124 }
 {
     let mut sum: u128 = 0;
-    for entry in entries.iter() {
-        sum += entry.weight.unsigned_abs();
+    for i in 0..model.pairs.len() {
+        sum += model.pairs.at(i).weight.unsigned_abs();
     }
     sum < 1 << 60
 }

@@ -8,15 +8,16 @@ ghost use Rattle.basic_solve.specs.FirstLeast.{IsFirstLeast};
 ghost use Rattle.basic_solve.specs.Tables.{AreChoices};
 
 use crate::bits::bit;
+use crate::columns::Columns;
 use crate::tables::index_of;
 use base::Lists;
-use bits_model::{ChainList, NoMemory, OutputModel};
+use bits_model::{ChainList, NoMemory};
 use std::alloc::Global;
 
 /// The state in which each node has the bit that it chooses for the bits of the nodes before it.
 pub(crate) fn chosen_state(
     alloc: Global,
-    model: &OutputModel,
+    model: &Columns,
     sets: &ChainList,
     choices: &Lists<u8>,
 ) -> Result<Vec<bool>, NoMemory>

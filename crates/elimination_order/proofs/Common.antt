@@ -3,15 +3,12 @@ pub use Rattle.std.proofs.Common.{◌≡◌, ◌≢◌, ℕ, ◌<◌, ◌≤◌,
 pub use Rattle.std.specs.Prelude.{⊤, IsTrue, Result, count_by, ◌↔◌}
 pub use Rattle.std.specs.List.{AllByRecursion, list_any, range_with_len}
 unfoldable pub use Rattle.std.specs.List.{IsDistinct}
-pub use Rattle.std.specs.List.Sorted.{IsPermutation, IsNonDecreasingBy}
-unfoldable pub use Rattle.std.specs.List.Sorted.{IsStrictlySortedBy}
+pub use Rattle.std.specs.List.Sorted.{IsPermutation}
 pub use Rattle.std.specs.Ordering.{bool_cmp}
 pub use Rattle.std.specs.Cmp.{nat_eq_equiv}
 pub use Rattle.bits_model.specs.declared.output.Entry.{Entry}
 pub use Rattle.bits_model.specs.Output.{IsPlaced, entry_cmp, is_coupler, Written, IsWellFormed, bit_at, entry_energy, form_of, is_node, times_spin, FitsKind, IsPlain, has_node, is_chained, weight_total}
-pub use Rattle.bits_model.specs.PairNumbers.{pair_number}
-pub use Rattle.pair_sums.proofs.PairOrder.{ArePairs, Before, Rises, ordered_from_rising}
-pub use Rattle.elimination_order.specs.Renumbered.{AreNumbers, at_place, renumbered, IsRenumbered, IsFirstLeastBy, bits_by, AreChainsOf, FitChains, lone_chains}
+pub use Rattle.elimination_order.specs.Renumbered.{AreNumbers, at_place, renumbered, IsRenumbered, IsFirstLeastBy, bits_by}
 pub use Rattle.whole_text.proofs.LineTokens.{all_append}
 pub use Rattle.std.proofs.lemmas.Bool.{or_parts, cases_lt, cases_eq, eq-eqb, eqb-true, false_from_ne_true, false≢true}
 pub use Rattle.std.proofs.lemmas.List.{get_or_default, length-map, get_or-map, ext_get_or, map-append, length-reverse, take_more, get_or-reverse}
@@ -36,7 +33,6 @@ unfoldable pub use Rattle.elimination_order.specs.Orders.{nodes_at}
 pub use Rattle.std.proofs.lemmas.Map.Keys.{IsDistinct-head, IsDistinct-tail, IsDistinct-push, IsDistinct-from_apart, IsDistinct-IsPermutation, IsDistinct-cons, apart_from_distinct}
 pub use Rattle.std.proofs.lemmas.Map.Steps.{length-le_from_distinct_below}
 pub use Rattle.std.proofs.lemmas.List.FromFn.{fill_by_all, length-range_with_len, get_or-range_with_len}
-pub use Rattle.bits_model.specs.Entries.{listed_entries}
 pub use Rattle.basic_solve.specs.Widths.{IsFirstWider, IsWithinWidth, after, coupled, names_both, width, without}
 pub use Rattle.std.proofs.lemmas.Int.{ints}
 pub use Rattle.whole_text.specs.TokenTexts.{words_of, word_of}

@@ -3,12 +3,8 @@ pub mod Named
 pub mod Carried
 pub mod NodesOnce
 pub mod Numbered
-pub mod Weighed
 pub mod Shuffled
 pub mod Widths
 pub mod Kept
-pub mod Apart
-pub mod Rising
 pub mod FirstWide
 pub mod Usual
-pub mod Formed

@@ -1,5 +1,5 @@
 -- New numbers for the nodes of a model: elimination from the last of them to 0 follows an order.
-use Rattle.std.specs.Prelude.{◌≡◌, ◌≢◌, ℕ, ◌<◌, min, max, Bool, List, [], ◌∷◌, All, map, length}
+use Rattle.std.specs.Prelude.{◌≡◌, ◌≢◌, ℕ, ◌<◌, min, max, Bool, List, map, length}
 use Rattle.std.specs.List.{slice_index_or}
 use Rattle.std.specs.List.Sorted.{IsPermutation}
 use Rattle.std.specs.Ordering.{bool_cmp}
@@ -8,9 +8,7 @@ use Rattle.std.specs.declared.cmp.Ordering.TheVariants.{Greater}
 use Rattle.base.specs.Costs.{Form}
 use Rattle.form_steps.specs.Least.{IsLeastState}
 use Rattle.bits_model.specs.declared.output.Entry.{Entry}
-use Rattle.bits_model.specs.declared.output.Kind.{Kind}
-use Rattle.bits_model.specs.declared.output.Kind.TheVariants.{Qubo, Ising, Chimera}
-use Rattle.bits_model.specs.Output.{Written, bit_at, has_node, is_chained}
+use Rattle.bits_model.specs.Output.{Written, bit_at}
 
 -- the number at a place of a list
 abbrev pub at_place : List ℕ → ℕ → ℕ
@@ -38,21 +36,6 @@ pub record IsRenumbered (numbers : List ℕ) (m r : Written) : Type 0 where
   pub kind : r.kind ≡ m.kind
   pub nodes : r.nodes ≡ m.nodes
   pub entries : IsPermutation (map (renumbered numbers) m.entries) r.entries
-
--- chains of exactly the nodes that have entries
-pub record AreChainsOf (entries : List Entry) (chains : List (List ℕ)) : Type 0 where
-  pub filled : All (λ chain. chain ≢ []) chains
-  pub listed : (q : ℕ) → has_node entries q ≡ is_chained chains q
-
--- what each kind of model asks of its chains: none, or those of exactly the nodes with entries
-abbrev pub FitChains : Kind → List Entry → List (List ℕ) → Type 0
-FitChains Qubo entries chains = chains ≡ []
-FitChains Ising entries chains = chains ≡ []
-FitChains (Chimera rows cols shore) entries chains = AreChainsOf entries chains
-
--- each node of these entries as a chain by itself
-abbrev pub lone_chains : List Entry → List (List ℕ)
-lone_chains entries = map (λ e. e.first ∷ []) entries
 
 -- the bits that a state has at these nodes, one after another
 abbrev pub bits_by : List ℕ → List Bool → List Bool

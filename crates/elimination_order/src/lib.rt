@@ -7,15 +7,12 @@
 #![tactic(auto)]
 
 mod laws;
-mod models;
 mod numbering;
 mod reading;
 mod renumbering;
 mod solving;
 
 pub use laws::{laws_of_numbers, laws_of_orders};
-pub use models::model_by;
 pub use numbering::{Numbering, taken_back};
 pub use reading::read_order;
-pub use renumbering::entries_by;
 pub use solving::solve_by;

@@ -1,14 +1,13 @@
-//! The entries of a model by new numbers of its nodes, in order again.
-ghost use Rattle.std.specs.Prelude.{◌≡◌, ◌≤◌, ◌^◌, All, IfOk, length, map};
-ghost use Rattle.std.specs.List.Sorted.{IsPermutation, IsNonDecreasingBy, IsStrictlySortedBy};
-ghost use Rattle.bits_model.specs.Output.{IsPlaced, entry_cmp};
-ghost use Rattle.bits_model.specs.PairNumbers.{pair_number};
-ghost use Rattle.elimination_order.specs.Renumbered.{AreNumbers, at_place, renumbered};
+//! The entries of a model by new numbers of its nodes, in columns.
+ghost use Rattle.std.specs.Prelude.{◌≡◌, IfOk, map};
+ghost use Rattle.basic_solve.specs.Columns.{turned};
+ghost use Rattle.elimination_order.specs.Renumbered.{AreNumbers, IsRenumbered, at_place, renumbered};
 
 use crate::numbering::Numbering;
 use base::NoMemory;
-use bits_model::{CouplerList, Entry, EntryList, NodeWeights};
-use pair_sums::{Pairs, in_order};
+use basic_solve::{Columns, turned};
+use bits_model::{Entry, EntryList, OutputModel};
+use pair_sums::Pairs;
 use std::alloc::Global;
 
 /// The number of a node, and 0 past the end.
@@ -36,66 +35,30 @@ fn renumbered(numbers: &[u32], entry: Entry) -> Entry
     }
 }
 
-/// Couplers by new numbers, in order.
-fn couplers_by(
+/// Entries by new numbers, turned.
+fn pairs_by(alloc: Global, entries: &EntryList, numbers: &[u32]) -> Result<Pairs, NoMemory>
+    ensures { IfOk result (λ pairs.
+        pairs ≡ map (λ e. turned (renumbered numbers.now e)) entries.now) }
+{
+    let counts = entries.counts();
+    let room = counts.nodes.saturating_add(counts.couplers);
+    let mut pairs = Pairs::with_room(alloc, numbers.len(), room)?;
+    for entry in entries.iter() {
+        pairs.push(turned(renumbered(numbers, entry)))?;
+    }
+    Ok(pairs)
+}
+
+/// The columns of a model by new numbers of its nodes.
+pub(crate) fn columns_by(
     alloc: Global,
-    couplers: &CouplerList,
-    numbers: &[u32],
-) -> Result<CouplerList, NoMemory>
-    ensures same { IfOk result (IsPermutation (map (renumbered numbers.now) couplers.now)) }
-    ensures ordered { IfOk result (IsNonDecreasingBy pair_number) }
-{
-    let mut pairs = Pairs::with_room(alloc, numbers.len(), couplers.len())?;
-    for entry in couplers.iter() {
-        pairs.push(renumbered(numbers, entry))?;
-    }
-    in_order(alloc, pairs)
-}
-
-/// The entries of nodes by new numbers, in order.
-fn nodes_by(alloc: Global, nodes: &NodeWeights, numbers: &[u32]) -> Result<CouplerList, NoMemory>
-    ensures same { IfOk result (IsPermutation (map (renumbered numbers.now) nodes.now)) }
-    ensures ordered { IfOk result (IsNonDecreasingBy pair_number) }
-    ensures nodes { IfOk result (All (λ e. e.first ≡ e.second)) }
-{
-    let mut pairs = Pairs::with_room(alloc, numbers.len(), nodes.len())?;
-    for entry in nodes.iter() {
-        pairs.push(renumbered(numbers, entry))?;
-    }
-    in_order(alloc, pairs)
-}
-
-/// Entries of nodes as the weights of these.
-fn weights_of(alloc: Global, list: &CouplerList) -> Result<NodeWeights, NoMemory>
-    requires { All (λ e. e.first ≡ e.second) list.now }
-    ensures { IfOk result (λ weights. weights ≡ list.now) }
-{
-    let mut nodes = Vec::with_capacity(alloc, list.len())?;
-    let mut weights = Vec::with_capacity(alloc, list.len())?;
-    for entry in list.iter() {
-        nodes.push(entry.first)?;
-        weights.push(entry.weight)?;
-    }
-    Ok(NodeWeights::listed(nodes, weights))
-}
-
-/// All entries by new numbers, those of nodes in order, and then couplers in order.
-pub fn entries_by(
-    alloc: Global,
-    entries: &EntryList,
+    model: &OutputModel,
     numbering: &Numbering,
-) -> Result<EntryList, NoMemory>
-    requires numbers { AreNumbers (length numbering.now.numbers.items)
+) -> Result<Columns, NoMemory>
+    requires { AreNumbers model.now.nodes
         numbering.now.names.items numbering.now.numbers.items }
-    requires placed { All (IsPlaced (length numbering.now.numbers.items)) entries.now }
-    ensures same { IfOk result (IsPermutation
-        (map (renumbered numbering.now.numbers.items) entries.now)) }
-    ensures placed { IfOk result (All (IsPlaced (length numbering.now.numbers.items))) }
-    ensures ordered { length numbering.now.numbers.items ≤ 2 ^ 32
-        → IsStrictlySortedBy entry_cmp entries.now → IfOk result (IsStrictlySortedBy entry_cmp) }
+    ensures { IfOk result (IsRenumbered numbering.now.numbers.items model.now) }
 {
-    let sorted = nodes_by(alloc, &entries.nodes, &numbering.numbers)?;
-    let nodes = weights_of(alloc, &sorted)?;
-    let couplers = couplers_by(alloc, &entries.couplers, &numbering.numbers)?;
-    Ok(EntryList { nodes, couplers })
+    let pairs = pairs_by(alloc, &model.entries, &numbering.numbers)?;
+    Columns::new(model.kind, model.nodes, pairs)
 }

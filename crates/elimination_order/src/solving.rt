@@ -6,13 +6,13 @@ ghost use Rattle.elimination_order.specs.Orders.{AreNodes};
 ghost use Rattle.elimination_order.specs.Renumbered.{AreNumbers, IsFirstLeastBy, at_place, bits_by};
 ghost use Rattle.elimination_order.specs.Widths.{first_wide};
 
-use crate::models::model_by;
 use crate::numbering::{Numbering, taken_back};
-use basic_solve::{SolveAnswer, solve};
+use crate::renumbering::columns_by;
+use basic_solve::{SolveAnswer, solve_columns};
 use bits_model::OutputModel;
 use std::alloc::Global;
 
-/// The first least state by new numbers. The model by these is let go as soon as the state stands.
+/// The first least state by new numbers. The columns by these are let go as soon as the state stands.
 fn state_by(
     alloc: Global,
     model: &OutputModel,
@@ -31,8 +31,8 @@ fn state_by(
         → v < length numbering.now.names.items }
 {
     let _nodes = model.nodes;
-    let renumbered = model_by(alloc, model, numbering)?;
-    solve(alloc, &renumbered)
+    let columns = columns_by(alloc, model, numbering)?;
+    solve_columns(alloc, &columns)
 }
 
 /// The first least state, and the node that is too wide, by the nodes' own numbers again.

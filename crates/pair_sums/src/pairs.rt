@@ -310,6 +310,15 @@ impl Pairs {
         Ok(Pairs { alloc, held })
     }
 
+    /// The same couplers in the order of their pairs, each by itself. It is fast where, among those
+    /// of one first node, the second ones nearly ascend.
+    pub fn in_order(self) -> Result<Pairs, NoMemory>
+        ensures same { IfOk result (IsPermutation self) }
+        ensures ordered { IfOk result (IsNonDecreasingBy pair_number) }
+    {
+        self.sorted(Arrival::Nearly)
+    }
+
     /// The couplers in order, one for each pair whose sum is not 0.
     pub fn summed(self) -> Result<CouplerList, NoMemory>
         requires pairs { All (IsPair (2 ^ 32)) self }

@@ -17,14 +17,14 @@ node : (g : Over) (c : After-deref-in-loop-step g)
     (c.model.inside.nodes - 1 - c.loop-step.step)
 node g c =
     next_node _ _ c.requires.sets _ _ _ _ c.loop-step.invariant _ _ _ _
-    (c.take_last.ensures
+    (c.in_ok-take_last.ensures
     ∙ ap (λ es. c.take_last.new.self ++ es ∷ []) (sym c.deref.ensures.value))
     (c.take_last-in-loop-step.ensures
     ∙ ap (λ ts. c.take_last-in-loop-step.new.self ++ ts ∷ []) (sym c.deref-in-loop-step.ensures.value))
     _ c.list-set.ensures.listed _
     (omega (arith, ap (λ w. w.nodes) c.model.view_is, c.loop-step-test.true))
     _ (ap (λ w. w.kind) c.model.view_is)
-    (subst (λ w. All (IsPlaced w.nodes) w.entries) c.model.view_is c.model.invariant.0.placed)
+    (subst (λ w. All (IsPlaced w.nodes) w.entries) c.model.view_is c.model.invariant.placed)
 
 pub settle-requires-clause-own : goal.settle-requires-clause-own
 settle-requires-clause-own g c =
@@ -45,7 +45,7 @@ settle-requires-clause-few g c =
 pub settle-requires-clause-light : goal.settle-requires-clause-light
 settle-requires-clause-light g c =
     let small = (node g (goal.at.settle-requires-clause-light g c).After-deref-in-loop-step).small in
-    omega (arith, small, c.model.invariant.1, ap (λ w. weight_total w.entries) c.model.view_is)
+    omega (arith, small, c.model.invariant.light, ap (λ w. weight_total w.entries) c.model.view_is)
 
 pub settle-requires-clause-small : goal.settle-requires-clause-small
 settle-requires-clause-small g c =

@@ -16,5 +16,5 @@ returns-clause-wide c = λ v w is.
     let names = c.args.numbering.now.names.items in
     let numbers = c.args.numbering.now.numbers.items in
     let formed = subst IsWellFormed c.model.view_is c.model.invariant.0 in
-    first_wider-named names numbers c.args.model.now c.in_ok-renumbered.renumbered formed c.requires
-    c.in_ok-renumbered.ensures 16 v w (c.solve.ensures.wide v w is)
+    first_wider-named names numbers c.args.model.now c.in_ok-columns.columns formed c.requires
+    c.in_ok-columns.ensures 16 v w (c.solve_columns.ensures.wide v w is)
