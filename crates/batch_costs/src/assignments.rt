@@ -35,7 +35,7 @@ fn put_bits(words: &mut [u64], place: usize, x: &[bool])
 /// are the values that the assignments give it.
 #[derive(Drop)]
 pub struct Assignments {
-    words: Vec<u64>,
+    pub(crate) words: Vec<u64>,
 }
 
 impl Model for Assignments {

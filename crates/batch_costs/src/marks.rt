@@ -21,7 +21,8 @@ pub(crate) fn with_bit(word: u64, place: usize, bit: bool) -> u64
 }
 
 /// The word of a variable. No assignment is marked past the last one.
-fn word_of(words: &[u64], variable: u64) -> u64
+#[inline]
+pub(crate) fn word_of(words: &[u64], variable: u64) -> u64
     ensures { result ≡ slice_index_or words.now variable 0 }
 {
     match words.get(variable as usize) {

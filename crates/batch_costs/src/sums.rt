@@ -9,7 +9,8 @@ use crate::marks::marks_of_all;
 use problem_form::{ProductRef, Products};
 
 /// Adds a number to the sums of the assignments that are marked.
-fn add_marked(sums: &mut [i128], marks: u64, number: i128)
+#[inline]
+pub(crate) fn add_marked(sums: &mut [i128], marks: u64, number: i128)
     requires places { length sums.old ≡ 64 }
     requires small { (k : ℕ) → k < 64
         → unsigned_abs (slice_index_or sums.old k (pos 0)) + unsigned_abs number < 2 ^ 126 }
@@ -20,7 +21,7 @@ fn add_marked(sums: &mut [i128], marks: u64, number: i128)
     while rest != 0 {
         let place = rest.trailing_zeros() as usize;
         sums[place] += number;
-        rest &= !(1 << place);
+        rest &= rest - 1;
     }
 }
 

@@ -1,7 +1,9 @@
 -- What is answered once the model of a plan is made, in terms of the problem that was read.
-use Rattle.std.specs.Prelude.{◌≡◌, ◌<◌, ◌^◌, ℕ, Bool, List, length, Ok, Option, Some, None, Contains, ⊤}
+use Rattle.std.specs.Prelude.{◌≡◌, ◌<◌, ◌^◌, ℕ, ℤ, pos, Bool, List, [], length, Ok, Option, Some, None, Contains, ⊤}
+use Rattle.std.specs.List.{slice_index_or}
 use Rattle.base.specs.declared.costs.Cost.{Cost}
 use Rattle.base.specs.Costs.{energy}
+use Rattle.bits_model.specs.declared.output.Kind.TheVariants.{Qubo}
 use Rattle.bits_model.specs.Output.{Written, form_of, decoding_of}
 use Rattle.problem_form.specs.declared.limits.Choices.{Choices}
 use Rattle.problem_form.specs.declared.limits.Normal.{Normal}
@@ -118,6 +120,17 @@ pub record CanAddUp (read : Read) (words : List ℕ) : Type 0 where
   pub own : read.soft ≡ None
   pub plain : IsPlain read.problem
   pub width : length words ≡ read.variables
+
+-- the energies are those of these states of the model
+abbrev pub AreEnergiesOf : Written → List (List Bool) → List ℤ → Type 0
+AreEnergiesOf m states energies =
+    (k : ℕ) → k < length states
+    → slice_index_or energies k (pos 0) ≡ energy (form_of m) (slice_index_or states k [])
+
+-- the energies of states can be added up together, with a word for each node
+pub record CanAddStates (m : Written) (words : List ℕ) : Type 0 where
+  pub bits : m.kind ≡ Qubo
+  pub width : length words ≡ m.nodes
 
 -- what asks for the model, or for what the model alone tells
 abbrev pub IsOfModel : Ask → Type 0

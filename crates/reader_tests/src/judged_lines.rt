@@ -1,5 +1,5 @@
 //! What the states of a text are worth and which is the best, as the text that says so.
-ghost use Rattle.std.specs.Prelude.{◌≡◌, ◌+◌, ◌<◌, ◌^◌, false, length, pos, if◌then◌else◌};
+ghost use Rattle.std.specs.Prelude.{◌≡◌, ◌+◌, ◌<◌, ◌^◌, false, length, negsuc, pos, if◌then◌else◌};
 ghost use Rattle.std.specs.List.{slice_index_or};
 
 use base::{Cost, Lists};
@@ -37,6 +37,13 @@ fn cost_by(state: &[bool]) -> Cost
     }
 }
 
+/// The energy that the third bit gives.
+fn energy_by(state: &[bool]) -> i128
+    ensures { result ≡ (if slice_index_or state.now 2 false then negsuc 0 else pos 0) }
+{
+    if bit(state, 2) { -1 } else { 0 }
+}
+
 impl Judge for ThreeBits {
     ghost use Rattle.std.specs.Prelude.{pos, negsuc, if◌then◌else◌, false};
     ghost use Rattle.std.specs.List.{slice_index_or};
@@ -55,8 +62,10 @@ impl Judge for ThreeBits {
         }
     }
 
-    fn energy(&self, state: &[bool]) -> i128 {
-        if bit(state, 2) { -1 } else { 0 }
+    fn energies(&mut self, states: &Lists<bool>, energies: &mut [i128]) {
+        for place in 0..states.len() {
+            energies[place] = energy_by(states.list(place));
+        }
     }
 }
 

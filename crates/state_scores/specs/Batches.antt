@@ -1,5 +1,5 @@
 -- States that are judged together, and what is known after states one by one.
-use Rattle.std.specs.Prelude.{◌≡◌, ◌≤◌, ◌<◌, ◌==◌, ◌||◌, ℕ, Bool, List, [], ◌∷◌, ◌++◌, All, length, if◌then◌else◌}
+use Rattle.std.specs.Prelude.{◌≡◌, ◌≤◌, ◌<◌, ◌==◌, ◌||◌, ℕ, ℤ, pos, Bool, List, [], ◌∷◌, ◌++◌, All, length, if◌then◌else◌}
 use Rattle.std.specs.List.{slice_index_or, zip}
 use Rattle.base.specs.declared.costs.Cost.{Cost}
 use Rattle.base.specs.declared.costs.Cost.TheVariants.{Infinite}
@@ -15,13 +15,19 @@ abbrev pub AreCosts : Judgement → List (List Bool) → List Cost → Type 0
 AreCosts j states costs =
     (k : ℕ) → k < length states → slice_index_or costs k Infinite ≡ j.cost (slice_index_or states k [])
 
+-- the energies are those of these states
+abbrev pub AreEnergies : Judgement → List (List Bool) → List ℤ → Type 0
+AreEnergies j states energies =
+    (k : ℕ) → k < length states → slice_index_or energies k (pos 0) ≡ j.energy (slice_index_or states k [])
+
 -- states with the numbers of their lines were taken off the front of others: at most 64, and none
 -- only where none were left
 pub record AreTaken (width : ℕ) (before after : List StateLine) (lines : List ℕ)
-    (states : List (List Bool)) (costs : List Cost) : Type 0 where
+    (states : List (List Bool)) (costs : List Cost) (energies : List ℤ) : Type 0 where
   pub front : before ≡ zip lines states ++ after
   pub numbered : length lines ≡ length states
   pub room : length costs ≡ length states
+  pub measured : length energies ≡ length states
   pub wide : All (λ state. length state ≡ width) states
   pub few : length states ≤ 64
   pub all : states ≡ [] → after ≡ []

@@ -2,8 +2,8 @@
 ghost use Rattle.std.specs.Prelude.{◌≡◌, ◌+◌, ◌^◌, ◌<◌, [], All, length, if◌then◌else◌, IfOk, OnOk, IsErrOf};
 ghost use Rattle.std.specs.List.{zip};
 ghost use Rattle.state_file.specs.States.{states_of};
-ghost use Rattle.state_scores.specs.Scores.{IsEvaluation, IsSmall};
-ghost use Rattle.state_scores.specs.Batches.{AreCosts, IsEvaluationOf, after_score, after_states, leads, standing};
+ghost use Rattle.state_scores.specs.Scores.{IsEvaluation, IsSmall, Judgement};
+ghost use Rattle.state_scores.specs.Batches.{AreCosts, AreEnergies, IsEvaluationOf, after_score, after_states, leads, standing};
 
 use crate::batch::Batch;
 use crate::judging::Judge;
@@ -79,24 +79,24 @@ impl Evaluation {
         self.scores.push(score)
     }
 
-    /// Takes the states of a batch whose costs are known.
-    fn take_all<J: Judge>(&mut self, judge: &J, batch: &Batch) -> Result<(), NoMemory>
-        requires room { length self.old.state.items ≡ (J.judgement judge.now).width }
-        requires numbered { length batch.now.lines.items ≡ length batch.now.states }
-        requires count { length batch.now.costs.items ≡ length batch.now.states }
-        requires width { All (λ state. length state ≡ (J.judgement judge.now).width)
+    /// Takes the states of a batch whose costs and energies are known.
+    fn take_all(&mut self, batch: &Batch) -> Result<(), NoMemory>
+        requires width { All (λ state. length state ≡ length self.old.state.items)
             batch.now.states }
-        requires costs { AreCosts (J.judgement judge.now) batch.now.states batch.now.costs.items }
+        requires numbered { length batch.now.lines.items ≡ length batch.now.states }
+        requires costed { length batch.now.costs.items ≡ length batch.now.states }
+        requires measured { length batch.now.energies.items ≡ length batch.now.states }
         requires small { All IsSmall batch.now.costs.items }
         requires lines { All (λ state. state.0 < 2 ^ 32)
             (zip batch.now.lines.items batch.now.states) }
-        ensures taken { OnOk result (standing self.new
-            ≡ after_states (J.judgement judge.now) (standing self.old)
-            (zip batch.now.lines.items batch.now.states)) }
+        ensures taken { OnOk result ((j : Judgement)
+            → AreCosts j batch.now.states batch.now.costs.items
+            → AreEnergies j batch.now.states batch.now.energies.items → standing self.new
+            ≡ after_states j (standing self.old) (zip batch.now.lines.items batch.now.states)) }
         ensures kept { length self.new.state.items ≡ length self.old.state.items }
     {
         for place in 0..batch.lines.len() {
-            let score = batch.score(judge, place);
+            let score = batch.score(place);
             self.take(&score, batch.states.list(place))?;
         }
         Ok(())
@@ -126,7 +126,7 @@ impl Evaluation {
                 return Ok(());
             }
             batch.judge(judge);
-            self.take_all(judge, batch)?;
+            self.take_all(batch)?;
         }
     }
 
@@ -185,7 +185,7 @@ fn evaluated<J: Judge>(
 
 /// The score of each line that is a state of `width` bits, and the best state, or `NoState` where no
 /// line is one. It takes 32 bytes for each state, two for each bit of one, and one for each bit of the
-/// states that are judged together.
+/// states that are judged together, beside their costs and energies.
 pub fn evaluate<J: Judge>(
     alloc: Global,
     text: &[u8],

@@ -1,7 +1,7 @@
 //! Who says what a state is worth.
 ghost use Rattle.std.specs.Prelude.{◌≡◌, ◌≤◌, All, length};
 ghost use Rattle.state_scores.specs.Scores.{Judgement, IsSmall};
-ghost use Rattle.state_scores.specs.Batches.{AreCosts};
+ghost use Rattle.state_scores.specs.Batches.{AreCosts, AreEnergies};
 
 use base::{Cost, Lists};
 
@@ -19,8 +19,11 @@ pub trait Judge {
         ensures small { All IsSmall costs.new }
         ensures same { judgement self.new ≡ judgement self.old };
 
-    /// The energy of a state.
-    fn energy(&self, state: &[bool]) -> i128
-        requires { length state.now ≡ (judgement self.now).width }
-        ensures { result ≡ (judgement self.now).energy state.now };
+    /// The energies of states, which are at most 64.
+    fn energies(&mut self, states: &Lists<bool>, energies: &mut [i128])
+        requires few { length states.now ≤ 64 }
+        requires room { length energies.old ≡ length states.now }
+        requires width { All (λ state. length state ≡ (judgement self.old).width) states.now }
+        ensures energies { AreEnergies (judgement self.old) states.now energies.new }
+        ensures same { judgement self.new ≡ judgement self.old };
 }

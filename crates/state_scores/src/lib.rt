@@ -5,7 +5,8 @@
 //! an infinite one being above every whole one, or where its cost is the same and its energy lower. Of
 //! equal ones the first is the best.
 //!
-//! States are judged up to 64 at a time, so that their costs can be worked out together.
+//! States are judged up to 64 at a time, so that their costs and energies can be worked out
+//! together.
 //!
 //! The text of an evaluation has, in this order,
 //!

@@ -1,12 +1,9 @@
 use Rattle.batch_costs.proofs.Common.{◌≡◌, ◌==◌, ◌+ℤ◌, pos, get_or, arith, ap, sym, subst, unsigned_abs, ◌+◌, ◌<◌, ◌^◌, ◌∙◌, to_z, of_z, w64, rules, w128, trailing_zeros, ints, to_z-of_z, bit_at-trailing_zeros, if_so, is_marked}
-use Rattle.batch_costs.proofs.MarkedWords.{added, room, unmarked-less}
+use Rattle.batch_costs.proofs.MarkedWords.{added, marked-rest, rest-less, room}
 use Rattle.batch_costs.proofs.sums.add_marked.Goals as goal
 
 pub loop-rest-smaller : goal.loop-rest-smaller
-loop-rest-smaller c =
-    let rest = c.loop-rest.rest in
-    let lowest = bit_at-trailing_zeros w64 rest (search rules) (search rules) in
-    unmarked-less rest (trailing_zeros w64 rest) lowest.0 lowest.1
+loop-rest-smaller c = rest-less c.loop-rest.rest (search rules)
 
 pub loop-rest-preserved : goal.loop-rest-preserved
 loop-rest-preserved c =
@@ -26,6 +23,6 @@ loop-rest-preserved c =
     omega (arith, ints, fits, small) in
     record {
       places = search rules;
-      sums = λ k below. added c.loop-rest.sums place k rest number _ _ c.loop-rest.invariant.places
-          lowest.0 below lowest.1 sum (c.loop-rest.invariant.sums k below);
+      sums = λ k below. added c.loop-rest.sums place k rest _ number _ _ c.loop-rest.invariant.places
+          lowest.0 lowest.1 (marked-rest rest place k lowest.1 lowest.2) sum (c.loop-rest.invariant.sums k below);
     }

@@ -1,5 +1,5 @@
-use Rattle.batch_costs.proofs.Common.{◌≡◌, ℤ, pos, get_or, ap, ◌∙◌, unsigned_abs, List, length, to_z, of_z, rules, w128, to_z-of_z, get_or-replicate, if_so, Product, product_value, product-size, sums_left, assignment, is_marked}
-use Rattle.batch_costs.proofs.MarkedWords.{sums_begin}
+use Rattle.batch_costs.proofs.Common.{◌≡◌, ℤ, pos, get_or, ap, ◌∙◌, unsigned_abs, List, length, to_z, of_z, rules, w128, to_z-of_z, get_or-replicate, if_so, Product, product_value, product-size, assignment, is_marked}
+use Rattle.batch_costs.proofs.MarkedWords.{sums_begin, sums_left}
 use Rattle.batch_costs.proofs.sums.add_products.Goals as goal
 
 pub loop-product-init : goal.loop-product-init

@@ -1,4 +1,4 @@
-use Rattle.state_scores.proofs.Common.{◌+◌, rules, arith, [], Bor, List, ℕ, ap, drop, get_or, drop_more, joined_bytes, put_more, put_fault, at_error}
+use Rattle.state_scores.proofs.Common.{rules, arith, [], Bor, List, ℕ, ap, drop_more, joined_bytes, put_more, put_fault, at_error}
 use Rattle.state_scores.proofs.rows.put_pieces.Goals as goal
 
 -- an empty piece, for an index that is out of range; none is

@@ -1,4 +1,4 @@
-use Rattle.state_scores.proofs.Common.{◌≡◌, length, arith, rules, ap, sym, subst, All, Bool, List, [], ◌∷◌, length-append, All-append, All-cons, All-nil}
+use Rattle.state_scores.proofs.Common.{◌≡◌, length, arith, nat_tests, rules, sym, subst, All, Bool, List, [], ◌∷◌, length-append, All-append, All-cons, All-nil}
 use Rattle.state_scores.proofs.TakenStates.{taken_more}
 use Rattle.state_scores.proofs.batch.Batch.read.Goals as goal
 
@@ -11,32 +11,13 @@ loop-states-preserved c =
           c.loop-states.self.lines.items c.push.new.self.lines.items c.loop-states.self.states c.push.new.self.states
           c.in-Some.line c.next_into.new.bits so_far.numbered so_far.front c.in-Some.ensures.next
           c.in_ok-push.ensures.lines c.in_ok-push.ensures.states;
-      numbered = omega (
-        arith,
-        so_far.numbered,
-        ap length c.in_ok-push.ensures.lines,
-        ap length c.in_ok-push.ensures.states,
-        length-append c.loop-states.self.lines.items (c.in-Some.line ∷ []),
-        length-append c.loop-states.self.states (c.next_into.new.bits ∷ []),
-      );
-      room = omega (
-        arith,
-        so_far.room,
-        c.in_ok-push.ensures.costs,
-        ap length c.in_ok-push.ensures.states,
-        length-append c.loop-states.self.states (c.next_into.new.bits ∷ []),
-      );
+      numbered = grind (arith, nat_tests, length-append, so_far.numbered);
+      room = grind (arith, nat_tests, length-append, so_far.room);
+      measured = grind (arith, nat_tests, length-append, so_far.measured);
       wide = subst (All wide) (sym c.in_ok-push.ensures.states)
           (All-append wide c.loop-states.self.states (c.next_into.new.bits ∷ []) so_far.wide
           (All-cons wide c.next_into.new.bits [] (search rules) (All-nil wide)));
-      few = omega (
-        arith,
-        so_far.numbered,
-        c.loop-states-test.true,
-        c.len.ensures,
-        ap length c.in_ok-push.ensures.states,
-        length-append c.loop-states.self.states (c.next_into.new.bits ∷ []),
-      );
+      few = grind (arith, nat_tests, length-append, so_far.numbered);
       width = search rules;
       space = search rules;
     }

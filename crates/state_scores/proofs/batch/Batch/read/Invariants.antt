@@ -7,6 +7,7 @@ invariant-loop-states l = record {
   front : l.fn.states.states ≡ zip l.self.lines.items l.self.states ++ l.states.states;
   numbered : length l.self.lines.items ≡ length l.self.states;
   room : length l.self.costs.items ≡ length l.self.states;
+  measured : length l.self.energies.items ≡ length l.self.states;
   wide : All (λ state. length state ≡ l.fn.states.width) l.self.states;
   few : length l.self.states ≤ 64;
   width : l.states.width ≡ l.fn.states.width;

@@ -1,4 +1,5 @@
-use Rattle.state_scores.proofs.Common.{◌≡◌, ◌^◌, ◌<◌, [], ◌++◌, List, All, refl, sym, ap, ◌∙◌, subst, append_assoc, append-nil, rules, StateLine, Judgement, zip, IsEvaluationOf, Standing, after_states, standing}
+use Rattle.state_scores.proofs.Common.{◌≡◌, ◌^◌, ◌<◌, [], ◌++◌, Bool, length, List, All, refl, sym, ap, ◌∙◌, subst, append_assoc, append-nil, rules, StateLine, Judgement, zip, IsEvaluationOf, Standing, after_states, standing}
+use Rattle.state_scores.specs.Batches.{AreCosts, AreEnergies}
 use Rattle.state_scores.proofs.Best.{IsStanding, standing_after, standing_of_all}
 use Rattle.state_scores.proofs.TakenStates.{fewer_left, low_left, low_taken, none_left}
 use Rattle.state_scores.proofs.evaluating.Evaluation.go_on.Goals as goal
@@ -36,6 +37,12 @@ take_all-requires-clause-lines g c =
     (λ k. zip (sym c.judge.ensures.lines k) (sym c.judge.ensures.states k))
     (low_taken _ _ _ taken.front c.loop-batch.invariant.1.lines)
 
+pub take_all-requires-clause-width : goal.take_all-requires-clause-width
+take_all-requires-clause-width g c =
+    subst (λ (l : List (List Bool)). All (λ state. length state ≡ length c.loop-batch.self.state.items) l)
+    (sym c.judge.ensures.states)
+    (λ k d below. c.in_ok-read.ensures.taken.wide k d below ∙ sym c.loop-batch.invariant.1.room)
+
 pub loop-batch-smaller : goal.loop-batch-smaller
 loop-batch-smaller g c =
     let taken = c.in_ok-read.ensures.taken in
@@ -49,10 +56,16 @@ loop-batch-preserved g c =
     let states = zip c.read.new.self.lines.items c.read.new.self.states in
     let rest = c.read.new.states.states in
     let j = g.J.Judge.judgement c.args.judge.now in
+    let costs : AreCosts j c.judge.new.self.states c.judge.new.self.costs.items =
+    subst (λ (l : List (List Bool)). AreCosts j l c.judge.new.self.costs.items) (sym c.judge.ensures.states)
+    (subst (λ (now : Judgement). AreCosts now c.read.new.self.states c.judge.new.self.costs.items) so_far.same
+    c.judge.ensures.costs) in
+    let energies : AreEnergies j c.judge.new.self.states c.judge.new.self.energies.items =
+    subst (λ (l : List (List Bool)). AreEnergies j l c.judge.new.self.energies.items) (sym c.judge.ensures.states)
+    (subst (λ (now : Judgement). AreEnergies now c.read.new.self.states c.judge.new.self.energies.items) so_far.same
+    c.judge.ensures.energies) in
     let known : standing c.take_all.new.self ≡ after_states j (standing c.loop-batch.self) states =
-    c.in_ok-take_all.ensures.taken
-    ∙ ap (λ (now : Judgement). after_states now (standing c.loop-batch.self)
-    (zip c.judge.new.self.lines.items c.judge.new.self.states)) (c.judge.ensures.same ∙ so_far.same)
+    c.in_ok-take_all.ensures.taken j costs energies
     ∙ (λ k. after_states j (standing c.loop-batch.self) (zip (c.judge.ensures.lines k) (c.judge.ensures.states k))) in (
       done ++ states,
       record {

@@ -1,28 +1,33 @@
-use Rattle.state_scores.proofs.Common.{rules, sym, ap, ◌∙◌, after_score, after_states, standing}
+use Rattle.state_scores.proofs.Common.{◌≡◌, get_or, score_of, [], rules, sym, ap, ◌∙◌, after_score, after_states, standing}
 use Rattle.state_scores.proofs.TakenStates.{after_place, all_taken, low_line}
 use Rattle.state_scores.proofs.evaluating.Evaluation.take_all.Goals as goal
 
 pub take-requires-clause-line : goal.take-requires-clause-line
-take-requires-clause-line g c =
+take-requires-clause-line c =
     low_line c.args.batch.now.lines.items c.args.batch.now.states c.loop-place.place _ c.requires.numbered
-    (search rules) (λ i. (c.score-score.ensures.score i).line) c.requires.lines
+    (search rules) c.score-score.ensures.line c.requires.lines
 
 pub loop-place-preserved : goal.loop-place-preserved
-loop-place-preserved g c =
-    let j = g.J.Judge.judgement c.args.judge.now in
+loop-place-preserved c =
     let lines = c.args.batch.now.lines.items in
     let states = c.args.batch.now.states in
     let place = c.loop-place.place in
     let old = standing c.args.self.now in
     record {
-      taken = c.in_ok-take.ensures.taken
-          ∙ (λ i. after_score (c.loop-place.invariant.taken i) (c.score-score.ensures.score i) (c.list.ensures.listed i))
+      taken = λ j costs energies.
+          let score : c.score-score.result ≡ score_of j (get_or lines place 0, get_or states place []) = λ i. record {
+            line = c.score-score.ensures.line i;
+            cost = (c.score-score.ensures.cost ∙ costs place (search rules)) i;
+            energy = (c.score-score.ensures.energy ∙ energies place (search rules)) i;
+          } in
+          c.in_ok-take.ensures.taken
+          ∙ (λ i. after_score (c.loop-place.invariant.taken j costs energies i) (score i) (c.list.ensures.listed i))
           ∙ sym (after_place j old lines states place c.requires.numbered (search rules));
       kept = c.take.ensures.kept ∙ c.loop-place.invariant.kept;
     }
 
 pub returns-clause-taken : goal.returns-clause-taken
-returns-clause-taken g c =
-    c.loop-place.invariant.taken
-    ∙ ap (after_states (g.J.Judge.judgement c.args.judge.now) (standing c.args.self.now))
+returns-clause-taken c = λ j costs energies.
+    c.loop-place.invariant.taken j costs energies
+    ∙ ap (after_states j (standing c.args.self.now))
     (all_taken _ _ _ c.requires.numbered (search rules))
