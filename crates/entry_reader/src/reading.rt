@@ -1,5 +1,5 @@
 //! A whole text: a header, and entries up to the end.
-ghost use Rattle.std.specs.Prelude.{◌≡◌, ◌≤◌, ◌^◌, [], length};
+ghost use Rattle.std.specs.Prelude.{◌≡◌, ◌≤◌, ◌^◌, length};
 ghost use Rattle.whole_text.specs.TokenTexts.{words_of};
 ghost use Rattle.whole_text.specs.Steps.{Gives};
 ghost use Rattle.problem_form.specs.NormalForm.{blank, with_variables};
@@ -9,7 +9,6 @@ use crate::added::add_entry;
 use crate::entries::{entry, none_to_come};
 use crate::header::header;
 use crate::layout::{Counts, Layout};
-use literal_lists::Literal;
 use problem_form::Problem;
 use std::alloc::Global;
 use whole_text::{Lexer, Style, TextAnswer, TokenText, Words};
@@ -17,14 +16,12 @@ use whole_text::{Lexer, Style, TextAnswer, TokenText, Words};
 /// Adds the entries up to the end of the words to a problem that has their nodes alone.
 #[inline(always)]
 fn entries(
-    literals: &mut Vec<Literal>,
     problem: &mut Problem,
     words: &mut Words<'_>,
     layout: Layout,
     counts: Counts,
     end: u64,
 ) -> Result<(), TextAnswer>
-    requires emptied { literals.old.items ≡ [] }
     requires empty { problem.old ≡ with_variables blank counts.nodes }
     requires short { length words.old ≤ 2 ^ 24 }
     ensures { Gives (λ _. problem.new) result (problem_read layout end counts words.old) }
@@ -32,7 +29,7 @@ fn entries(
     let mut to_come = counts;
     while let Some(first) = words.next() {
         let (entry, fewer) = entry(first, words, to_come, end)?;
-        add_entry(literals, problem, layout, entry)?;
+        add_entry(problem, layout, entry)?;
         to_come = fewer;
     }
     none_to_come(end, to_come)?;
@@ -40,12 +37,7 @@ fn entries(
 }
 
 /// Reads a text that was cut into words into a problem that is new.
-fn read_into(
-    alloc: Global,
-    problem: &mut Problem,
-    layout: Layout,
-    text: &TokenText,
-) -> Result<(), TextAnswer>
+fn read_into(problem: &mut Problem, layout: Layout, text: &TokenText) -> Result<(), TextAnswer>
     requires empty { problem.old ≡ blank }
     requires short { length text.now.bytes ≤ 2 ^ 24 }
     ensures { Gives (λ _. problem.new) result (problem_of_words layout (words_of text.now)) }
@@ -54,8 +46,7 @@ fn read_into(
     let end = text.end_line();
     let counts = header(&mut words, layout, end)?;
     problem.widen(counts.nodes);
-    let mut literals = Vec::new(alloc);
-    entries(&mut literals, problem, &mut words, layout, counts, end)
+    entries(problem, &mut words, layout, counts, end)
 }
 
 /// The problem of a text that was cut into words, in normal form, or the first fault of the text.
@@ -68,7 +59,7 @@ pub fn read_entries_tokens(
     ensures { Gives (λ problem. problem) result (problem_of_words layout (words_of text.now)) }
 {
     let mut problem = Problem::new(alloc);
-    read_into(alloc, &mut problem, layout, text)?;
+    read_into(&mut problem, layout, text)?;
     Ok(problem)
 }
 

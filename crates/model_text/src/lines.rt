@@ -17,6 +17,9 @@ use itoa::{Buffer, write_digits};
 /// bytes.
 const LINE: usize = 48;
 
+/// Room for the front of a row: a number of 10 digits and a space.
+const FRONT: usize = 11;
+
 /// Puts the pieces one after the other.
 #[inline(always)]
 fn put_pieces<S: Sink>(
@@ -302,6 +305,55 @@ fn write_row(first: u32, second: u32, weight: i64, line: &mut [u8; LINE]) -> usi
     write_node(first, line, at)
 }
 
+/// Writes a space at the end of a row's front.
+#[inline(always)]
+fn write_space(front: &mut [u8; FRONT])
+    ensures { drop 10 front.new ≡ 32 ∷ drop 11 front.old }
+{
+    front[FRONT - 1] = b' ';
+}
+
+/// Writes a node's number and a space at the end of a row's front, and says where they begin.
+#[inline(always)]
+fn write_front(node: u32, front: &mut [u8; FRONT]) -> usize
+    ensures within { result ≤ 11 }
+    ensures written { drop result front.new ≡ decimal node ++ 32 ∷ [] }
+{
+    write_space(front);
+    write_digits(u64::from(node), front, FRONT - 1)
+}
+
+/// Writes a front, whose text begins at `start`, so that it ends at `end`, and says where it begins.
+#[inline(always)]
+fn copy_front(front: &[u8; FRONT], start: usize, line: &mut [u8; LINE], end: usize) -> usize
+    requires { (start ≤ 11) × (11 ≤ end) × (end ≤ 48) }
+    ensures start { result + 11 ≡ end + start }
+    ensures written { drop result line.new ≡ drop start front.now ++ drop end line.old }
+{
+    line[end - FRONT..end].copy_from_slice(front);
+    end - FRONT + start
+}
+
+/// Writes the row of a coupler, behind the front of its first node, at the end of the line, and says
+/// where it begins.
+#[inline(always)]
+fn write_coupler(
+    front: &[u8; FRONT],
+    start: usize,
+    second: u32,
+    weight: i64,
+    line: &mut [u8; LINE],
+) -> usize
+    requires { start ≤ 11 }
+    ensures within { result ≤ 48 }
+    ensures written { drop result line.new
+        ≡ drop start front.now ++ row_text (decimal second ∷ signed_decimal weight ∷ []) }
+{
+    let at = write_weight(weight, line);
+    let at = write_node(second, line, at);
+    copy_front(front, start, line, at)
+}
+
 /// A weight of any size, after the numbers of its nodes.
 #[inline(never)]
 fn put_wide<S: Sink>(buffer: &mut LineBuffer, sink: &mut S, entry: &Entry) -> Result<(), WriteFault>
@@ -344,6 +396,36 @@ fn put_entry<S: Sink>(
     match i64::try_from(entry.weight) {
         Ok(weight) => {
             let at = write_row(entry.first, entry.second, weight, line);
+            buffer.put(sink, &line[at..])
+        }
+        Err(_) => put_wide(buffer, sink, entry),
+    }
+}
+
+/// The weight of a coupler, as `put_entry` does, behind the front of its first node.
+#[inline(always)]
+fn put_coupler<S: Sink>(
+    line: &mut [u8; LINE],
+    front: &[u8; FRONT],
+    start: usize,
+    buffer: &mut LineBuffer,
+    sink: &mut S,
+    entry: &Entry,
+) -> Result<(), WriteFault>
+    requires within { start ≤ 11 }
+    requires front { drop start front.now ≡ decimal entry.now.first ++ 32 ∷ [] }
+    ensures passed { let row = entry_row entry.now in
+        OnOk result (Passes (S.taken sink.old) (S.taken sink.new)
+        buffer.old buffer.new (row_text row)) }
+    ensures front { let row = entry_row entry.now in
+        OnErr result (TakesFront (S.taken sink.old) (S.taken sink.new)
+        (buffer.old ++ row_text row)) }
+    ensures lost { OnErr result (buffer.new ≡ []) }
+    ensures cause { HasCause (S.faults sink.old) (S.faults sink.new) result }
+{
+    match i64::try_from(entry.weight) {
+        Ok(weight) => {
+            let at = write_coupler(front, start, entry.second, weight, line);
             buffer.put(sink, &line[at..])
         }
         Err(_) => put_wide(buffer, sink, entry),
@@ -401,9 +483,11 @@ fn put_row<S: Sink>(
     ensures lost { OnErr result (buffer.new ≡ []) }
     ensures cause { HasCause (S.faults sink.old) (S.faults sink.new) result }
 {
+    let mut front = [0u8; FRONT];
+    let start = write_front(row.first(), &mut front);
     for index in 0..row.len() {
         let entry = entry_at(row, index);
-        put_entry(line, buffer, sink, &entry)?;
+        put_coupler(line, &front, start, buffer, sink, &entry)?;
     }
     Ok(())
 }

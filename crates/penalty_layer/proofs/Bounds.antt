@@ -18,18 +18,12 @@ pub record IsWithin (p : ProblemContent) : Type 0 where
   pub weight : weight p ≤ 2 ^ 64 - 1
 
 pub within_limits : (p : ProblemContent) → limit_fault normals.Literal p ≡ None → IsWithin p
-within_limits p none =
-    let variables : Counted = record { kind = Variables; number = p.variables; most = 2 ^ 20 } in
-    let degrees : Counted = record { kind = Degree; number = degree p; most = most_degree } in
-    let complements : Counted = record { kind = Negations; number = 0; most = 8 } in
-    let all_pairs : Counted = record { kind = Pairs; number = pairs normals.Literal p; most = 2 ^ 24 } in
-    let weights : Counted = record { kind = Weight; number = weight p; most = 2 ^ 64 - 1 } in
-    let first = within_first variables (degrees ∷ complements ∷ all_pairs ∷ weights ∷ []) none in
-    let second = within_first degrees (complements ∷ all_pairs ∷ weights ∷ []) first.1 in
-    let third = within_first complements (all_pairs ∷ weights ∷ []) second.1 in
-    let fourth = within_first all_pairs (weights ∷ []) third.1 in
-    let fifth = within_first weights [] fourth.1 in
-    record { variables = first.0; degree = second.0; pairs = fourth.0; weight = fifth.0 }
+within_limits p none = record {
+  variables = grind (arith, nat_tests, within_first);
+  degree = grind (arith, nat_tests, within_first);
+  pairs = grind (arith, nat_tests, within_first);
+  weight = grind (arith, nat_tests, within_first);
+}
 
 -- ---- degrees
 
@@ -66,8 +60,7 @@ degrees_within p most h =
 -- ---- weights
 
 soft_or_penalty : (n : ℕ) (w : Option ℕ) → unwrap_or w n ≡ unwrap_or w 0 + n * cond (is_none w) 1 0
-soft_or_penalty n None = omega arith
-soft_or_penalty n (Some w) = omega arith
+soft_or_penalty n w = grind (arith, nat_tests)
 
 -- the soft weights, and the penalty for each hard clause
 pub clause_weights_are : (n : ℕ) (cs : List Clause)

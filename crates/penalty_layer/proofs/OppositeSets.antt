@@ -2,7 +2,7 @@
 --
 -- In an ascending list without a literal beside its complement the variables ascend, so the order
 -- does not depend on which literals are complements.
-use Rattle.penalty_layer.proofs.Common.{or_parts, nat_tests, arith, ◌==◌, ◌≡◌, ℕ, ◌<◌, Bool, false, not, ◌&&◌, ◌||◌, List, [], ◌∷◌, map, length, refl, ◌∙◌, list_any, AllByRecursion, IsStrictlySortedBy, length-map, All-from_recursion, recursion_from_All, beq, Literal, literal_cmp, are_opposite, has_clash, IsLiteralSet, opposite}
+use Rattle.penalty_layer.proofs.Common.{or_parts, nat_tests, arith, ◌≡◌, ℕ, ◌<◌, Bool, false, not, ◌||◌, List, [], ◌∷◌, map, length, refl, ◌∙◌, list_any, AllByRecursion, IsStrictlySortedBy, length-map, beq, Literal, literal_cmp, are_opposite, has_clash, IsLiteralSet, opposite, All-map}
 use Rattle.std.specs.declared.cmp.Ordering.TheVariants.{Less}
 
 -- ---- two literals, the lesser first
@@ -18,10 +18,9 @@ below_opposites : (l : Literal) (ks : List Literal) → list_any (are_opposite l
     → AllByRecursion (λ k. literal_cmp l k ≡ Less) ks
     → AllByRecursion (λ k. literal_cmp (opposite l) k ≡ Less) (map opposite ks)
 below_opposites l [] apart less = tt
-below_opposites l (k ∷ ks) apart less = (
-  opposite_less l k ((or_parts _ _ apart).0) less.0,
-  below_opposites l ks ((or_parts _ _ apart).1) less.1,
-)
+below_opposites l (k ∷ ks) apart less =
+    let parts = or_parts _ _ apart in
+    (opposite_less l k parts.0 less.0, below_opposites l ks parts.1 less.1)
 
 clash_of_rest : (l : Literal) (ks : List Literal) → has_clash (l ∷ ks) ≡ false → has_clash ks ≡ false
 clash_of_rest l ks e = fewer ks (or_parts _ _ e).1
@@ -29,10 +28,7 @@ clash_of_rest l ks e = fewer ks (or_parts _ _ e).1
     fewer : (ms : List Literal) → list_any (λ m. list_any (are_opposite m) (l ∷ ks)) ms ≡ false
         → list_any (λ m. list_any (are_opposite m) ks) ms ≡ false
     fewer [] h = refl
-    fewer (m ∷ ms) h =
-        let first = (or_parts _ _ (or_parts (list_any (are_opposite m) (l ∷ ks)) _ h).0).1 in
-        let rest = fewer ms ((or_parts (list_any (are_opposite m) (l ∷ ks)) _ h).1) in
-        λ i. first i || rest i
+    fewer (m ∷ ms) h = grind (arith, nat_tests, fewer ms)
 
 clash_with_rest : (l : Literal) (ks : List Literal) → has_clash (l ∷ ks) ≡ false
     → list_any (are_opposite l) ks ≡ false
@@ -55,8 +51,7 @@ not_both a b = grind (arith, nat_tests)
 any_opposite : (l : Literal) (ks : List Literal)
     → list_any (are_opposite (opposite l)) (map opposite ks) ≡ list_any (are_opposite l) ks
 any_opposite l [] = refl
-any_opposite l (k ∷ ks) =
-    λ i. ((l.variable == k.variable) && not (not_both l.negated k.negated i)) || any_opposite l ks i
+any_opposite l (k ∷ ks) = grind (arith, nat_tests, not_both, any_opposite l ks)
 
 clash_of_opposites : (ls : List Literal) → has_clash (map opposite ls) ≡ has_clash ls
 clash_of_opposites ls = along ls
@@ -67,16 +62,11 @@ clash_of_opposites ls = along ls
     along [] = refl
     along (m ∷ ms) = λ i. any_opposite m ls i || along ms i
 
-opposites_within : (n : ℕ) (ls : List Literal) → AllByRecursion (λ l. l.variable < n) ls
-    → AllByRecursion (λ l. l.variable < n) (map opposite ls)
-opposites_within n [] h = tt
-opposites_within n (l ∷ ls) h = (h.0, opposites_within n ls h.1)
-
 pub opposites_set : (n : ℕ) (ls : List Literal) → IsLiteralSet n ls → IsLiteralSet n (map opposite ls)
 opposites_set n ls set = record {
   ordered = opposites_ordered ls set.apart set.ordered;
   apart = clash_of_opposites ls ∙ set.apart;
-  within = All-from_recursion _ _ (opposites_within n ls (recursion_from_All _ ls set.within));
+  within = All-map (λ (l : Literal). l.variable < n) opposite ls set.within;
 }
 
 pub opposites_length : (ls : List Literal) → length (map opposite ls) ≡ length ls

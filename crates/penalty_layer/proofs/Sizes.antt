@@ -107,15 +107,9 @@ constraint-size n first k =
     λ h. omega (arith, square_terms-size n 1 form (slack_form-short 1 first k h (omega arith)), e, ap (λ x. x * x) e, square_is m) in
     let high : 1 ≤ d → all ≤ 2 * (m ^ 2 * (4 * d ^ 2)) =
     λ h.
-    let some : 1 ≤ d ^ 2 = omega (arith, square-mono 1 d h) in
-    omega (
-      arith,
-      square_terms-size n d form (slack_form-short d first k (omega arith) h),
-      ap (λ x. x * d ^ 2) e,
-      ap (λ x. 2 * (x * x) * d ^ 2) e,
-      ap (λ x. x * d ^ 2) (square_is m),
-      mul-le m 1 m (d ^ 2) (omega arith) some,
-    ) in
+    let terms = square_terms-size n d form (slack_form-short d first k (omega arith) h) in
+    let more = mul-le m 1 m (d ^ 2) (omega arith) (omega (arith, square-mono 1 d h)) in
+    omega (arith, ap (λ x. x * d ^ 2) e, ap (λ x. 2 * (x * x) * d ^ 2) e, ap (λ x. x * d ^ 2) (square_is m)) in
     grind (arith, nat_tests, low, high)
 
 constraint_terms-size : (n first : ℕ) (ks : List Constraint)
@@ -123,14 +117,8 @@ constraint_terms-size : (n first : ℕ) (ks : List Constraint)
     ≤ 2 * sum_by (constraint_pairs normals.Literal) ks
 constraint_terms-size n first [] = omega arith
 constraint_terms-size n first (k ∷ ks) =
-    omega (
-      arith,
-      sets_sum-append (square_terms n (slack_form first k)) (constraint_terms n (first + slack_bits k) ks),
-      constraint-size n first k,
-      constraint_terms-size n (first + slack_bits k) ks,
-      sum_by-cons slack_bits k ks,
-      sum_by-cons (constraint_pairs normals.Literal) k ks,
-    )
+    let rest = constraint_terms-size n (first + slack_bits k) ks in
+    omega (arith, sets_sum-append, constraint-size n first k, sum_by-cons)
 
 -- ---- the whole
 
@@ -160,14 +148,7 @@ contributions_squares p none =
 pub size_within : (p : ProblemContent) → limit_fault normals.Literal p ≡ None → Ascends (image p).terms
     → table_size (image p) ≤ 2 ^ 26
 size_within p none ascends =
-    omega (
-      arith,
-      (within_limits p none).variables,
-      terms_size-once (image p).terms ascends,
-      sets_sum-with_additions square (contributions p),
-      contributions_squares p none,
-      (within_limits p none).pairs,
-      sets_sum-append (plain_terms p) (constraint_terms (penalty p) p.variables p.constraints),
-      constraint_terms-size (penalty p) p.variables p.constraints,
-      plain-squares p,
-    )
+    let within = within_limits p none in
+    let once = terms_size-once (image p).terms ascends in
+    let constraints = constraint_terms-size (penalty p) p.variables p.constraints in
+    omega (arith, sets_sum-with_additions square (contributions p), sets_sum-append, plain-squares p)

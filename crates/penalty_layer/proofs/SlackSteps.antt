@@ -1,5 +1,5 @@
 -- Slack bits, one by one.
-use Rattle.penalty_layer.proofs.Common.{nat_tests, ◌≡◌, ℕ, zero, suc, ◌+◌, ◌-◌, ◌*◌, ◌/◌, ◌%◌, ◌^◌, ◌<◌, ◌≤◌, nat_eq, Bool, sym, ◌∙◌, subst, arith, List, [], ◌∷◌, ◌++◌, append_assoc, inl, inr, pos, neg_ℤ, cases_lt, pow-le-pow_right, binary_digits, Term, doubled, digit_bits, node, slack_terms, HasDigits, HasDigits-binary_digits}
+use Rattle.penalty_layer.proofs.Common.{nat_tests, ◌≡◌, ℕ, zero, suc, ◌+◌, ◌-◌, ◌*◌, ◌/◌, ◌%◌, ◌^◌, ◌<◌, ◌≤◌, nat_eq, Bool, sym, subst, arith, List, [], ◌∷◌, ◌++◌, append_assoc, pos, neg_ℤ, pow-le-pow_right, binary_digits, Term, doubled, digit_bits, node, slack_terms, HasDigits, HasDigits-binary_digits, inl, inr, cases_lt}
 
 power_next : (m : ℕ) → 2 ^ suc m ≡ 2 * 2 ^ m
 power_next m = omega arith
@@ -44,9 +44,6 @@ pub push_weight : (now new all : List Term) (count i number weight last : ℕ) �
 push_weight now new all count i number weight last inside pushed whole =
     let e : count - i ≡ suc (count - (i + 1)) = omega arith in
     let before = rw e at whole in
-    let part : Term = (node number ∷ [], neg_ℤ (pos weight)) in
     let place : number + 1 ≡ suc number = omega arith in
     let twice : weight * 2 ≡ 2 * weight = omega arith in
-    let rest = slack_terms (suc number) (doubled (2 * weight) (count - (i + 1)) last) in
-    (λ j. pushed j ++ slack_terms (place j) (doubled (twice j) (count - (i + 1)) last))
-    ∙ append_assoc now (part ∷ []) rest ∙ before
+    rw (pushed, place, twice, append_assoc) before

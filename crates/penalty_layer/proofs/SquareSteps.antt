@@ -46,12 +46,8 @@ pub square_small : (n : ℕ) (us : List Term) (i : ℕ) (u : Term) (most : ℕ) 
     + 2 * n * unsigned_abs u.1 * terms_total (drop (i + 1) us)
     + n * terms_total (drop (i + 1) us) ^ 2 ≤ most
 square_small n us i u most at small =
-    omega (
-      arith,
-      small,
-      ap (λ m. n * m) (square_is (terms_total (drop i us)) ∙ ap (λ m. m * m) (total_left us i u at)),
-      ap (λ m. n * m) (square_is (terms_total (drop (i + 1) us))),
-    )
+    let now = ap (λ m. n * m) (square_is (terms_total (drop i us)) ∙ ap (λ m. m * m) (total_left us i u at)) in
+    omega (arith, ap (λ m. n * m) (square_is (terms_total (drop (i + 1) us))))
 
 -- a factor of a square fits where the square does
 pub once_small : (n a : ℕ) → n * a ≤ n * (a * a)

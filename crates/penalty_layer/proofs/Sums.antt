@@ -1,5 +1,5 @@
 -- The total of what the parts of a problem contribute is within the counted weight.
-use Rattle.penalty_layer.proofs.Common.{◌≡◌, ℕ, zero, suc, ◌+◌, ◌*◌, ◌^◌, ◌≤◌, unsigned_abs, ℤ, pos, neg_ℤ, ◌*ℤ◌, List, [], ◌∷◌, ◌++◌, map, ap, sym, ◌∙◌, arith, None, sum_by, ints, unsigned_abs-mul, sum_by-cons, pow-succ', pow-zero, Product, Clause, Constraint, ProblemContent, products_total, binary_digits, penalty, weight, reach, slack_range, slack_bits, limit_fault, Term, terms_total, scaled, products_with, terms_total-cons, terms_total-append, terms_total-with_additions, products_with-total, clause_term, plain_terms, contributions, image, clause_weights, doubled, last_weight, weights_for, slack_weights, product_term, square_terms, node, slack_terms, slack_form, constraint_terms, HasDigits, HasDigits-binary_digits}
+use Rattle.penalty_layer.proofs.Common.{◌≡◌, ℕ, zero, suc, ◌+◌, ◌*◌, ◌^◌, ◌≤◌, unsigned_abs, ℤ, pos, neg_ℤ, ◌*ℤ◌, List, [], ◌∷◌, map, ap, sym, ◌∙◌, arith, None, sum_by, ints, unsigned_abs-mul, sum_by-cons, pow-succ', pow-zero, Product, Clause, Constraint, ProblemContent, products_total, binary_digits, penalty, weight, reach, slack_range, slack_bits, limit_fault, Term, terms_total, scaled, terms_total-cons, terms_total-append, terms_total-with_additions, products_with-total, clause_term, plain_terms, contributions, image, clause_weights, doubled, last_weight, weights_for, slack_weights, product_term, square_terms, node, slack_terms, slack_form, constraint_terms, HasDigits, HasDigits-binary_digits}
 use Rattle.problem_form.specs.declared.limits.Normal.TheVariants as normals
 use Rattle.penalty_layer.proofs.Bounds.{within_limits, clause_weights_are}
 
@@ -13,20 +13,14 @@ square_terms-total : (n : ℕ) (ts : List Term)
     → terms_total (square_terms n ts) ≤ n * terms_total ts ^ 2
 square_terms-total n [] = omega arith
 square_terms-total n (t ∷ ts) =
-    let off = products_with (scaled (pos (2 * n)) t) ts in
     let own : unsigned_abs (pos n *ℤ (t.1 *ℤ t.1)) ≡ n * (unsigned_abs t.1 * unsigned_abs t.1) =
     unsigned_abs-mul (pos n) (t.1 *ℤ t.1) ∙ ap (λ m. n * m) (unsigned_abs-mul t.1 t.1) in
-    omega (
-      arith,
-      own,
-      terms_total-cons (t.0, pos n *ℤ (t.1 *ℤ t.1)) (off ++ square_terms n ts),
-      terms_total-append off (square_terms n ts),
-      products_with-total (scaled (pos (2 * n)) t) ts,
-      ap (λ m. m * terms_total ts) (unsigned_abs-mul (pos (2 * n)) t.1),
-      square_terms-total n ts,
-      ap (λ m. n * m) (square_is (terms_total ts)),
-      ap (λ m. n * m) (square_is (terms_total (t ∷ ts)) ∙ ap (λ m. m * m) (terms_total-cons t ts)),
-    )
+    let row = products_with-total (scaled (pos (2 * n)) t) ts in
+    let size = ap (λ m. m * terms_total ts) (unsigned_abs-mul (pos (2 * n)) t.1) in
+    let rest = square_terms-total n ts in
+    let less = ap (λ m. n * m) (square_is (terms_total ts)) in
+    let more = ap (λ m. n * m) (square_is (terms_total (t ∷ ts)) ∙ ap (λ m. m * m) (terms_total-cons t ts)) in
+    omega (arith, terms_total-cons, terms_total-append)
 
 -- ---- what is squared
 
@@ -36,13 +30,8 @@ doubled-total first b zero last =
     omega (arith, ints, terms_total-cons (node first ∷ [], neg_ℤ (pos last)) [])
 doubled-total first b (suc m) last =
     let next : 2 ^ suc m ≡ 2 * 2 ^ m = omega arith in
-    omega (
-      arith,
-      ints,
-      ap (λ x. b * x) next,
-      doubled-total (suc first) (2 * b) m last,
-      terms_total-cons (node first ∷ [], neg_ℤ (pos b)) (slack_terms (suc first) (doubled (2 * b) m last)),
-    )
+    let rest = doubled-total (suc first) (2 * b) m last in
+    omega (arith, ints, ap (λ x. b * x) next, terms_total-cons)
 
 -- the slack weights sum to the range
 slack-total : (first r : ℕ) → terms_total (slack_terms first (slack_weights r)) ≡ r
@@ -73,13 +62,8 @@ pub constraint_terms-total : (n first : ℕ) (ks : List Constraint)
     → terms_total (constraint_terms n first ks) ≤ sum_by (λ k. n * reach k ^ 2) ks
 constraint_terms-total n first [] = omega arith
 constraint_terms-total n first (k ∷ ks) =
-    omega (
-      arith,
-      terms_total-append (square_terms n (slack_form first k)) (constraint_terms n (first + slack_bits k) ks),
-      constraint-total n first k,
-      constraint_terms-total n (first + slack_bits k) ks,
-      sum_by-cons (λ (j : Constraint). n * reach j ^ 2) k ks,
-    )
+    let rest = constraint_terms-total n (first + slack_bits k) ks in
+    omega (arith, terms_total-append, constraint-total n first k, sum_by-cons)
 
 -- ---- the whole
 

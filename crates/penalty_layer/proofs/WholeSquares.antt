@@ -22,8 +22,7 @@ module _ (ls : List Literal) where
       ap (λ us. if has_clash us then false else is_eq (set_cmp ls us)) (literal_set-turned ks ms)
 
   times_if : (b : Bool) (n c d : ℤ) → if_so b ((n *ℤ c) *ℤ d) ≡ n *ℤ if_so b (c *ℤ d)
-  times_if true n c d = times_assoc n c d
-  times_if false n c d = omega (arith, ints)
+  times_if b n c d = grind (arith, nat_tests, ints, times_assoc)
 
   -- n times a product
   abbrev share_of : Term → Term → ℤ

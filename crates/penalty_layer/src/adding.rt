@@ -1,5 +1,5 @@
 //! What each part of a problem contributes to the sums.
-ghost use Rattle.std.specs.Prelude.{◌≡◌, ◌≤◌, ◌^◌, [], pos, map, OnOk, unwrap_or};
+ghost use Rattle.std.specs.Prelude.{◌≡◌, ◌≤◌, ◌^◌, ◌∷◌, [], pos, map, OnOk, unwrap_or};
 ghost use Rattle.term_table.specs.Rooms.{Fills, HasRoomFor};
 ghost use Rattle.penalty_layer.specs.Penalty.{
   opposite,
@@ -17,6 +17,37 @@ use problem_form::{ClauseList, ClauseRef, Problem, ProductList, ProductRef};
 use std::alloc::Global;
 use term_table::Gather;
 
+/// Adds a product with its coefficient. Most have one or two literals, which need no list.
+#[inline(always)]
+fn add_product<T: Gather>(
+    terms: &mut T,
+    set: &mut Vec<Literal>,
+    product: ProductRef<'_>,
+) -> Result<(), NoMemory>
+    requires { HasRoomFor T.takes terms.old (product_term product ∷ []) }
+    ensures { OnOk result (Fills T.takes T.holds terms.old terms.new
+        (product_term product.entry ∷ [])) }
+{
+    let ProductRef {
+        mut literals,
+        coefficient,
+    } = product;
+    if literals.len() == 1 {
+        let Some(only) = literals.next() else {
+            return Ok(());
+        };
+        return terms.gather(&[only], coefficient);
+    }
+    if literals.len() == 2 {
+        let (Some(first), Some(second)) = (literals.next(), literals.next()) else {
+            return Ok(());
+        };
+        return terms.gather(&[first, second], coefficient);
+    }
+    literals.copy_into(set)?;
+    terms.gather(set, coefficient)
+}
+
 /// Adds the products with their coefficients.
 fn add_products<T: Gather>(
     alloc: Global,
@@ -29,12 +60,7 @@ fn add_products<T: Gather>(
 {
     let mut set = Vec::new(alloc);
     for product in products.iter() {
-        let ProductRef {
-            literals,
-            coefficient,
-        } = product;
-        literals.copy_into(&mut set)?;
-        terms.gather(&set, coefficient)?;
+        add_product(terms, &mut set, product)?;
     }
     Ok(())
 }

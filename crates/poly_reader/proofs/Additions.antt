@@ -1,7 +1,7 @@
 -- What is added to a problem one after another is the normal form of the whole.
 --
 -- A name keeps its number when more names come, so each product can be put down as it is read.
-use Rattle.poly_reader.proofs.Common.{nat_tests, arith, ◌≡◌, ℕ, List, [], ◌∷◌, ◌++◌, length, map, fold, Result, Ok, Err, refl, sym, ap, ◌∙◌, map-append, fold-append, TextFault, TextAnswer, Word, ◌>>=◌, Fails, ProblemContent, normal_form, blank, with_variables, with_product, products_add_up, products_apart, Polynomial, Named, Listed, reading_of_words, names_after, all_literals, names_of, product_of, problem_of, polynomial_of, polynomial_of_words, with_listed, products_read}
+use Rattle.poly_reader.proofs.Common.{nat_tests, arith, ◌≡◌, ℕ, List, [], ◌∷◌, ◌++◌, length, map, fold, Result, Ok, refl, sym, map-append, fold-append, TextFault, TextAnswer, Word, ◌>>=◌, Fails, ProblemContent, normal_form, blank, with_variables, with_product, products_add_up, products_apart, Polynomial, Named, Listed, reading_of_words, names_after, all_literals, names_of, product_of, problem_of, polynomial_of, polynomial_of_words, with_listed, products_read}
 use Rattle.poly_reader.proofs.NameNumbers.{names_after-longer, names_after-all, literals_of-longer}
 
 -- ---- variables apart
@@ -32,13 +32,10 @@ listed_apart p names (t ∷ ts) e =
     let now = names_after names t.literals in
     let last = names_after now (all_literals ts) in
     let all = names_after-append names t.literals (all_literals ts) in
-    let later = map (product_of last) ts in
-    let wide = with_variables p (length now) in
-    listed_apart (with_product wide (product_of now t)) now ts refl
-    ∙ (λ i. (with_variables (fold with_product (with_product wide (product_of-later names t (all_literals ts) i)) later) (length last), last))
-    ∙ ap (λ (q : ProblemContent). (with_variables q (length last), last))
-    (products_apart (with_product p (product_of last t)) (length now) later)
-    ∙ ap (λ (ns : List (List ℕ)). with_products p ns (t ∷ ts)) (sym all)
+    let rest = listed_apart (with_product (with_variables p (length now)) (product_of now t)) now ts refl in
+    let later = product_of-later names t (all_literals ts) in
+    let apart = products_apart (with_product p (product_of last t)) (length now) (map (product_of last) ts) in
+    grind (arith, nat_tests)
 
 put_together : (ts : List Listed)
     → fold with_listed (blank, []) ts ≡ (normal_form (problem_of ts), names_of ts)
@@ -60,8 +57,7 @@ polynomial_from s = record { problem = s.0; names = s.1 }
 
 whole-put : (read : Result (List Listed) TextFault)
     → whole read ≡ put_all read >>= λ s. Ok (polynomial_from s)
-whole-put (Ok ts) = ap (λ (s : State). Ok (polynomial_from s)) (sym (put_together ts))
-whole-put (Err f) = refl
+whole-put read = grind (arith, nat_tests, put_together)
 
 -- the polynomial of words: their products, put to a problem that says nothing
 pub polynomial_of_words-put : (ws : List Word)

@@ -1,5 +1,5 @@
 -- Each name stands at its number, and at no other place.
-use Rattle.poly_reader.proofs.Common.{nat_tests, arith, ◌≡◌, ◌⊎◌, inl, inr, ℕ, zero, suc, true, false, ◌||◌, List, [], ◌∷◌, ◌++◌, length, Some, slice_get, refl, sym, ap, ◌∙◌, bytes_eq, or-true, bytes_eq-Decides, All-contains, All-from_recursion, Named, with_name, names_after, number_of, all_literals, names_of, NamesAreNumbered}
+use Rattle.poly_reader.proofs.Common.{nat_tests, arith, ◌≡◌, ◌⊎◌, inl, inr, ℕ, zero, suc, true, false, List, [], ◌∷◌, ◌++◌, length, Some, slice_get, refl, sym, ◌∙◌, bytes_eq, or-true, bytes_eq-Decides, All-contains, All-from_recursion, Named, with_name, names_after, number_of, all_literals, names_of, NamesAreNumbered}
 use Rattle.poly_reader.proofs.NameNumbers.{has, number_of-next, number_of-append, number_of-last, names_after-all}
 
 -- a name that is there stands at its number
@@ -13,16 +13,11 @@ stands (n ∷ ns) name h =
 abbrev pub IsPlaced : List (List ℕ) → Type 0
 IsPlaced names = (i : ℕ) (name : List ℕ) → slice_get names i ≡ Some name → number_of names name ≡ i
 
-bytes_eq-same : (name other : List ℕ) → other ≡ name → bytes_eq name other ≡ true
-bytes_eq-same name other e = (bytes_eq-Decides name other).1 (sym e)
-
 inside : (names : List (List ℕ)) (i : ℕ) (name : List ℕ) → slice_get names i ≡ Some name
     → has names name ≡ true
 inside [] i name h = absurd cc
-inside (n ∷ ns) zero name h =
-    let same : n ≡ name = cc in ap (λ b. b || has ns name) (bytes_eq-same name n same)
-inside (n ∷ ns) (suc i) name h =
-    ap (λ b. bytes_eq name n || b) (inside ns i name h) ∙ or-true (bytes_eq name n)
+inside (n ∷ ns) zero name h = grind (arith, nat_tests, bytes_eq-Decides)
+inside (n ∷ ns) (suc i) name h = rw (inside ns i name h) (or-true (bytes_eq name n))
 
 -- one more name: what stands at a place was there, or it is the name at the end
 last_or_before : (names : List (List ℕ)) (last : List ℕ) (i : ℕ) (name : List ℕ)

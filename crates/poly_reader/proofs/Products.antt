@@ -37,8 +37,7 @@ put_all s read = read >>= λ ts. Ok (fold with_listed s ts)
 
 put_one : (s : State) (t : Listed) (others : Result (List Listed) TextFault)
     → put_all s (before others t) ≡ put_all (with_listed s t) others
-put_one s t (Ok ts) = refl
-put_one s t (Err f) = refl
+put_one s t others = grind (arith, nat_tests)
 
 one_goes_on : (p : ProblemContent) (names names' : List (List ℕ)) (rest rest' : List Word) (t : Product)
     (number : Result ℤ TextFault) (read : Result (List Named) TextFault)

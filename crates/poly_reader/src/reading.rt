@@ -1,14 +1,17 @@
 //! A whole text.
-ghost use Rattle.std.specs.Prelude.{◌≡◌, ◌+◌, ◌*◌, ◌<◌, ◌≤◌, ◌^◌, [], length};
+ghost use Rattle.std.specs.Prelude.{◌≡◌, ◌+◌, ◌*◌, ◌<◌, ◌≤◌, ◌^◌, [], All, OnOk, length, unsigned_abs};
 ghost use Rattle.whole_text.specs.TokenTexts.{words_of};
 ghost use Rattle.whole_text.specs.Steps.{Gives};
-ghost use Rattle.problem_form.specs.NormalForm.{blank};
+ghost use Rattle.problem_form.specs.NormalForm.{blank, with_product};
+ghost use Rattle.problem_form.specs.Problems.{problem_total};
 ghost use Rattle.poly_reader.specs.Cost.{normal_reading, polynomial_of_words};
 ghost use Rattle.poly_reader.specs.Views.{products_read};
 
 use crate::listed::product;
 use crate::name_table::NameTable;
 use crate::names::Names;
+use base::NoMemory;
+use literal_lists::Literal;
 use problem_form::Problem;
 use std::alloc::Global;
 use whole_text::{Lexer, Style, TextAnswer, TokenText, Words};
@@ -18,6 +21,28 @@ use whole_text::{Lexer, Style, TextAnswer, TokenText, Words};
 pub struct Polynomial {
     pub problem: Problem,
     pub names: Names,
+}
+
+/// Adds the product of listed literals to a problem, and leaves the list empty. Where there are two,
+/// they are put in order without the list.
+#[inline(never)]
+fn add_listed(
+    problem: &mut Problem,
+    list: &mut Vec<Literal>,
+    coefficient: i128,
+) -> Result<(), NoMemory>
+    requires within { All (λ l. l.variable < problem.old.variables) list.old.items }
+    requires small { problem_total problem.old + unsigned_abs coefficient < 2 ^ 100 }
+    ensures added { OnOk result (problem.new ≡ with_product problem.old
+        (record { literals = list.old.items; coefficient = coefficient })) }
+    ensures emptied { list.new.items ≡ [] }
+{
+    if list.len() != 2 {
+        return problem.add_term(list, coefficient);
+    }
+    let (first, second) = (list[0], list[1]);
+    list.clear();
+    problem.add_weighed_pair(first, second, coefficient)
 }
 
 /// Adds the products up to the end to a problem that says nothing.
@@ -37,7 +62,7 @@ fn products_into<'a>(
     while let Some(first) = next {
         let (coefficient, after) = product(first, &mut words, names, &mut list)?;
         problem.widen(names.len() as u64);
-        problem.add_term(&mut list, coefficient)?;
+        add_listed(problem, &mut list, coefficient)?;
         next = after;
     }
     Ok(())

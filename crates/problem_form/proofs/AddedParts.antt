@@ -1,20 +1,14 @@
 -- Parts that are added to a problem one by one give the normal form of what they say.
 --
 -- Each part that is added to a normal form gives the normal form of the source with that part.
-use Rattle.problem_form.proofs.Common.{nat_tests, ◌≡◌, ℕ, arith, refl, sym, ap, ◌∙◌, List, [], ◌∷◌, ◌++◌, append-nil, append_assoc, fold, map, ◌+ℤ◌, ints, flat_map_more, map-append, fold-map, total_by-append, total_by, Product, Clause, Constraint, ProblemContent, Part, Widened, AddedProduct, AddedClause, AddedConstraint, kept_product, product_constant, kept_clause, clause_constant, normal_constraint, normal_form, blank, with_variables, with_product, with_clause, with_constraint, with_part, as_written, PartsAddUp}
+use Rattle.problem_form.proofs.Common.{nat_tests, ◌≡◌, ℕ, arith, refl, sym, ap, ◌∙◌, List, [], ◌∷◌, ◌++◌, append-nil, append_assoc, fold, map, ints, flat_map_more, map-append, fold-map, total_by-append, Product, Clause, Constraint, ProblemContent, Part, Widened, AddedProduct, AddedClause, AddedConstraint, kept_product, product_constant, kept_clause, clause_constant, normal_constraint, normal_form, blank, with_variables, with_product, with_clause, with_constraint, with_part, as_written, PartsAddUp}
 
 -- ---- one part
 
 product_added : (p : ProblemContent) (t : Product)
     → with_product (normal_form p) t ≡ normal_form (as_written p (AddedProduct t))
 product_added p t =
-    let constant :
-    p.constant
-    +ℤ total_by product_constant p.objective
-    +ℤ total_by clause_constant p.clauses
-    +ℤ product_constant t ≡ p.constant
-    +ℤ total_by product_constant (p.objective ++ t ∷ [])
-    +ℤ total_by clause_constant p.clauses =
+    let constant : (with_product (normal_form p) t).constant ≡ (normal_form (as_written p (AddedProduct t))).constant =
     omega (arith, ints, total_by-append product_constant p.objective (t ∷ [])) in
     λ i. record (normal_form p) {
       constant = constant i;
@@ -24,13 +18,7 @@ product_added p t =
 clause_added : (p : ProblemContent) (c : Clause)
     → with_clause (normal_form p) c ≡ normal_form (as_written p (AddedClause c))
 clause_added p c =
-    let constant :
-    p.constant
-    +ℤ total_by product_constant p.objective
-    +ℤ total_by clause_constant p.clauses
-    +ℤ clause_constant c ≡ p.constant
-    +ℤ total_by product_constant p.objective
-    +ℤ total_by clause_constant (p.clauses ++ c ∷ []) =
+    let constant : (with_clause (normal_form p) c).constant ≡ (normal_form (as_written p (AddedClause c))).constant =
     omega (arith, ints, total_by-append clause_constant p.clauses (c ∷ [])) in
     λ i. record (normal_form p) {
       constant = constant i;

@@ -1,5 +1,5 @@
 -- The binary digits of a number, and its leading zeros.
-use Rattle.problem_form.proofs.Common.{nat_tests, ◌≡◌, ℕ, zero, suc, ◌+◌, ◌-◌, ◌*◌, ◌<◌, ◌≤◌, ◌^◌, min, Bool, leb, cond, arith, ap, inl, inr, count_leading_zeros, cases_lt, le-leb, lt-leb, leading_length, pow-suc, pow-zero, pow-le-pow_right, powers_within, binary_digits, DigitsAreLeast}
+use Rattle.problem_form.proofs.Common.{nat_tests, ◌≡◌, ℕ, zero, suc, ◌+◌, ◌-◌, ◌*◌, ◌<◌, ◌≤◌, ◌^◌, min, arith, inl, inr, count_leading_zeros, cases_lt, leading_length, pow-suc, pow-zero, pow-le-pow_right, powers_within, binary_digits, DigitsAreLeast}
 
 doubled : (k : ℕ) → 2 ^ suc k ≡ 2 * 2 ^ k
 doubled k = rw pow-suc (omega arith)
@@ -11,30 +11,14 @@ below_power (suc k) = omega (arith, doubled k, below_power k)
 power-le : (i j : ℕ) → i ≤ j → 2 ^ i ≤ 2 ^ j
 power-le i j h = pow-le-pow_right {n = 2} (omega arith) h
 
-abbrev one_if : Bool → ℕ
-one_if b = cond b 1 0
-
-counted : (a n : ℕ) → a ≤ n → one_if (leb a n) ≡ 1
-counted a n h = ap one_if (le-leb a n h)
-
-not_counted : (a n : ℕ) → n < a → one_if (leb a n) ≡ 0
-not_counted a n h = ap one_if (lt-leb a n h)
-
 -- where m digits hold n and one fewer do not, the powers of 2 up to n are the first m
 powers_are : (n m : ℕ) → n < 2 ^ m → 2 ^ m ≤ 2 * n + 1 → (k : ℕ) → powers_within k n ≡ min k m
 powers_are n m above below zero = omega arith
 powers_are n m above below (suc k) =
+    let before = powers_are n m above below k in
     elim (cases_lt k m) [
-      | inl early ↦ omega (
-        arith,
-        powers_are n m above below k,
-        counted (2 ^ k) n (omega (arith, power-le (suc k) m (omega arith), doubled k)),
-      )
-      | inr late ↦ omega (
-        arith,
-        powers_are n m above below k,
-        not_counted (2 ^ k) n (omega (arith, power-le m k late)),
-      )
+      | inl early ↦ let more = power-le (suc k) m (omega arith) in grind (arith, nat_tests, doubled k)
+      | inr late ↦ let more = power-le m k late in grind (arith, nat_tests)
     ]
 
 few_digits : (n m : ℕ) → 2 ^ m ≤ 2 * n + 1 → m ≤ n

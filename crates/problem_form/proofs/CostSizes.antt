@@ -1,5 +1,5 @@
 -- Sums over products and clauses lie within the sizes of their numbers.
-use Rattle.problem_form.proofs.Common.{nat_tests, ◌≡◌, ℕ, ◌+◌, ◌≤◌, Bool, true, false, arith, ap, if◌then◌else◌, List, [], ◌∷◌, ℤ, pos, ◌+ℤ◌, unsigned_abs, sum_by, list_any, sum_by-le-sum_by, total_by, if_so, size-total_by, Product, Clause, Literal, all_hold, ProblemContent, fails, fails_hard, own_cost, problem_total, product_value, sum_of, is_violated, soft_cost, soft_weight, products_total, is_empty, product_constant}
+use Rattle.problem_form.proofs.Common.{nat_tests, ◌≡◌, ℕ, ◌+◌, ◌≤◌, Bool, true, false, arith, ap, List, [], ℤ, pos, ◌+ℤ◌, unsigned_abs, sum_by, list_any, sum_by-le-sum_by, total_by, if_so, size-total_by, Product, Clause, all_hold, ProblemContent, fails, fails_hard, own_cost, problem_total, product_value, sum_of, is_violated, soft_cost, soft_weight, products_total, is_empty, product_constant}
 use Rattle.base.specs.declared.costs.Cost.TheVariants.{Whole}
 
 if_so-size : (b : Bool) (c : ℤ) → unsigned_abs (if_so b c) ≤ unsigned_abs c
@@ -16,13 +16,8 @@ pub product-size : (x : List Bool) (t : Product)
     → unsigned_abs (product_value x t) ≤ unsigned_abs t.coefficient
 product-size x t = if_so-size (all_hold x t.literals) t.coefficient
 
-empty-size : (ls : List Literal) (c : ℤ)
-    → unsigned_abs (if is_empty ls then c else pos 0) ≤ unsigned_abs c
-empty-size [] c = omega arith
-empty-size (l ∷ ls) c = omega arith
-
 pub constant-size : (t : Product) → unsigned_abs (product_constant t) ≤ unsigned_abs t.coefficient
-constant-size t = empty-size t.literals t.coefficient
+constant-size t = if_so-size (is_empty t.literals) t.coefficient
 
 pub clause-size : (x : List Bool) (c : Clause) → unsigned_abs (soft_cost x c) ≤ soft_weight c
 clause-size x c = if_so-size (is_violated x c) (pos (soft_weight c))

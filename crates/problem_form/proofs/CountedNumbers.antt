@@ -1,6 +1,6 @@
 -- The numbers that are counted against limits, and arithmetic that stops at the greatest of 128
 -- bits.
-use Rattle.problem_form.proofs.Common.{nat_tests, ◌≡◌, Bool, true, false, cond, leb, ℕ, zero, suc, ◌+◌, ◌-◌, ◌*◌, ◌<◌, ◌≤◌, ◌^◌, min, max, arith, refl, sym, ap, ◌∙◌, List, [], ◌∷◌, fold, ℤ, pos, negsuc, ◌-ℤ◌, unsigned_abs, int_max, flat_map, ints, int_max_is, cases_lt, le-leb, lt-leb, fold-append, sum_by-le-sum_by, pow-zero, pow-suc, pow-le-pow_right, positive_part, Product, Constraint, products_total, constraint_total, answered_number, positive_total, slack_range}
+use Rattle.problem_form.proofs.Common.{nat_tests, ◌≡◌, cond, leb, ℕ, zero, suc, ◌+◌, ◌-◌, ◌*◌, ◌<◌, ◌≤◌, ◌^◌, min, max, arith, refl, sym, ◌∙◌, List, [], ◌∷◌, fold, ℤ, pos, negsuc, ◌-ℤ◌, unsigned_abs, int_max, flat_map, ints, int_max_is, cases_lt, le-leb, fold-append, sum_by-le-sum_by, pow-zero, pow-suc, pow-le-pow_right, positive_part, Product, Constraint, products_total, constraint_total, answered_number, positive_total, slack_range}
 
 pub fold_flat_map : {A B C : Type 0} (f : C → B → C) (g : A → List B) (start : C) (xs : List A)
     → fold f start (flat_map g xs) ≡ fold (λ most x. fold f most (g x)) start xs
@@ -47,20 +47,10 @@ pub positive_total-le : (products : List Product) → positive_total products �
 positive_total-le products = grind (arith, nat_tests, sum_by-le-sum_by, positive_part-le)
 
 pub slack_range-le : (k : Constraint) → slack_range k ≤ constraint_total k
-slack_range-le k = go k.exact
-  where
-    rest : (m b : ℕ) (z : ℤ) → unsigned_abs z ≤ b → positive_part (pos m -ℤ z) ≤ m + b
-    rest m b z h = omega (arith, ints, positive_part-le (pos m -ℤ z))
-
-    go : (exact : Bool) → cond exact 0 (positive_part (pos (positive_total k.products) -ℤ k.bound))
-        ≤ constraint_total k
-    go true = omega arith
-    go false =
-        omega (
-          arith,
-          positive_total-le k.products,
-          rest (positive_total k.products) (unsigned_abs k.bound) k.bound (omega arith),
-        )
+slack_range-le k =
+    let most = positive_total-le k.products in
+    let rest = positive_part-le (pos (positive_total k.products) -ℤ k.bound) in
+    grind (arith, nat_tests, ints)
 
 -- ---- squares
 
@@ -102,7 +92,5 @@ pub squared_spread : (n d s q t four r : ℕ) → s ≡ answered_number n → q 
     → r ≡ answered_number (n ^ 2 * cond (leb d 1) 1 (4 * d ^ 2))
 squared_spread n d s q t four r at_s at_q high at_t at_four at_r =
     let turned : t * 4 ≡ 4 * d ^ 2 = omega arith in
-    at_r
-    ∙ (λ i. answered_number (answered_number-squared n s q at_s at_q i * (at_four ∙ ap answered_number turned) i))
-    ∙ answered_number-product (n ^ 2) (4 * d ^ 2)
-    ∙ ap (λ b. answered_number (n ^ 2 * cond b 1 (4 * d ^ 2))) (sym (lt-leb d 1 high))
+    let square = answered_number-squared n s q at_s at_q in
+    grind (arith, nat_tests, answered_number-product (n ^ 2) (4 * d ^ 2))

@@ -1,6 +1,6 @@
 -- Constraints whose products lie one after another: more products leave them as they are, and one
 -- more constraint.
-use Rattle.problem_form.proofs.Common.{nat_tests, ◌≡◌, ◌+◌, ◌≤◌, arith, refl, sym, ap, subst, ◌∙◌, List, [], ◌∷◌, ◌++◌, length, length-append, map, take, drop, All, slice_range, take-append-drop, map-append, All-append, All-cons, All-nil, All-tail, take-append_seam, Product, Row, constraint_of, LiesWithin, slice_range-append, slice_range-last}
+use Rattle.problem_form.proofs.Common.{nat_tests, ◌≡◌, ◌+◌, arith, refl, sym, ap, ◌∙◌, List, [], ◌∷◌, ◌++◌, length, length-append, map, take, drop, All, slice_range, take-append-drop, map-append, All-tail, take-append_seam, Product, Row, constraint_of, LiesWithin, slice_range-append, slice_range-last, All-push}
 
 -- ---- more products
 
@@ -30,10 +30,8 @@ pub rows_within : (products products' : List Product) (rows : List Row)
     → take (length products) products' ≡ products → All (LiesWithin (length products)) rows
     → All (LiesWithin (length products')) rows
 rows_within products products' rows before within =
-    let count : length products + length (drop (length products) products') ≡ length products' =
-    sym (length-append products (drop (length products) products'))
-    ∙ ap length (begun products products' before) in
-    λ k d h. ((within k d h).0, omega (arith, (within k d h).1, count))
+    let all = ap length (begun products products' before) in
+    λ k d h. ((within k d h).0, omega (arith, (within k d h).1, length-append {A = Product}))
 
 -- ---- one more constraint
 
@@ -55,17 +53,9 @@ pub rows_pushed-within : (products kept products' : List Product) (rows rows' : 
     → row.end ≡ length products' → All (LiesWithin (length products)) rows
     → All (LiesWithin (length products')) rows'
 rows_pushed-within products kept products' rows rows' row at_products at_rows starts ends within =
-    let before : take (length products) products' ≡ products =
-    ap (take (length products)) at_products ∙ take-append_seam products kept in
-    let longer : length products ≤ length products' =
-    omega (arith, ap length at_products, length-append products kept) in
+    let before : take (length products) products' ≡ products = rw (at_products, take-append_seam) refl in
+    let longer = ap length at_products in
     let one : LiesWithin (length products') row =
-    (omega (arith, starts, ends, longer), omega (arith, ends)) in
+    (omega (arith, starts, ends, longer, length-append products kept), omega (arith, ends)) in
     let P : Row → Type 0 = LiesWithin (length products') in
-    let both : All P (rows ++ row ∷ []) =
-    All-append P rows (row ∷ []) (rows_within products products' rows before within)
-    (All-cons P row [] one (All-nil P)) in
-    let AllOf : List Row → Type 0 = All P in
-    subst AllOf (sym at_rows) both
-
--- ---- an answer that is an error
+    rw at_rows (All-push P rows row (rows_within products products' rows before within) one)

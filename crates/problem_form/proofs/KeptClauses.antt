@@ -1,5 +1,5 @@
 -- Clauses in normal form: what is kept of one, and what it adds to the sizes of a problem.
-use Rattle.problem_form.proofs.Common.{nat_tests, ◌≡◌, ◌≢◌, ℕ, ◌+◌, ◌<◌, ◌≤◌, ◌^◌, Bool, true, false, cond, ◌||◌, eqb, arith, refl, sym, ap, subst, ◌∙◌, List, [], ◌∷◌, length, Option, Some, None, Result, Ok, Err, OnOk, OnErr, unsigned_abs, unwrap_or, All, sum_by, or_parts, or_left, or_right, or_from, eqb-false, All-append, All-cons, All-nil, sum_by-append, eqb-suc-zero, size-plus, Literal, Clause, has_clash, with_literal, literal_set, IsLiteralSet, IsSound, ProblemContent, IsNormal, IsNormalClause, soft_weight, problem_total, is_empty, is_plain_cost, kept_clause, clause_constant, weight_constant, with_clause, literal_set-ascends, has_clash-literal_set, All-literal_set}
+use Rattle.problem_form.proofs.Common.{nat_tests, ◌≡◌, ◌≢◌, ℕ, ◌+◌, ◌<◌, ◌≤◌, ◌^◌, Bool, true, false, cond, ◌||◌, eqb, arith, refl, sym, ap, subst, ◌∙◌, List, [], ◌∷◌, length, Option, Some, None, Result, Ok, Err, OnOk, OnErr, unsigned_abs, unwrap_or, All, sum_by, or_parts, or_left, or_right, or_from, eqb-false, All-append, All-cons, All-nil, sum_by-append, eqb-suc-zero, size-plus, Literal, Clause, has_clash, with_literal, literal_set, IsLiteralSet, IsSound, ProblemContent, IsNormal, IsNormalClause, soft_weight, problem_total, is_empty, is_plain_cost, kept_clause, clause_constant, weight_constant, with_clause, literal_set-ascends, has_clash-literal_set, All-literal_set, ◌++◌, append-nil}
 
 -- ---- a list and its set
 
@@ -117,6 +117,17 @@ pub with_clause-sound : (p : ProblemContent) (c : Clause) → IsSound p
     → problem_total p + soft_weight c < 2 ^ 100 → IsSound (with_clause p c)
 with_clause-sound p c sound within small =
     (with_clause-normal p c sound.0 within, omega (arith, with_clause-total p c))
+
+-- what follows of a sound problem that is seen holds of what its fields say
+pub at_view : (P : ProblemContent → Type 0) (fields seen : ProblemContent) → fields ≡ seen
+    → (IsSound seen → P seen) → IsSound fields → P fields
+at_view P fields seen same here sound =
+    let Sound : ProblemContent → Type 0 = IsSound in
+    subst P (sym same) (here (subst Sound same sound))
+
+-- nothing is kept
+pub as_before : {A : Type 0} (xs ys : List A) → [] ≡ ys → xs ≡ xs ++ ys
+as_before xs ys none = sym (append-nil xs) ∙ ap (λ zs. xs ++ zs) none
 
 -- a value that a call sets where it succeeds, and leaves where it fails
 pub by_result : {T E A : Type 0} (r : Result T E) (P : A → Type 0) (new set left : A)

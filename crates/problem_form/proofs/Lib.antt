@@ -11,3 +11,4 @@ pub mod WeighedParts
 pub mod LeftSums
 pub mod HeldConstraints
 pub mod KeptPairs
+mod Lemmas

@@ -2,7 +2,7 @@
 --
 -- The set of a list passes the same tests as the list. A literal and its complement are never both
 -- true and never both false, so a clash makes a product 0 and a clause true.
-use Rattle.problem_form.proofs.Common.{nat_tests, ◌≡◌, ℕ, Bool, true, false, cond, not, ◌&&◌, ◌||◌, arith, refl, sym, ap, ◌∙◌, List, [], ◌∷◌, map, get_or, length, Option, Some, None, is_none, ℤ, pos, ◌+ℤ◌, ◌-ℤ◌, int_lt, int_eq, list_any, flat_map, ints, eqb-true, Any-from_list_any, list_any-append, list_all_at, list_any_at, if◌then◌else◌, ◌<◌, unwrap_or, total_by, if_so, total_by-append, Literal, Product, Clause, Constraint, holds, all_hold, some_holds, are_opposite, has_clash, literal_set, product_value, sum_of, soft_cost, fails_hard, fails, cut_off, is_empty, kept_product, product_constant, is_plain_cost, kept_clause, weight_constant, clause_constant, normal_constraint, NormalFormKeepsCosts, list_any-literal_set, list_all-literal_set}
+use Rattle.problem_form.proofs.Common.{nat_tests, ◌≡◌, ℕ, Bool, true, false, cond, not, ◌&&◌, ◌||◌, arith, refl, sym, ap, ◌∙◌, List, [], ◌∷◌, map, get_or, length, Option, Some, None, is_none, ℤ, pos, ◌+ℤ◌, ◌-ℤ◌, int_lt, int_eq, list_any, flat_map, ints, eqb-true, Any-from_list_any, list_any-append, list_all_at, list_any_at, if◌then◌else◌, ◌<◌, unwrap_or, total_by, if_so, total_by-append, Literal, Product, Clause, Constraint, holds, all_hold, some_holds, are_opposite, has_clash, literal_set, product_value, sum_of, soft_cost, fails_hard, fails, cut_off, is_empty, kept_product, product_constant, is_plain_cost, kept_clause, weight_constant, clause_constant, normal_constraint, NormalFormKeepsCosts, list_any-literal_set, list_all-literal_set, ProblemContent, normal_form}
 use Rattle.base.specs.declared.costs.Cost.TheVariants.{Whole, Infinite}
 
 -- ---- a literal and its complement
@@ -48,13 +48,13 @@ product_parts : (x : List Bool) (ls : List Literal) (c : ℤ) (clash zero empty 
     +ℤ sum_of x (if clash || zero || empty
     then []
     else record { literals = literal_set ls; coefficient = c } ∷ [])
-product_parts x ls c true zero true e f g =
-    let none = ap has_clash (empty_is ls g) in absurd cc
-product_parts x ls c true zero false e f g = rw ((clash_values x ls e).some_false) refl
-product_parts x ls c false true true e f g =
-    rw (ap (all_hold x) (empty_is ls g)) (omega (arith, ints))
-product_parts x ls c false false true e f g =
-    rw (ap (all_hold x) (empty_is ls g)) (omega (arith, ints))
+product_parts x ls c true zero empty e f g =
+    let none = empty_is ls in
+    let clash = clash_values x ls e in
+    grind (arith, nat_tests, ints)
+product_parts x ls c false zero true e f g =
+    let empty : all_hold x ls ≡ true = ap (all_hold x) (empty_is ls g) in
+    grind (arith, nat_tests, ints)
 product_parts x ls c false true false e f g =
     ap (if_so (all_hold x ls)) (f refl) ∙ if_so-zero (all_hold x ls)
 product_parts x ls c false false false e f g =
@@ -69,13 +69,8 @@ pub sum_of-kept : (x : List Bool) (ts : List Product)
     → sum_of x ts ≡ total_by product_constant ts +ℤ sum_of x (flat_map kept_product ts)
 sum_of-kept x [] = refl
 sum_of-kept x (t ∷ ts) =
-    omega (
-      arith,
-      ints,
-      kept_product-value x t,
-      sum_of-kept x ts,
-      total_by-append (product_value x) (kept_product t) (flat_map kept_product ts),
-    )
+    let both = total_by-append (product_value x) (kept_product t) (flat_map kept_product ts) in
+    omega (arith, ints, kept_product-value x t, sum_of-kept x ts)
 
 -- ---- clauses
 
@@ -126,13 +121,8 @@ pub soft_cost-kept : (x : List Bool) (cs : List Clause) → total_by (soft_cost 
     ≡ total_by clause_constant cs +ℤ total_by (soft_cost x) (flat_map kept_clause cs)
 soft_cost-kept x [] = refl
 soft_cost-kept x (c ∷ cs) =
-    omega (
-      arith,
-      ints,
-      kept_clause-cost x c,
-      soft_cost-kept x cs,
-      total_by-append (soft_cost x) (kept_clause c) (flat_map kept_clause cs),
-    )
+    let both = total_by-append (soft_cost x) (kept_clause c) (flat_map kept_clause cs) in
+    omega (arith, ints, kept_clause-cost x c, soft_cost-kept x cs)
 
 -- ---- constraints
 
@@ -155,11 +145,9 @@ list_any-constraints x (k ∷ ks) = λ i. normal_constraint-fails x k i || list_
 
 pub normal_form-cost : NormalFormKeepsCosts
 normal_form-cost p x =
-    let whole :
-    (p.constant +ℤ total_by product_constant p.objective +ℤ total_by clause_constant p.clauses)
-    +ℤ sum_of x (flat_map kept_product p.objective)
-    +ℤ total_by (soft_cost x) (flat_map kept_clause p.clauses)
-    ≡ p.constant +ℤ sum_of x p.objective +ℤ total_by (soft_cost x) p.clauses =
+    let value : ProblemContent → ℤ =
+    λ q. q.constant +ℤ sum_of x q.objective +ℤ total_by (soft_cost x) q.clauses in
+    let whole : value (normal_form p) ≡ value p =
     omega (arith, ints, sum_of-kept x p.objective, soft_cost-kept x p.clauses) in
     λ i. cut_off p.most (if list_any-kept x p.clauses i || list_any-constraints x p.constraints i
     then Infinite

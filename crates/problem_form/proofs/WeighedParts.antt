@@ -1,9 +1,8 @@
 -- What is made of two lists, place by place: its length, an element, and one more.
-use Rattle.problem_form.proofs.Common.{◌≡◌, ◌≢◌, ℕ, zero, suc, ◌<◌, ◌≤◌, List, [], ◌∷◌, ◌++◌, length, get_or, refl, ap, arith, Some, map, neg_ℤ, ℤ, unsigned_abs, All, Result, Ok, Err, OnOk, AllByRecursion, All-from_recursion, recursion_from_All, Literal, Product, negated, slice_get, replicate, zip_with, clause_of, weight_of, weighed_clauses, product_of}
+use Rattle.problem_form.proofs.Common.{◌≡◌, ◌≢◌, ℕ, zero, suc, ◌<◌, ◌≤◌, List, [], ◌∷◌, ◌++◌, length, get_or, refl, ap, arith, Some, map, neg_ℤ, ℤ, unsigned_abs, All, Result, Ok, Err, OnOk, Literal, Product, negated, slice_get, replicate, zip_with, clause_of, weight_of, weighed_clauses, product_of, subst, All-map}
 
 pub length-zip_with : {A B C : Type 0} → (f : A → B → C) (xs : List A) (ys : List B) → length xs ≡ length ys → length (zip_with f xs ys) ≡ length ys
-length-zip_with f [] [] same = refl
-length-zip_with f [] (y ∷ ys) same = same
+length-zip_with f [] ys same = same
 length-zip_with f (x ∷ xs) [] same = absurd (omega (arith, same))
 length-zip_with f (x ∷ xs) (y ∷ ys) same = ap suc (length-zip_with f xs ys (omega (arith, same)))
 
@@ -95,22 +94,14 @@ zip_with-negated (ls ∷ lists) [] = refl
 zip_with-negated (ls ∷ lists) (c ∷ cs) =
     ap (λ others. product_of ls (neg_ℤ c) ∷ others) (zip_with-negated lists cs)
 
-small_coefficients : (n : ℕ) (lists : List (List Literal)) (cs : List ℤ) → length lists ≡ length cs
-    → AllByRecursion (λ (t : Product). unsigned_abs t.coefficient < n) (zip_with product_of lists cs)
-    → AllByRecursion (λ c. unsigned_abs c < n) cs
-small_coefficients n [] [] same h = tt
-small_coefficients n [] (c ∷ cs) same h = absurd (omega (arith, same))
-small_coefficients n (ls ∷ lists) [] same h = tt
-small_coefficients n (ls ∷ lists) (c ∷ cs) same h =
-    (h.0, small_coefficients n lists cs (omega (arith, same)) h.1)
-
 -- the coefficients are as small as those of the products
 pub coefficients-small : (n : ℕ) (lists : List (List Literal)) (cs : List ℤ) → length lists ≡ length cs
     → All (λ (t : Product). unsigned_abs t.coefficient < n) (zip_with product_of lists cs)
     → All (λ c. unsigned_abs c < n) cs
 coefficients-small n lists cs same h =
-    All-from_recursion (λ c. unsigned_abs c < n) cs (small_coefficients n lists cs same
-    (recursion_from_All (λ (t : Product). unsigned_abs t.coefficient < n) (zip_with product_of lists cs) h))
+    let Small : ℤ → Type 0 = λ c. unsigned_abs c < n in
+    subst (λ (ks : List ℤ). All Small ks) (map-coefficients lists cs same)
+    (All-map Small (λ (t : Product). t.coefficient) (zip_with product_of lists cs) h)
 
 -- what follows where a call succeeds
 pub on_ok : {T E P Q : Type 0} (r : Result T E) → (P → Q) → OnOk r P → OnOk r Q

@@ -74,7 +74,7 @@ fn keep_alike(clauses: &mut ClauseList, first: Literal, second: Literal) -> Resu
 
 /// Two literals of two variables in order.
 #[inline(always)]
-fn in_order(first: Literal, second: Literal) -> (Literal, Literal)
+pub(crate) fn in_order(first: Literal, second: Literal) -> (Literal, Literal)
     requires { first.variable ≢ second.variable }
     ensures { result.0 ∷ result.1 ∷ [] ≡ literal_set (first ∷ second ∷ []) }
 {

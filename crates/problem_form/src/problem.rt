@@ -7,7 +7,7 @@ use crate::clause_list::ClauseList;
 use crate::clauses::{keep_clause, keep_literal, keep_pair, weight_constant};
 use crate::constraint_list::ConstraintList;
 use crate::product_list::ProductList;
-use crate::products::{coefficient_constant, keep_product};
+use crate::products::{coefficient_constant, keep_product, keep_weighed, keep_weighed_pair};
 use crate::terms::Constraint;
 use base::NoMemory;
 use literal_lists::Literal;
@@ -104,6 +104,48 @@ impl Problem {
         kept?;
         self.constant += constant;
         Ok(())
+    }
+
+    /// Adds a number to the objective: a product without literals. It takes no memory.
+    #[inline(always)]
+    pub fn add_number(&mut self, coefficient: i128)
+        requires { problem_total self.old + unsigned_abs coefficient < 2 ^ 100 }
+        ensures { self.new ≡ with_product self.old
+            (record { literals = []; coefficient = coefficient }) }
+    {
+        self.constant += coefficient;
+    }
+
+    /// Adds a number times a literal to the objective, in normal form. Where memory is refused the
+    /// problem stays as it was.
+    #[inline(always)]
+    pub fn add_weighed(&mut self, literal: Literal, coefficient: i128) -> Result<(), NoMemory>
+        requires within { literal.variable < self.old.variables }
+        requires small { problem_total self.old + unsigned_abs coefficient < 2 ^ 100 }
+        ensures added { OnOk result (self.new ≡ with_product self.old
+            (record { literals = literal ∷ []; coefficient = coefficient })) }
+        ensures unchanged { OnErr result (self.new ≡ self.old) }
+    {
+        keep_weighed(&mut self.objective, literal, coefficient)
+    }
+
+    /// Adds a number times two literals to the objective, in normal form. Where memory is refused the
+    /// problem stays as it was.
+    #[inline(always)]
+    pub fn add_weighed_pair(
+        &mut self,
+        first: Literal,
+        second: Literal,
+        coefficient: i128,
+    ) -> Result<(), NoMemory>
+        requires first { first.variable < self.old.variables }
+        requires second { second.variable < self.old.variables }
+        requires small { problem_total self.old + unsigned_abs coefficient < 2 ^ 100 }
+        ensures added { OnOk result (self.new ≡ with_product self.old
+            (record { literals = first ∷ second ∷ []; coefficient = coefficient })) }
+        ensures unchanged { OnErr result (self.new ≡ self.old) }
+    {
+        keep_weighed_pair(&mut self.objective, first, second, coefficient)
     }
 
     /// Adds the clause of literals as written, in normal form. The literals are put in order in

@@ -1,5 +1,5 @@
 //! Products in normal form, and the sums of constraints.
-ghost use Rattle.std.specs.Prelude.{◌≡◌, ◌==◌, if◌then◌else◌, pos, ◌<◌, ◌^◌, ◌||◌, ◌++◌, OnOk, OnErr, length, take};
+ghost use Rattle.std.specs.Prelude.{◌≡◌, ◌∷◌, [], ◌==◌, if◌then◌else◌, pos, ◌<◌, ◌^◌, ◌||◌, ◌++◌, OnOk, OnErr, length, take};
 ghost use Rattle.std.specs.List.{flat_map};
 ghost use Rattle.std.specs.List.Sorted.{IsStrictlySortedBy};
 ghost use Rattle.base.specs.Sums.{total_by};
@@ -7,6 +7,7 @@ ghost use Rattle.literal_lists.specs.Literals.{has_clash, literal_cmp};
 ghost use Rattle.problem_form.specs.NormalForm.{is_empty, kept_product, normal_constraint, product_constant};
 ghost use Rattle.problem_form.specs.Problems.{constraint_total, products_total};
 
+use crate::clauses::in_order;
 use crate::product_list::{ProductList, ProductRef};
 use crate::terms::Constraint;
 use base::NoMemory;
@@ -54,6 +55,65 @@ pub(crate) fn keep_product(
         return Ok(());
     }
     products.push(literals, coefficient)
+}
+
+/// Appends a number times a literal in normal form, where it is kept. Where memory is refused the
+/// list stays as it was.
+#[inline(always)]
+pub(crate) fn keep_weighed(
+    products: &mut ProductList,
+    literal: Literal,
+    coefficient: i128,
+) -> Result<(), NoMemory>
+    ensures kept { OnOk result (products.new ≡ products.old
+        ++ kept_product (record { literals = literal ∷ []; coefficient = coefficient })) }
+    ensures unchanged { OnErr result (products.new ≡ products.old) }
+{
+    if coefficient == 0 {
+        return Ok(());
+    }
+    products.push(&[literal], coefficient)
+}
+
+/// Appends a number times two literals of one variable, where they are not opposite.
+fn keep_alike(
+    products: &mut ProductList,
+    first: Literal,
+    second: Literal,
+    coefficient: i128,
+) -> Result<(), NoMemory>
+    requires { first.variable ≡ second.variable }
+    ensures kept { OnOk result (products.new ≡ products.old
+        ++ kept_product (record { literals = first ∷ second ∷ []; coefficient = coefficient })) }
+    ensures unchanged { OnErr result (products.new ≡ products.old) }
+{
+    if first.negated != second.negated {
+        return Ok(());
+    }
+    keep_weighed(products, first, coefficient)
+}
+
+/// Appends a number times two literals in normal form, where it is kept. Where memory is refused the
+/// list stays as it was.
+#[inline(always)]
+pub(crate) fn keep_weighed_pair(
+    products: &mut ProductList,
+    first: Literal,
+    second: Literal,
+    coefficient: i128,
+) -> Result<(), NoMemory>
+    ensures kept { OnOk result (products.new ≡ products.old
+        ++ kept_product (record { literals = first ∷ second ∷ []; coefficient = coefficient })) }
+    ensures unchanged { OnErr result (products.new ≡ products.old) }
+{
+    if coefficient == 0 {
+        return Ok(());
+    }
+    if first.variable == second.variable {
+        return keep_alike(products, first, second, coefficient);
+    }
+    let (low, high) = in_order(first, second);
+    products.push(&[low, high], coefficient)
 }
 
 /// Appends the products as written in normal form, where they are kept. Where memory is refused the

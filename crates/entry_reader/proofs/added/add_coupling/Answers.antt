@@ -1,11 +1,11 @@
 use Rattle.entry_reader.proofs.Common.{ints, nat_tests, ◌∷◌, ◌+◌, ◌*◌, ◌≤◌, [], pos, negsuc, nat_abs, ◌*ℤ◌, rules, arith, w128, to_z-of_z, on_ok_weaker, problem_total, times}
 use Rattle.entry_reader.proofs.Totals.{abs_four, abs_less, three_within}
-use Rattle.entry_reader.proofs.added.add_coupling.Goals.{In_ok-add_product-3}
+use Rattle.entry_reader.proofs.added.add_coupling.Goals.{In_ok-add_single}
 use Rattle.entry_reader.proofs.added.add_coupling.Goals as goal
 
 -- what the first three products added
-three : (c : In_ok-add_product-3)
-    → problem_total c.add_product-3.new.problem + nat_abs (negsuc 1 *ℤ c.args.coupling)
+three : (c : In_ok-add_single)
+    → problem_total c.add_single.new.problem + nat_abs (negsuc 1 *ℤ c.args.coupling)
     ≤ problem_total c.args.problem.now + 9 * nat_abs c.args.coupling
 three c =
     let coupling = c.args.coupling in
@@ -13,12 +13,12 @@ three c =
     let four = to_z-of_z w128 (pos 4 *ℤ coupling) (search rules) in
     let less = to_z-of_z w128 (negsuc 1 *ℤ coupling) (search rules) in
     three_within _ _ _ _ _ _ _ (abs_four coupling) (abs_less coupling)
-    (rw kept at c.in_ok-add_product.ensures.total)
-    (rw (kept, four) at c.in_ok-add_product-2.ensures.total)
-    (rw (kept, less) at c.in_ok-add_product-3.ensures.total)
+    (rw kept at c.add_number.ensures.total)
+    (rw (kept, four) at c.in_ok-add_pair.ensures.total)
+    (rw (kept, less) at c.in_ok-add_single.ensures.total)
 
-pub add_product-requires-4-clause-small : goal.add_product-requires-4-clause-small
-add_product-requires-4-clause-small c = grind (arith, nat_tests, ints, to_z-of_z, three)
+pub add_single-requires-2-clause-small : goal.add_single-requires-2-clause-small
+add_single-requires-2-clause-small c = grind (arith, nat_tests, ints, to_z-of_z, three)
 
 pub returns-clause-added : goal.returns-clause-added
 returns-clause-added c =

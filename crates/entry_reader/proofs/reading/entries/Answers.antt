@@ -19,7 +19,6 @@ loop-first-preserved c =
           all c.in_ok-entry.ensures.read before);
       variables = c.in_ok-add_entry.ensures.same ∙ c.loop-first.invariant.variables;
       nodes = c.in_ok-entry.ensures.same ∙ c.loop-first.invariant.nodes;
-      empty = c.in_ok-add_entry.ensures.emptied;
       small =
           let e = c.in_ok-entry.ensures in
           let total = c.in_ok-add_entry.ensures.total in

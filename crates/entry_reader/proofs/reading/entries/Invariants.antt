@@ -1,4 +1,4 @@
-use Rattle.entry_reader.proofs.Common.{◌≡◌, ◌+◌, ◌*◌, ◌^◌, ◌≤◌, length, [], problem_total, blank, with_variables, entries_at}
+use Rattle.entry_reader.proofs.Common.{◌≡◌, ◌+◌, ◌*◌, ◌^◌, ◌≤◌, length, problem_total, blank, with_variables, entries_at}
 use Rattle.entry_reader.proofs.Puttings.{read_into}
 use Rattle.entry_reader.proofs.reading.entries.Given as goal
 
@@ -11,7 +11,6 @@ invariant-loop-first l = record {
       (entries_at l.end l.fn.counts l.fn.words);
   variables : l.problem.variables ≡ l.fn.counts.nodes;
   nodes : l.to_come.nodes ≡ l.fn.counts.nodes;
-  empty : l.literals.items ≡ [];
   small : problem_total l.problem + length l.words * 2 ^ 68 ≤ length l.fn.words * 2 ^ 68;
 }
 

@@ -39,14 +39,9 @@ add_square-requires-clause-small g c =
     let n = c.args.factor in
     let k = c.in-Some.constraint in
     let size : Constraint → ℕ = λ j. n * reach j ^ 2 in
-    omega (
-      arith,
-      ap (λ (ts : List Term). n * terms_total ts ^ 2) c.in_ok-fill.ensures
-          ∙ ap (λ m. n * m ^ 2) (slack_form-total c.loop-constraint.next k),
-      c.loop-constraint.invariant.small,
-      ap (sum_by size) c.in-Some.ensures.steps,
-      sum_by-cons size k c.next.new.self,
-    )
+    let form = ap (λ (ts : List Term). n * terms_total ts ^ 2) c.in_ok-fill.ensures
+    ∙ ap (λ m. n * m ^ 2) (slack_form-total c.loop-constraint.next k) in
+    omega (arith, ap (sum_by size) c.in-Some.ensures.steps, sum_by-cons size k c.next.new.self)
 
 pub add_square-requires-clause-room : goal.add_square-requires-clause-room
 add_square-requires-clause-room g c =

@@ -12,13 +12,10 @@ loop-j-init g c = record {
 
 pub times-requires : goal.times-requires
 times-requires g c =
+    let a = unsigned_abs c.args.coefficient.now in
     let same : to_z w128 (of_z w128 c.at-other.result.1) ≡ c.at-other.result.1 = to_z-of_z w128 c.at-other.result.1 (search rules) in
-    omega (
-      arith,
-      ap (λ z. unsigned_abs c.args.coefficient.now * unsigned_abs z) same,
-      row_small (unsigned_abs c.args.coefficient.now) c.args.parts.now c.loop-j.j _ (2 ^ 97) c.at-other.ensures
-          c.loop-j.invariant.small,
-    )
+    let small = row_small a c.args.parts.now c.loop-j.j _ (2 ^ 97) c.at-other.ensures c.loop-j.invariant.small in
+    omega (arith, ap (λ z. a * unsigned_abs z) same)
 
 pub add_union-requires-clause-right : goal.add_union-requires-clause-right
 add_union-requires-clause-right g c =

@@ -7,11 +7,8 @@ squared-requires-clause-small g c =
     let n = c.args.factor in
     let a = c.at-coefficient.result.1 in
     let same : to_z w128 (of_z w128 a) ≡ a = to_z-of_z w128 a (search rules) in
-    omega (
-      arith,
-      ap (λ z. n * (unsigned_abs z * unsigned_abs z)) same,
-      square_small n c.args.parts.now c.loop-i.i _ (2 ^ 97) c.at-coefficient.ensures c.loop-i.invariant.small,
-    )
+    let small = square_small n c.args.parts.now c.loop-i.i _ (2 ^ 97) c.at-coefficient.ensures c.loop-i.invariant.small in
+    omega (arith, ap (λ z. n * (unsigned_abs z * unsigned_abs z)) same)
 
 pub gather-requires : goal.gather-requires
 gather-requires g c =
@@ -34,12 +31,8 @@ scaled-requires-clause-small g c =
     let n = c.args.factor in
     let a = c.at-coefficient.result.1 in
     let same : to_z w128 (of_z w128 a) ≡ a = to_z-of_z w128 a (search rules) in
-    omega (
-      arith,
-      ap (λ z. 2 * n * unsigned_abs z) same,
-      once_small n (unsigned_abs a),
-      square_small n c.args.parts.now c.loop-i.i _ (2 ^ 97) c.at-coefficient.ensures c.loop-i.invariant.small,
-    )
+    let small = square_small n c.args.parts.now c.loop-i.i _ (2 ^ 97) c.at-coefficient.ensures c.loop-i.invariant.small in
+    omega (arith, ap (λ z. 2 * n * unsigned_abs z) same, once_small n (unsigned_abs a))
 
 pub add_row-requires-clause-left : goal.add_row-requires-clause-left
 add_row-requires-clause-left g c =
@@ -53,12 +46,8 @@ add_row-requires-clause-small g c =
     let twice : to_z w128 (of_z w128 c.scaled.result) ≡ pos (2 * n) *ℤ a =
     to_z-of_z w128 c.scaled.result (search rules) ∙ c.scaled.ensures ∙ ap (λ z. pos (2 * n) *ℤ z) same in
     let left = terms_total (drop (c.loop-i.i + 1) c.args.parts.now) in
-    omega (
-      arith,
-      ap (λ z. unsigned_abs z * left) twice,
-      ap (λ m. m * left) (scaled_size (2 * n) a),
-      square_small n c.args.parts.now c.loop-i.i _ (2 ^ 97) c.at-coefficient.ensures c.loop-i.invariant.small,
-    )
+    let small = square_small n c.args.parts.now c.loop-i.i _ (2 ^ 97) c.at-coefficient.ensures c.loop-i.invariant.small in
+    omega (arith, ap (λ z. unsigned_abs z * left) twice, ap (λ m. m * left) (scaled_size (2 * n) a))
 
 pub add_row-requires-clause-room : goal.add_row-requires-clause-room
 add_row-requires-clause-room g c =

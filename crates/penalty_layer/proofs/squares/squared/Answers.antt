@@ -12,12 +12,7 @@ times-requires c =
     let a = c.args.a.now in
     let product : to_z w128 (of_z w128 c.scaled.result) ≡ pos n *ℤ a =
     to_z-of_z w128 c.scaled.result (search rules) ∙ c.scaled.ensures in
-    omega (
-      arith,
-      c.requires.small,
-      ap (λ z. unsigned_abs z * unsigned_abs a) product,
-      ap (λ m. m * unsigned_abs a) (scaled_size n a),
-    )
+    omega (arith, ap (λ z. unsigned_abs z * unsigned_abs a) product, ap (λ m. m * unsigned_abs a) (scaled_size n a))
 
 pub returns : goal.returns
 returns c =

@@ -19,8 +19,8 @@ loop-next-preserved c =
     let whole : to_z w128 (of_z w128 z) ≡ z = to_z-of_z w128 z (search rules) in
     let wide : c.widen.new.self ≡ with_variables p (length names) =
     c.widen.ensures ∙ ap (with_variables p) c.len.ensures in
-    let state : c.add_term.new.self ≡ with_product (with_variables p (length names)) t =
-    c.in_ok-add_term.ensures.added
+    let state : c.add_listed.new.problem ≡ with_product (with_variables p (length names)) t =
+    c.in_ok-add_listed.ensures.added
     ∙ (λ i. with_product (wide i) (record { literals = t.literals; coefficient = whole i })) in
     record {
       read = rw state (ap (λ (q : ProblemContent). products_put (q, names) rest)
@@ -31,7 +31,7 @@ loop-next-preserved c =
           let w = c.in_ok-coefficient.ensures in
           rw state (omega (arith, with_product-total, small, w.small, w.shorter));
       counted = rw state (search rules);
-      emptied = c.in_ok-add_term.ensures.emptied;
+      emptied = c.in_ok-add_listed.ensures.emptied;
     }
 
 pub returns : goal.returns

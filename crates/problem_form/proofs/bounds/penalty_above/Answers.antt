@@ -1,5 +1,4 @@
-use Rattle.problem_form.proofs.Common.{arith, ap, ◌∙◌, ◌≡◌, ◌-ℤ◌, ◌+ℤ◌, pos, max, to_z, of_z, w128, int_max, ints, positive_part}
-use Rattle.problem_form.proofs.CountedNumbers.{positive_part-raised}
+use Rattle.problem_form.proofs.Lemmas.{arith, ap, ◌∙◌, ◌≡◌, ◌-ℤ◌, ◌+ℤ◌, pos, max, to_z, of_z, w128, int_max, ints, positive_part, positive_part-raised}
 use Rattle.problem_form.proofs.bounds.penalty_above.Goals as goal
 
 pub returns : goal.returns

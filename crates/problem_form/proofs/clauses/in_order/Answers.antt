@@ -1,5 +1,5 @@
 use Rattle.std.proofs.Common.{arith}
-use Rattle.problem_form.proofs.KeptPairs.{in_order-greater, in_order-less}
+use Rattle.problem_form.proofs.Lemmas.{in_order-greater, in_order-less}
 use Rattle.problem_form.proofs.clauses.in_order.Goals as goal
 
 pub returns-then-first-second : goal.returns-then-first-second

@@ -1,5 +1,4 @@
-use Rattle.problem_form.proofs.Common.{arith, nat_tests, append-nil}
-use Rattle.problem_form.proofs.KeptPairs.{kept-opposite, kept-same}
+use Rattle.problem_form.proofs.Lemmas.{arith, nat_tests, append-nil, kept-opposite, kept-same}
 use Rattle.problem_form.proofs.clauses.keep_alike.Goals as goal
 
 pub returns-then-first-second-clause-kept : goal.returns-then-first-second-clause-kept

@@ -1,5 +1,4 @@
-use Rattle.problem_form.proofs.Common.{arith, nat_tests}
-use Rattle.problem_form.proofs.KeptPairs.{kept-alone}
+use Rattle.problem_form.proofs.Lemmas.{arith, nat_tests, kept-alone}
 use Rattle.problem_form.proofs.clauses.keep_literal.Goals as goal
 
 pub returns-clause-kept : goal.returns-clause-kept

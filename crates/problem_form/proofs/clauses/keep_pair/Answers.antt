@@ -1,5 +1,4 @@
-use Rattle.problem_form.proofs.Common.{nat_tests, arith}
-use Rattle.problem_form.proofs.KeptPairs.{kept-apart}
+use Rattle.problem_form.proofs.Lemmas.{nat_tests, arith, kept-apart}
 use Rattle.problem_form.proofs.clauses.keep_pair.Goals as goal
 
 pub returns-clause-kept : goal.returns-clause-kept

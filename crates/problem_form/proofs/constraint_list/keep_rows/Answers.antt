@@ -1,6 +1,5 @@
-use Rattle.problem_form.proofs.Common.{nat_tests}
+use Rattle.problem_form.proofs.Lemmas.{nat_tests, marked-moved, marked-passed}
 use Rattle.std.proofs.Common.{arith, length-set}
-use Rattle.problem_form.proofs.MarkedLists.{marked-moved, marked-passed}
 use Rattle.problem_form.proofs.constraint_list.keep_rows.Goals as goal
 use Rattle.problem_form.proofs.constraint_list.keep_rows.Goals.{then-kept-i, else-kept-i}
 

@@ -1,5 +1,4 @@
-use Rattle.problem_form.proofs.Common.{sum_by, total_by, soft_cost, soft_weight}
-use Rattle.problem_form.proofs.LeftSums.{Sums}
+use Rattle.problem_form.proofs.Lemmas.{sum_by, total_by, soft_cost, soft_weight, Sums}
 use Rattle.problem_form.proofs.costs.soft_costs.Given as goal
 
 -- the costs so far and those of the clauses that are left are the whole

@@ -1,5 +1,4 @@
-use Rattle.problem_form.proofs.Common.{unsigned_abs, Product, product_value, products_total, sum_of}
-use Rattle.problem_form.proofs.LeftSums.{Sums}
+use Rattle.problem_form.proofs.Lemmas.{unsigned_abs, Product, product_value, products_total, sum_of, Sums}
 use Rattle.problem_form.proofs.costs.sum_of_products.Given as goal
 
 -- the sum so far and that of the products that are left are the whole

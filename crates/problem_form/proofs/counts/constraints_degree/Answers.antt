@@ -1,5 +1,4 @@
-use Rattle.problem_form.proofs.Common.{rules, tests, ℕ, List, max, fold, map, length, sym, ◌∙◌, YieldsList-from_first, fold_from_yields_List, Constraint}
-use Rattle.problem_form.proofs.CountedNumbers.{fold_flat_map}
+use Rattle.problem_form.proofs.Lemmas.{rules, tests, ℕ, List, max, fold, map, length, sym, ◌∙◌, YieldsList-from_first, fold_from_yields_List, Constraint, fold_flat_map}
 use Rattle.problem_form.proofs.counts.constraints_degree.Goals as goal
 
 pub returns : goal.returns

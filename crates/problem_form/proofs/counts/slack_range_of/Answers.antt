@@ -1,5 +1,4 @@
-use Rattle.problem_form.proofs.Common.{nat_tests, arith, ap, ◌∙◌, ints, Constraint, positive_total}
-use Rattle.problem_form.proofs.CountedNumbers.{positive_total-le}
+use Rattle.problem_form.proofs.Lemmas.{nat_tests, arith, ap, ◌∙◌, ints, Constraint, positive_total, positive_total-le}
 use Rattle.problem_form.proofs.counts.slack_range_of.Goals as goal
 
 pub positive_coefficients-most-requires : goal.positive_coefficients-most-requires

@@ -1,6 +1,4 @@
-use Rattle.problem_form.proofs.Common.{arith, nat_tests, ℕ, ◌*◌, ◌^◌, Constraint, reach, constraint_total}
-use Rattle.problem_form.proofs.CountedNumbers.{answered_square}
-use Rattle.problem_form.proofs.LeftSums.{answered_left, answered_end, first_within, rest_within}
+use Rattle.problem_form.proofs.Lemmas.{arith, nat_tests, ℕ, ◌*◌, ◌^◌, Constraint, reach, constraint_total, answered_square, answered_left, answered_end, first_within, rest_within}
 use Rattle.problem_form.proofs.counts.squares.Goals as goal
 
 pub reach_of-reach-requires : goal.reach_of-reach-requires
@@ -13,11 +11,9 @@ loop-constraint-preserved c =
     c.reach_of-reach.ensures c.times-square.ensures c.times.ensures in
     let square : Constraint → ℕ = λ k. c.args.penalty * reach k ^ 2 in
     record {
-      counted = answered_left square c.loop-constraint.constraint-iterator c.next.new.self
-          c.in-Some.constraint c.loop-constraint.total _ _ _ c.in-Some.ensures.steps part
+      counted = answered_left square _ _ _ _ _ _ _ c.in-Some.ensures.steps part
           c.saturating_add-total.ensures c.loop-constraint.invariant.counted;
-      small = rest_within constraint_total _ _ _ _ c.in-Some.ensures.steps
-          c.loop-constraint.invariant.small;
+      small = rest_within constraint_total _ _ _ _ c.in-Some.ensures.steps c.loop-constraint.invariant.small;
     }
 
 pub returns : goal.returns

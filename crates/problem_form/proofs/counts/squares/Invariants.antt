@@ -1,5 +1,4 @@
-use Rattle.problem_form.proofs.Common.{◌<◌, ◌*◌, ◌^◌, sum_by, reach, constraint_total}
-use Rattle.problem_form.proofs.LeftSums.{Answered}
+use Rattle.problem_form.proofs.Lemmas.{◌<◌, ◌*◌, ◌^◌, sum_by, reach, constraint_total, Answered}
 use Rattle.problem_form.proofs.counts.squares.Given as goal
 
 -- the sum so far and that over the constraints that are left are the whole

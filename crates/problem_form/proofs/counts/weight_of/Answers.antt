@@ -1,5 +1,4 @@
-use Rattle.problem_form.proofs.Common.{◌≡◌, ◌∙◌, ◌+◌, ◌*◌, ◌^◌, ap, arith, count_by, is_none, unsigned_abs, sum_by, ints, Clause, Constraint, ProblemContent, answered_number, cost_size, penalty, reach}
-use Rattle.problem_form.proofs.CountedNumbers.{answered_sum_of_3}
+use Rattle.problem_form.proofs.Lemmas.{◌≡◌, ◌∙◌, ◌+◌, ◌*◌, ◌^◌, ap, arith, count_by, is_none, unsigned_abs, sum_by, ints, Clause, Constraint, ProblemContent, answered_number, cost_size, penalty, reach, answered_sum_of_3}
 use Rattle.problem_form.proofs.counts.weight_of.Goals as goal
 
 pub returns : goal.returns
@@ -7,15 +6,7 @@ returns c =
     let p = c.args.problem.now in
     let costs : c.unsigned_abs.result + c.cost_size-costs.result
     ≡ answered_number (unsigned_abs p.constant + cost_size p) =
-    omega (
-      arith,
-      ints,
-      c.unsigned_abs.ensures.value,
-      c.cost_size-costs.ensures.value,
-      c.cost_size-costs.ensures.small,
-      ap (λ (q : ProblemContent). unsigned_abs q.constant) c.problem.view_is,
-      c.problem.invariant.1,
-    ) in
+    omega (arith, ints, ap (λ (q : ProblemContent). unsigned_abs q.constant) c.problem.view_is) in
     let hard : c.saturating_mul-hard.result
     ≡ answered_number (penalty p * count_by (λ (k : Clause). is_none k.weight) p.clauses) =
     c.saturating_mul-hard.ensures ∙ (λ i. answered_number (c.penalty-penalty.ensures.value i

@@ -1,5 +1,4 @@
-use Rattle.problem_form.proofs.Common.{sum_by, clause_pairs}
-use Rattle.problem_form.proofs.LeftSums.{Answered}
+use Rattle.problem_form.proofs.Lemmas.{sum_by, clause_pairs, Answered}
 use Rattle.problem_form.proofs.pairs.clauses_pairs.Given as goal
 
 -- the pairs so far and those of the clauses that are left are the whole

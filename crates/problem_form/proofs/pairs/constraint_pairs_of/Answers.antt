@@ -1,5 +1,4 @@
-use Rattle.problem_form.proofs.Common.{nat_tests, arith}
-use Rattle.problem_form.proofs.CountedNumbers.{squared_alone, squared_spread}
+use Rattle.problem_form.proofs.Lemmas.{nat_tests, arith, squared_alone, squared_spread}
 use Rattle.problem_form.proofs.pairs.constraint_pairs_of.Goals as goal
 
 pub returns-then-degree-le1 : goal.returns-then-degree-le1

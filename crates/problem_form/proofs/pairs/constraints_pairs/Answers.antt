@@ -1,5 +1,4 @@
-use Rattle.problem_form.proofs.Common.{arith, nat_tests, constraint_pairs, constraint_total}
-use Rattle.problem_form.proofs.LeftSums.{answered_left, answered_end, first_within, rest_within}
+use Rattle.problem_form.proofs.Lemmas.{arith, nat_tests, constraint_pairs, constraint_total, answered_left, answered_end, first_within, rest_within}
 use Rattle.problem_form.proofs.pairs.constraints_pairs.Goals as goal
 
 pub constraint_pairs_of-requires : goal.constraint_pairs_of-requires
@@ -8,11 +7,9 @@ constraint_pairs_of-requires c =
 
 pub loop-constraint-preserved : goal.loop-constraint-preserved
 loop-constraint-preserved c = record {
-  counted = answered_left (constraint_pairs c.args.normal) c.loop-constraint.constraint-iterator
-      c.next.new.self c.in-Some.constraint c.loop-constraint.total _ _ _ c.in-Some.ensures.steps
+  counted = answered_left (constraint_pairs c.args.normal) _ _ _ _ _ _ _ c.in-Some.ensures.steps
       c.constraint_pairs_of.ensures c.saturating_add-total.ensures c.loop-constraint.invariant.counted;
-  small = rest_within constraint_total _ _ _ _ c.in-Some.ensures.steps
-      c.loop-constraint.invariant.small;
+  small = rest_within constraint_total _ _ _ _ c.in-Some.ensures.steps c.loop-constraint.invariant.small;
 }
 
 pub returns : goal.returns

@@ -1,5 +1,4 @@
-use Rattle.problem_form.proofs.Common.{◌<◌, ◌^◌, sum_by, constraint_pairs, constraint_total}
-use Rattle.problem_form.proofs.LeftSums.{Answered}
+use Rattle.problem_form.proofs.Lemmas.{◌<◌, ◌^◌, sum_by, constraint_pairs, constraint_total, Answered}
 use Rattle.problem_form.proofs.pairs.constraints_pairs.Given as goal
 
 -- the pairs so far and those of the constraints that are left are the whole

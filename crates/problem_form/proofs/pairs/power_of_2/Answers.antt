@@ -1,4 +1,4 @@
-use Rattle.problem_form.proofs.CountedNumbers.{answered_number-power}
+use Rattle.problem_form.proofs.Lemmas.{answered_number-power}
 use Rattle.problem_form.proofs.pairs.power_of_2.Goals as goal
 
 pub returns-else-exponent-lt128 : goal.returns-else-exponent-lt128

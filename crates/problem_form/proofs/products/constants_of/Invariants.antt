@@ -1,5 +1,4 @@
-use Rattle.problem_form.proofs.Common.{unsigned_abs, total_by, Product, product_constant, products_total}
-use Rattle.problem_form.proofs.LeftSums.{Sums}
+use Rattle.problem_form.proofs.Lemmas.{unsigned_abs, total_by, Product, product_constant, products_total, Sums}
 use Rattle.problem_form.proofs.products.constants_of.Given as goal
 
 -- the constants so far and those of the products that are left are the whole

@@ -1,5 +1,4 @@
-use Rattle.problem_form.proofs.Common.{elements, nat_tests, ◌≡◌, ◌++◌, ◌∷◌, [], List, ap, sym, subst, ◌∙◌, OnOk, arith, of_z, to_z, ℤ, w128, ints, append-nil, Literal, Product}
-use Rattle.problem_form.proofs.KeptProducts.{is_dropped, kept_product-zero, kept_product-dropped, kept_product-kept}
+use Rattle.problem_form.proofs.Lemmas.{elements, nat_tests, ◌≡◌, ◌++◌, ◌∷◌, [], List, ap, sym, subst, ◌∙◌, OnOk, arith, of_z, to_z, ℤ, w128, ints, append-nil, Literal, Product, as_before, is_dropped, kept_product-zero, kept_product-dropped, kept_product-kept}
 use Rattle.problem_form.proofs.products.keep_product.Goals as goal
 
 pub returns-then-coefficient-eq0-clause-kept : goal.returns-then-coefficient-eq0-clause-kept
@@ -8,11 +7,9 @@ returns-then-coefficient-eq0-clause-kept c =
 
 pub returns-then-is_dropped-clause-kept : goal.returns-then-is_dropped-clause-kept
 returns-then-is_dropped-clause-kept c =
-    let products = c.args.products.now in
-    let written : Product = record { literals = c.args.literals.now.items; coefficient = c.args.coefficient } in
     let dropped = ap is_dropped (sym c.deref.ensures.value) ∙ sym c.is_dropped.ensures ∙ c.if-is_dropped.true in
-    sym (append-nil products) ∙ ap (λ kept. products ++ kept)
-    (kept_product-dropped written c.make_set.new.literals.items c.make_set.ensures.set dropped)
+    as_before c.args.products.now _ (kept_product-dropped
+    (record { literals = c.args.literals.now.items; coefficient = c.args.coefficient }) _ c.make_set.ensures.set dropped)
 
 pub returns-clause-kept : goal.returns-clause-kept
 returns-clause-kept c =

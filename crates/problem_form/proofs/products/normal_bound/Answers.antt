@@ -1,5 +1,4 @@
-use Rattle.problem_form.proofs.Common.{arith, ints}
-use Rattle.problem_form.proofs.KeptProducts.{kept_products-size}
+use Rattle.problem_form.proofs.Lemmas.{arith, ints, kept_products-size}
 use Rattle.problem_form.proofs.products.normal_bound.Goals as goal
 
 pub overflow_sub-result : goal.overflow_sub-result

@@ -1,5 +1,4 @@
-use Rattle.problem_form.proofs.Common.{nat_tests, arith}
-use Rattle.problem_form.proofs.WeighedParts.{length-weighed_clauses, weighed_clauses-at}
+use Rattle.problem_form.proofs.Lemmas.{nat_tests, arith, length-weighed_clauses, weighed_clauses-at}
 use Rattle.problem_form.proofs.clause_list.ClauseList.at.Goals as goal
 
 pub at-requires : goal.at-requires

@@ -1,5 +1,4 @@
-use Rattle.problem_form.proofs.Common.{arith, nat_tests}
-use Rattle.problem_form.proofs.WeighedParts.{length-weighed_clauses}
+use Rattle.problem_form.proofs.Lemmas.{arith, nat_tests, length-weighed_clauses}
 use Rattle.problem_form.proofs.clause_list.ClauseList.len.Goals as goal
 
 pub returns : goal.returns

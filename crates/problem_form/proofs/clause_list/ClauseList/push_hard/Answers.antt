@@ -1,6 +1,4 @@
-use Rattle.problem_form.proofs.Common.{nat_tests, [], arith, length-append}
-use Rattle.problem_form.proofs.KeptClauses.{by_result}
-use Rattle.problem_form.proofs.WeighedParts.{on_ok, weighed_clauses-hard}
+use Rattle.problem_form.proofs.Lemmas.{nat_tests, [], arith, length-append, by_result, on_ok, weighed_clauses-hard}
 use Rattle.problem_form.proofs.clause_list.ClauseList.push_hard.Goals as goal
 
 pub invariant_of-self : goal.invariant_of-self

@@ -1,5 +1,4 @@
-use Rattle.problem_form.proofs.Common.{◌≡◌, ◌-◌, ◌++◌, ◌∷◌, [], ℕ, Some, ap, ◌∙◌, length, arith, length-append, rules, replicate, length-replicate, weighed_clauses}
-use Rattle.problem_form.proofs.WeighedParts.{weighed_clauses-filled, weighed_clauses-soft, weight_of-some}
+use Rattle.problem_form.proofs.Lemmas.{◌≡◌, ◌-◌, ◌++◌, ◌∷◌, [], ℕ, Some, ap, ◌∙◌, length, arith, length-append, rules, replicate, length-replicate, weighed_clauses, weighed_clauses-filled, weighed_clauses-soft, weight_of-some}
 use Rattle.problem_form.proofs.clause_list.ClauseList.push_soft.Goals as goal
 
 pub returns-clause-pushed : goal.returns-clause-pushed

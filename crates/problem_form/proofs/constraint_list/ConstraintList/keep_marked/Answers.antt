@@ -1,5 +1,4 @@
-use Rattle.problem_form.proofs.Common.{arith, nat_tests, subst, sym, length, List, All, Row, LiesWithin}
-use Rattle.problem_form.proofs.MarkedLists.{All-marked, marked-map}
+use Rattle.problem_form.proofs.Lemmas.{arith, nat_tests, subst, sym, length, List, All, Row, LiesWithin, All-marked, marked-map}
 use Rattle.problem_form.proofs.constraint_list.ConstraintList.keep_marked.Goals as goal
 
 pub invariant_of-self : goal.invariant_of-self

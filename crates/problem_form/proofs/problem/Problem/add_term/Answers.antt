@@ -1,6 +1,4 @@
-use Rattle.problem_form.proofs.Common.{◌≡◌, ◌+◌, ◌<◌, ◌^◌, ◌+ℤ◌, to_z, of_z, pos, unsigned_abs, All, rules, subst, sym, ap, ◌∙◌, ◌++◌, arith, length, eqb, cond, w128, ints, Product, IsSound, content_within, product_constant, kept_product, ProblemContent, problem_total}
-use Rattle.problem_form.proofs.KeptClauses.{is_empty-length}
-use Rattle.problem_form.proofs.KeptProducts.{kept_product-size, with_product-sound}
+use Rattle.problem_form.proofs.Lemmas.{◌≡◌, ◌+◌, ◌<◌, ◌^◌, ◌+ℤ◌, to_z, of_z, pos, unsigned_abs, rules, subst, sym, ap, ◌∙◌, ◌++◌, arith, length, eqb, cond, w128, ints, Product, IsSound, content_within, product_constant, kept_product, ProblemContent, problem_total, with_product, is_empty-length, at_view, kept_product-size, with_product-sound}
 use Rattle.problem_form.proofs.problem.Problem.add_term.Goals as goal
 
 pub invariant_of-self-2 : goal.invariant_of-self-2
@@ -9,8 +7,6 @@ invariant_of-self-2 c =
     let written : Product = record { literals = c.args.literals.now.items; coefficient = c.args.coefficient } in
     let Fits : ProblemContent → Type 0 = λ f. problem_total f + unsigned_abs written.coefficient < 2 ^ 100 in
     let small : Fits p = subst Fits (sym c.self.view_is) c.requires.small in
-    let Within : ProblemContent → Type 0 = λ f. All (λ l. l.variable < f.variables) written.literals in
-    let within : Within p = subst Within (sym c.self.view_is) c.requires.within in
     let same : to_z w128 (of_z w128 c.args.coefficient) ≡ c.args.coefficient = omega (arith, ints) in
     let count : c.len.result ≡ length written.literals = search rules in
     let added : c.coefficient_constant-constant.result ≡ product_constant written =
@@ -24,4 +20,5 @@ invariant_of-self-2 c =
     ∙ (λ i. p.objective ++ kept_product (record { literals = written.literals; coefficient = same i })) in
     let Sound : ProblemContent → Type 0 = IsSound in
     subst Sound (λ i. record p { constant = sym constant i; objective = sym objective i })
-    (with_product-sound p written c.self.invariant within small)
+    (at_view (λ q. IsSound (with_product q written)) p _ c.self.view_is
+    (λ s. with_product-sound _ written s c.requires.within c.requires.small) c.self.invariant)

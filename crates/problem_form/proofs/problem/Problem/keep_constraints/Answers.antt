@@ -1,5 +1,4 @@
-use Rattle.problem_form.proofs.Common.{subst, sym, arith, List, Constraint, IsSound, content_within, IsNormal, IsNormalProduct, ProblemContent, constraint_total, with_marked, All, Bool}
-use Rattle.problem_form.proofs.MarkedLists.{All-marked, sum_by-marked}
+use Rattle.problem_form.proofs.Lemmas.{subst, sym, arith, List, Constraint, IsSound, content_within, IsNormal, IsNormalProduct, ProblemContent, constraint_total, with_marked, All, Bool, All-marked, sum_by-marked}
 use Rattle.problem_form.proofs.problem.Problem.keep_constraints.Goals as goal
 
 marked-sound : (p : ProblemContent) (ms : List Bool) → IsSound p → IsSound (with_marked p ms)

@@ -1,5 +1,4 @@
-use Rattle.problem_form.proofs.Common.{nat_tests, ap, arith, ints, positive_total}
-use Rattle.problem_form.proofs.CountedNumbers.{positive_total-le}
+use Rattle.problem_form.proofs.Lemmas.{nat_tests, ap, arith, ints, positive_total, positive_total-le}
 use Rattle.problem_form.proofs.problem.Problem.own_upper.Goals as goal
 
 pub positive_coefficients-requires : goal.positive_coefficients-requires

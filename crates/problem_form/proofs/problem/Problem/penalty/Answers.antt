@@ -8,7 +8,7 @@ returns-in-Some-clause-value c =
     sym (ap (λ (q : ProblemContent). q.most) c.self.view_is) ∙ c.in-Some.is in
     let least : to_z w128 (of_z w128 (to_z w128 (of_z w128 c.own_upper.result)
     -ℤ to_z w128 c.cost_size-gain.result)) ≡ lower p =
-    omega (arith, ints, c.own_upper.ensures.value, c.own_upper.ensures.small, c.cost_size-gain.ensures.value, c.cost_size-gain.ensures.small) in
+    omega (arith, ints) in
     let same : to_z w128 (of_z w128 c.in-Some.most) ≡ c.in-Some.most =
     omega (arith, ints, c.self.invariant.0.most c.in-Some.most c.in-Some.is) in
     c.penalty_above.ensures

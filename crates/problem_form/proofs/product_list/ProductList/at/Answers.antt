@@ -1,5 +1,4 @@
-use Rattle.problem_form.proofs.Common.{ints, nat_tests, arith}
-use Rattle.problem_form.proofs.WeighedParts.{length-zip_with, zip_with-at}
+use Rattle.problem_form.proofs.Lemmas.{ints, nat_tests, arith, length-zip_with, zip_with-at}
 use Rattle.problem_form.proofs.product_list.ProductList.at.Goals as goal
 
 pub at-requires : goal.at-requires

@@ -1,5 +1,4 @@
-use Rattle.problem_form.proofs.Common.{arith, nat_tests}
-use Rattle.problem_form.proofs.WeighedParts.{length-zip_with}
+use Rattle.problem_form.proofs.Lemmas.{arith, nat_tests, length-zip_with}
 use Rattle.problem_form.proofs.product_list.ProductList.len.Goals as goal
 
 pub returns : goal.returns

@@ -1,5 +1,4 @@
-use Rattle.problem_form.proofs.Common.{nat_tests, ◌-◌, ◌∙◌, ap, sym, arith, map, take, drop, List, ℤ, slice_range, drop-map, take-map, Product, product_of, zip_with}
-use Rattle.problem_form.proofs.WeighedParts.{length-zip_with, map-coefficients}
+use Rattle.problem_form.proofs.Lemmas.{nat_tests, ◌-◌, ◌∙◌, ap, sym, arith, map, take, drop, List, ℤ, slice_range, drop-map, take-map, Product, product_of, zip_with, length-zip_with, map-coefficients}
 use Rattle.problem_form.proofs.product_list.ProductList.lent_coefficients.Goals as goal
 
 pub lent_numbers-requires-clause-within : goal.lent_numbers-requires-clause-within

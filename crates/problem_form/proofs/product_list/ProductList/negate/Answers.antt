@@ -1,5 +1,4 @@
-use Rattle.problem_form.proofs.Common.{arith, nat_tests, ◌^◌, ◌<◌, All, List, unsigned_abs, sym, subst, Product}
-use Rattle.problem_form.proofs.WeighedParts.{zip_with-negated, coefficients-small}
+use Rattle.problem_form.proofs.Lemmas.{arith, nat_tests, ◌^◌, ◌<◌, All, List, unsigned_abs, sym, subst, Product, zip_with-negated, coefficients-small}
 use Rattle.problem_form.proofs.product_list.ProductList.negate.Goals as goal
 
 pub negate_all-requires : goal.negate_all-requires

@@ -1,5 +1,4 @@
-use Rattle.problem_form.proofs.Common.{◌≡◌, ◌++◌, ◌∷◌, [], rules, ◌∙◌, zip_with, product_of}
-use Rattle.problem_form.proofs.WeighedParts.{zip_with-push}
+use Rattle.problem_form.proofs.Lemmas.{◌≡◌, ◌++◌, ◌∷◌, [], rules, ◌∙◌, zip_with, product_of, zip_with-push}
 use Rattle.problem_form.proofs.product_list.ProductList.push.Goals as goal
 
 pub returns-clause-pushed : goal.returns-clause-pushed
