@@ -1,5 +1,5 @@
 -- Steps of the layer's loops, over plain lists.
-use Rattle.chain_layer.proofs.Common.{nat_tests, elements, ◌≡◌, ◌≢◌, ℕ, zero, suc, ◌+◌, ◌*◌, ◌<◌, ◌≤◌, ◌^◌, Bool, cond, ◌||◌, List, [], ◌∷◌, ◌++◌, map, length, take, drop, get_or, set, replicate, fold, ℤ, pos, ◌+ℤ◌, unsigned_abs, neg_ℤ, sym, ap, subst, ◌∙◌, arith, append_assoc, append-nil, map-id, sum_by, flat_map, ◌==◌, All, AllByRecursion, AllZip, list_any, range_with_len, int_div_euclid, int_rem_euclid, ints, cases_eq, drop_more, drop_all, take_all, flat_map_more, get_or_past, get_or-set_same, get_or-set_other, length-set, length-map, length-replicate, get_or-replicate, fill_by_all, get_or-map-range_with_len, length-map-range_with_len, map-range_with_len_more, sum_by-cons, sum_by_push, sum_by-append, fold-append, if_so, total_by_push, Entry, weight_total, node_entries, IsCoupler, weights_within, Embedding, chain_of, nodes_of, field_of, strength, coupling_entry, field_at, equal_shares, shares, placed, ties, couplings_at, recursion_from_All, All-from_recursion, IsNode, shares_size, weights_of_equal, added, AllZip-long, list_any-append, get_or-map}
+use Rattle.chain_layer.proofs.Common.{nat_tests, elements, ◌≡◌, ◌≢◌, ℕ, zero, suc, ◌+◌, ◌*◌, ◌<◌, ◌≤◌, ◌^◌, Bool, cond, ◌||◌, List, [], ◌∷◌, ◌++◌, map, length, take, drop, get_or, set, replicate, fold, ℤ, pos, ◌+ℤ◌, unsigned_abs, neg_ℤ, sym, ap, subst, ◌∙◌, arith, append_assoc, append-nil, map-id, sum_by, flat_map, ◌==◌, All, AllByRecursion, AllZip, list_any, range_with_len, int_div_euclid, int_rem_euclid, ints, cases_eq, drop_more, drop_all, take_all, flat_map_more, get_or_past, get_or-set_same, get_or-set_other, length-set, length-map, length-replicate, get_or-replicate, fill_by_all, get_or-map-range_with_len, length-map-range_with_len, map-range_with_len_more, sum_by-cons, sum_by_push, sum_by-append, fold-append, if_so, total_by_push, Entry, weight_total, node_entries, IsCoupler, weights_within, Embedding, chain_of, nodes_of, field_of, strength, coupling_entry, field_at, equal_shares, shares, ties, couplings_at, recursion_from_All, All-from_recursion, IsNode, shares_size, weights_of_equal, added, AllZip-long, list_any-append, get_or-map}
 use Rattle.chain_layer.proofs.Ordered.{ties_at}
 
 -- ---- fields
@@ -80,16 +80,6 @@ pub raised_both : (xs : List ℕ) (a b m i : ℕ) → a < length xs → b < leng
 raised_both xs a b m i a_in b_in less i_in = grind (arith, nat_tests, elements)
 
 -- ---- couplings
-
--- one more coupling that is placed
-pub placed_more : (made whole : List Entry) (c : Entry) (cs : List Entry) (ps : List (ℕ × ℕ)) (i : ℕ)
-    (p d : ℕ × ℕ) → i < length ps → p ≡ get_or ps i d → made ++ placed (c ∷ cs) (drop i ps) ≡ whole
-    → (made ++ record { first = p.0; second = p.1; weight = c.weight } ∷ [])
-    ++ placed cs (drop (i + 1) ps) ≡ whole
-placed_more made whole c cs ps i p d p_in is h =
-    append_assoc made _ _
-    ∙ ap (λ r. made ++ record { first = r.0; second = r.1; weight = c.weight } ∷ placed cs (drop (i + 1) ps)) is
-    ∙ sym (ap (λ l. made ++ placed (c ∷ cs) l) (drop_more ps i d p_in)) ∙ h
 
 -- one more tie
 pub ties_of_more : (made whole : List Entry) (strong : ℕ → ℕ) (chain ps : List ℕ) (i n : ℕ)
@@ -193,79 +183,21 @@ all_strengths e xs ys cs same listed size sums =
     fill_by_all (strength e) ys (length hs) 0 (size ∙ wide) (λ k l.
     omega (arith, ap (λ s. get_or s k 0) same, at_map, ap (couplings_at k) listed))
 
--- ---- fields by steps
-
-pub split_from : (chain : List ℕ) (h share rest H L R : ℤ) (front back : List ℕ) → H ≡ h
-    → L ≡ pos (length chain) → R ≡ rest → share ≡ int_div_euclid H L → rest ≡ int_rem_euclid H L
-    → front ≡ take (unsigned_abs R) chain → back ≡ drop (unsigned_abs R) chain
-    → IsSplit chain h share front back
-split_from chain h share rest H L R front back same_h same_l same_r quotient remainder front_is back_is = grind (arith, nat_tests)
-
 -- ---- strengths by steps
 
--- the next coupling has its nodes, and its size fits with those of the others
-pub record CanRaise (xs : List ℕ) (e : Entry) (es : List Entry) (m : ℕ) : Type 0 where
-  pub coupler : IsCoupler (length xs) e
-  pub small : (i : ℕ) → i < length xs → get_or xs i 0 + weight_total (e ∷ es) < 2 ^ 127
-  pub size : m ≡ unsigned_abs e.weight
-
--- the next coupling of those that are left
-pub can_raise : (n : ℕ) (xs : List ℕ) (left : List Entry) (e : Entry) (es : List Entry) (m : ℕ)
-    → left ≡ e ∷ es → length xs ≡ n → All (IsCoupler n) left
-    → ((i : ℕ) → i < n → get_or xs i 0 + weight_total left < 2 ^ 127)
-    → m ≡ unsigned_abs e.weight → CanRaise xs e es m
-can_raise n xs left e es m is size within small same = grind (arith, nat_tests)
-
--- the weight of the next coupling is within the bound of all
-pub next_small : (n : ℕ) (xs : List ℕ) (left : List Entry) (e : Entry) (es : List Entry)
-    → left ≡ e ∷ es → All (IsCoupler n) left
-    → ((i : ℕ) → i < n → get_or xs i 0 + weight_total left < 2 ^ 127)
-    → unsigned_abs e.weight < 2 ^ 127
-next_small n xs left e es is within small =
-    let first = recursion_from_All (IsCoupler n) (e ∷ es) (subst (All (IsCoupler n)) is within) in
-    omega (arith, small e.second first.0.within, ap weight_total is, sum_by-cons)
-
-pub first_fits : (xs : List ℕ) (e : Entry) (es : List Entry) (m : ℕ) → CanRaise xs e es m
-    → get_or xs e.first 0 + m < 2 ^ 127
-first_fits xs e es m can = omega (arith, sum_by-cons)
-
-pub second_fits : (xs : List ℕ) (e : Entry) (es : List Entry) (m v : ℕ) → CanRaise xs e es m
-    → get_or (set xs e.first v) e.second 0 + m < 2 ^ 127
-second_fits xs e es m v can =
-    let up = can.coupler.upward in
-    let other = get_or-set_other xs e.first e.second v 0 (λ same. omega arith) in
-    omega (arith, sum_by-cons)
-
--- both nodes of the next coupling are raised
-pub record AreRaised (xs zs : List ℕ) (e : Entry) (es : List Entry) : Type 0 where
-  pub same_length : length zs ≡ length xs
-  pub small : (i : ℕ) → i < length xs → get_or zs i 0 + weight_total es < 2 ^ 127
-  pub sums : (i : ℕ) → i < length xs
-      → get_or zs i 0 + couplings_at i es ≡ get_or xs i 0 + couplings_at i (e ∷ es)
-
-pub raised_more : (xs ys zs : List ℕ) (e : Entry) (es : List Entry) (m : ℕ) → CanRaise xs e es m
+-- both ends of a coupling are raised
+pub ends_raised : (xs ys zs : List ℕ) (e : Entry) (m : ℕ) → IsCoupler (length xs) e → m ≡ unsigned_abs e.weight
     → ys ≡ set xs e.first (get_or xs e.first 0 + m) → zs ≡ set ys e.second (get_or ys e.second 0 + m)
-    → AreRaised xs zs e es
-raised_more xs ys zs e es m can once twice =
-    let up = can.coupler.upward in
-    let second_in = can.coupler.within in
+    → (i : ℕ) → i < length xs → get_or zs i 0 ≡ get_or xs i 0 + couplings_at i (e ∷ [])
+ends_raised xs ys zs e m coupler size once twice i below =
+    let up = coupler.upward in
+    let second_in = coupler.within in
     let first_in : e.first < length xs = omega (arith, up, second_in) in
     let one = set xs e.first (get_or xs e.first 0 + m) in
     let both : zs ≡ set one e.second (get_or one e.second 0 + m) =
     twice ∙ ap (λ l. set l e.second (get_or l e.second 0 + m)) once in
-    let raised = raised_both xs e.first e.second m in
-    let size = can.size in
-    record {
-      same_length = ap length both ∙ length-set one e.second _ ∙ length-set xs e.first _;
-      small = λ i l.
-          let here = raised i first_in second_in up l in
-          let fits = can.small i l in
-          let total = sum_by-cons (λ (f : Entry). unsigned_abs f.weight) e es in
-          rw both (grind (arith, nat_tests));
-      sums = λ i l.
-          let here = raised i first_in second_in up l in
-          rw both (simp sum_by-cons (grind (arith, nat_tests)));
-    }
+    let here = raised_both xs e.first e.second m i first_in second_in up below in
+    rw both (simp sum_by-cons (grind (arith, nat_tests)))
 
 -- with the sizes of the couplings that are left, the strengths are what all couplings lead to
 pub record AreLeft (old xs : List ℕ) (all left : List Entry) : Type 0 where
@@ -275,17 +207,50 @@ pub record AreLeft (old xs : List ℕ) (all left : List Entry) : Type 0 where
   pub sums : (i : ℕ) → i < length old
       → get_or xs i 0 + couplings_at i left ≡ get_or old i 0 + couplings_at i all
 
+couplings-cons : (i : ℕ) (e : Entry) (es : List Entry)
+    → couplings_at i (e ∷ es) ≡ couplings_at i (e ∷ []) + couplings_at i es
+couplings-cons i e es = simp sum_by-cons (grind arith)
+
+couplings-le : (i : ℕ) (e : Entry) → couplings_at i (e ∷ []) ≤ unsigned_abs e.weight
+couplings-le i e = simp sum_by-cons (grind (arith, nat_tests))
+
+-- the next one has its ends, and room for its size there
+pub left_next : (old xs : List ℕ) (all left : List Entry) (e : Entry) (es : List Entry) → left ≡ e ∷ es
+    → AreLeft old xs all left
+    → IsCoupler (length xs) e × ((i : ℕ) → i < length xs → get_or xs i 0 + unsigned_abs e.weight < 2 ^ 127)
+left_next old xs all left e es is so_far =
+    let n = length old in
+    let couplers = recursion_from_All (IsCoupler n) (e ∷ es) (subst (All (IsCoupler n)) is so_far.within) in (
+      subst (λ m. IsCoupler m e) (sym so_far.same_length) couplers.0,
+      λ i l. omega (arith, so_far.small i (omega (arith, l, so_far.same_length)), ap weight_total is, sum_by-cons),
+    )
+
 pub left_more : (old xs zs : List ℕ) (all left : List Entry) (e : Entry) (es : List Entry)
-    → left ≡ e ∷ es → AreLeft old xs all left → AreRaised xs zs e es → AreLeft old zs all es
-left_more old xs zs all left e es is so_far raised =
+    → left ≡ e ∷ es → AreLeft old xs all left → length zs ≡ length xs
+    → ((i : ℕ) → i < length xs → get_or zs i 0 ≡ get_or xs i 0 + couplings_at i (e ∷ []))
+    → AreLeft old zs all es
+left_more old xs zs all left e es is so_far same raised =
     let n = length old in
     let couplers : AllByRecursion (IsCoupler n) (e ∷ es) =
     recursion_from_All (IsCoupler n) (e ∷ es) (subst (All (IsCoupler n)) is so_far.within) in
     record {
-      same_length = raised.same_length ∙ so_far.same_length;
+      same_length = same ∙ so_far.same_length;
       within = All-from_recursion (IsCoupler n) es couplers.1;
-      small = λ i l. raised.small i (omega (arith, l, so_far.same_length));
-      sums = λ i l. grind (arith, nat_tests);
+      small = λ i l. omega (
+        arith,
+        raised i (omega (arith, l, so_far.same_length)),
+        so_far.small i l,
+        ap weight_total is,
+        sum_by-cons,
+        couplings-le i e,
+      );
+      sums = λ i l. omega (
+        arith,
+        raised i (omega (arith, l, so_far.same_length)),
+        so_far.sums i l,
+        ap (couplings_at i) is,
+        couplings-cons i e es,
+      );
     }
 
 -- a chain has one qubit more than parents

@@ -3,7 +3,7 @@ pub use Rattle.std.proofs.lemmas.Bool.Decides.{nat_tests}
 pub use Rattle.std.proofs.lemmas.Grind.{elements}
 pub use Rattle.std.proofs.Common.{◌≡◌, ◌≢◌, inl, inr, ℕ, zero, suc, ◌+◌, ◌*◌, ◌<◌, ◌≤◌, ◌^◌, Bool, cond, ◌||◌, List, [], ◌∷◌, ◌++◌, map, length, take, drop, get_or, set, replicate, fold, ℤ, pos, ◌+ℤ◌, unsigned_abs, neg_ℤ, refl, sym, ap, subst, ◌∙◌, arith, append_assoc, append-nil, map-id, sum_by, flat_map, All, ◌⊎◌, true, false, ◌&&◌, ◌-◌, ◌≤ℤ◌, mul-le-mul_left, mul-le-mul, ◌-ℤ◌, to_z, of_z, rules}
 pub use Rattle.std.specs.Prelude.{◌==◌, nat_lt, count_by, ⊤}
-pub use Rattle.std.specs.List.{AllByRecursion, AllZip, list_any, range_with_len, slice_index_or, concat}
+pub use Rattle.std.specs.List.{AllAdjacentBelow, AllByRecursion, AllZip, list_any, range_with_len, slice_index_or, concat}
 pub use Rattle.std.specs.Int.{int_div_euclid, int_rem_euclid, w128}
 pub use Rattle.std.proofs.lemmas.Int.{ints, to_z-of_z, to_z_pos}
 pub use Rattle.std.proofs.lemmas.Bool.{cases_eq, ltb-true, ltb-false, or_parts, cases_lt}
@@ -12,7 +12,7 @@ pub use Rattle.std.proofs.lemmas.List.FromFn.{fill_by_all, get_or-map-range_with
 pub use Rattle.std.proofs.lemmas.List.Sums.{sum_by-cons, sum_by_push, sum_by-append, fold-append, sum_by-le-sum_by}
 pub use Rattle.std.proofs.lemmas.List.Elements.{recursion_from_All, All-from_recursion, length_all_zip, AllZip-get_or}
 pub use Rattle.std.specs.List.Sorted.{IsPermutation, IsNonDecreasingBy}
-pub use Rattle.std.proofs.lemmas.List.Sorted.{All-permutation, sum_by-IsPermutation, IsPermutation-append_comm, IsPermutation-trans}
+pub use Rattle.std.proofs.lemmas.List.Sorted.{All-permutation, sum_by-IsPermutation, IsPermutation-append_comm, IsPermutation-append_left, IsPermutation-append_right, IsPermutation-refl, IsPermutation-trans, IsNonDecreasingBy-from_all_adjacent}
 pub use Rattle.std.proofs.lemmas.List.Concat.{length-flat_map}
 pub use Rattle.std.proofs.lemmas.Result.{IfOk-weaker}
 pub use Rattle.std.proofs.lemmas.List.Folds.{list_any-append}
@@ -38,7 +38,7 @@ pub use Rattle.form_steps.specs.Relations.{Extends, Keeps}
 pub use Rattle.chain_layer.specs.Image.{nodes_of, field_of, strength, coupling_entry, field_at, equal_shares, shares, placed, ties, ties_by, cost_by, by_node, couplings_at, all_shares, all_ties, inserted, in_order, image, ties_cost, offset, decoding, Fits, bit_on}
 pub use Rattle.chain_layer.specs.laws.Aligned.{IsNode, node_at, node_cost, costs_same, couplers_of}
 pub use Rattle.chain_layer.specs.laws.NodeEnergies.{shares_size, weights_of_equal, shares_of}
-pub use Rattle.chain_layer.specs.Steps.{added, sizes_of}
+pub use Rattle.chain_layer.specs.Steps.{added, sizes_of, place_number, AreFrom, AreAbove, AreOrdered, TakesUpTo}
 pub use Rattle.chain_layer.specs.laws.SpinSums.{all_append, total_by-in_order, range-le, range-zero, hit}
 pub use Rattle.chain_layer.specs.laws.Whole.{in_first, in_rest}
 pub use Rattle.chain_layer.specs.laws.Kept.{each_of_range, chain_within, one_chain, each_at, rest_in, shares_within, chains_reach, chains_keep}

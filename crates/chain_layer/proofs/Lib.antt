@@ -4,3 +4,4 @@ pub mod Ordered
 pub mod Added
 pub mod Unchained
 pub mod Written
+pub mod OneList

@@ -479,12 +479,12 @@ sorted_is_in_order n from to few all apart moved sorted =
     ∙ sym (total_by-in_order (weight_for i j) from))
 
 -- sorted, they are those of the image
-pub sorted_is_image : (e : Embedding) → IsEmbedding e → (from to : List Entry)
-    → from ≡ all_ties e ++ placed e.ising.couplings e.places → IsPermutation from to
-    → IsNonDecreasingBy pair_number to → to ≡ (image e).couplings
-sorted_is_image e kept from to listed moved sorted =
+pub sorted_is_image : (e : Embedding) → IsEmbedding e → (to : List Entry)
+    → IsPermutation (all_ties e ++ placed e.ising.couplings e.places) to → IsNonDecreasingBy pair_number to
+    → to ≡ (image e).couplings
+sorted_is_image e kept to moved sorted =
     let places = placed e.ising.couplings e.places in
     let swapped = IsPermutation-trans (places ++ all_ties e) (all_ties e ++ places) to
-    (IsPermutation-append_comm places (all_ties e)) (subst (λ l. IsPermutation l to) listed moved) in
+    (IsPermutation-append_comm places (all_ties e)) moved in
     sorted_is_in_order e.qubits (places ++ all_ties e) to kept.few (all_couplers e kept)
     (couplings_apart e kept) swapped sorted

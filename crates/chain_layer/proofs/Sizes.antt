@@ -2,7 +2,7 @@
 --
 -- The shares of a field have its size together, and a placed coupling has that of its coupling. A tie is
 -- at most one more than the total, and there are fewer ties than qubits, since no qubit occurs twice.
-use Rattle.chain_layer.proofs.Common.{nat_tests, ◌≡◌, ℕ, zero, suc, ◌+◌, ◌-◌, ◌*◌, ◌<◌, ◌≤◌, ◌^◌, cond, List, [], ◌∷◌, ◌++◌, map, length, drop, ℤ, pos, neg_ℤ, ◌+ℤ◌, ◌≤ℤ◌, unsigned_abs, refl, sym, ap, ◌∙◌, arith, mul-le-mul_left, mul-le-mul, All, ◌==◌, count_by, AllByRecursion, range_with_len, slice_index_or, sum_by, flat_map, concat, ints, length-drop, recursion_from_All, length-flat_map, fill_by_all, length-map-range_with_len, sum_by-cons, sum_by-append, sum_by-le-sum_by, total_by, if_so, total_by-plus, total_by-same, total_by-map, Entry, weight_total, entry_size, node_entries, IsCoupler, weights-append, weights_within, ising_total, ising_size, Embedding, IsEmbedding, embedding_size, chain_of, occurrences, nodes_of, field_of, couplings_at, strength, coupling_entry, shares, ties, ties_by, cost_by, by_node, all_shares, placed, field_at, in_order, image, ties_cost, offset, range-le, range-zero, hit, total_by-in_order, shares_size, node_at, costs_same, couplers_of, shares_within}
+use Rattle.chain_layer.proofs.Common.{nat_tests, ◌≡◌, ℕ, zero, suc, ◌+◌, ◌-◌, ◌*◌, ◌<◌, ◌≤◌, ◌^◌, cond, List, [], ◌∷◌, ◌++◌, map, length, drop, ℤ, pos, ◌+ℤ◌, ◌≤ℤ◌, unsigned_abs, refl, sym, ap, ◌∙◌, arith, mul-le-mul_left, mul-le-mul, All, ◌==◌, count_by, AllByRecursion, range_with_len, slice_index_or, sum_by, flat_map, concat, ints, length-drop, recursion_from_All, length-flat_map, fill_by_all, length-map-range_with_len, sum_by-cons, sum_by-append, sum_by-le-sum_by, total_by, if_so, total_by-plus, total_by-same, total_by-map, Entry, weight_total, entry_size, node_entries, IsCoupler, weights-append, weights_within, ising_total, ising_size, Embedding, IsEmbedding, embedding_size, chain_of, occurrences, nodes_of, field_of, couplings_at, strength, shares, ties, ties_by, cost_by, by_node, all_shares, placed, field_at, in_order, image, ties_cost, offset, range-le, range-zero, hit, total_by-in_order, shares_size, node_at, costs_same, couplers_of, shares_within}
 
 -- ---- sums of naturals
 
@@ -83,9 +83,6 @@ weights_placed (c ∷ cs) [] = omega arith
 weights_placed (c ∷ cs) (p ∷ ps) =
     let rest = weights_placed cs ps in
     simp sum_by-cons (grind (arith, nat_tests, ints))
-
-pub weight_of_tie : (q p n : ℕ) → size (coupling_entry q p (neg_ℤ (pos n))) ≡ n
-weight_of_tie q p n = grind (arith, nat_tests)
 
 weights_of_ties : (strong : ℕ → ℕ) (qs ps : List ℕ)
     → weight_total (ties strong qs ps) ≤ sum_by strong qs

@@ -16,6 +16,7 @@ ghost use Rattle.chain_layer.specs.Image.{
   Fits,
 };
 
+use crate::copying::copied;
 use crate::decoding::decoded;
 use crate::extending::extended;
 use crate::link::ChainLink;
@@ -26,7 +27,6 @@ use base::NoMemory;
 use embedding_check::Embedded;
 use form_steps::{Layer, Lowered};
 use ising_form::Ising;
-use pair_sums::in_order;
 use quad_form::NumberList;
 use std::alloc::Global;
 
@@ -43,8 +43,7 @@ fn image_of(alloc: Global, source: &Embedded, strengths: &[u128]) -> Result<Isin
     ensures { IfOk result (λ f. f ≡ image source.now) }
 {
     let fields = shared_fields(alloc, source)?;
-    let gathered = couplings_of(alloc, source, strengths)?;
-    let couplings = in_order(alloc, gathered)?;
+    let couplings = couplings_of(alloc, source, strengths)?;
     Ok(Ising {
         constant: source.ising().constant,
         fields: NumberList::new(fields),
@@ -67,7 +66,7 @@ fn lowered(alloc: Global, source: &Embedded) -> Result<(Ising, i128), NoMemory>
 
 impl Chains {
     /// The image of an embedded form that is given up: its chains become those of the link, where
-    /// they lie. `lower` makes the same of a form that stays.
+    /// they lie. `lower` makes the same of a copy.
     pub fn lower_owned(
         &self,
         alloc: Global,
@@ -160,16 +159,7 @@ impl Layer for Chains {
         alloc: Global,
         source: &Embedded,
     ) -> Result<Lowered<Ising, ChainLink>, NoMemory> {
-        let (target, offset) = lowered(alloc, source)?;
-        Ok(Lowered {
-            target,
-            link: ChainLink {
-                chains: source.chains().copied(alloc)?,
-                qubits: source.qubits(),
-            },
-            scale: 1,
-            offset,
-        })
+        self.lower_owned(alloc, copied(alloc, source)?)
     }
 
     fn decode(&self, alloc: Global, link: &ChainLink, y: &[bool]) -> Result<Vec<bool>, NoMemory> {

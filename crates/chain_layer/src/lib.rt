@@ -6,18 +6,23 @@
 #![tactic(auto)]
 
 mod chains;
+mod copying;
 mod decoding;
 mod extending;
 mod laws;
 mod link;
+mod merging;
+mod placing;
 mod shares;
 mod strengths;
 mod ties;
 
 pub use chains::Chains;
+pub use copying::copied;
 pub use decoding::decoded;
 pub use extending::{extended, on_chains};
 pub use laws::laws_of_images;
 pub use link::ChainLink;
 pub use shares::shared_fields;
+pub use strengths::raise_ends;
 pub use ties::{coupling, placed};

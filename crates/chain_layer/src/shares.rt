@@ -1,6 +1,7 @@
 //! The fields of nodes, split over their chains.
-ghost use Rattle.std.specs.Prelude.{◌≡◌, ◌≢◌, ◌+◌, ◌*◌, ◌<◌, ◌≤◌, ◌^◌, [], All, IfOk, fold, length, map, unsigned_abs};
+ghost use Rattle.std.specs.Prelude.{◌≡◌, ◌≢◌, ◌+◌, ◌*◌, ◌<◌, ◌≤◌, ◌^◌, [], All, IfOk, fold, length, map, pos, unsigned_abs};
 ghost use Rattle.std.specs.List.{range_with_len};
+ghost use Rattle.std.specs.Int.{int_div_euclid, int_rem_euclid};
 ghost use Rattle.chain_layer.specs.Image.{all_shares, equal_shares, field_at, field_entry, shares};
 ghost use Rattle.chain_layer.specs.Steps.{added, sizes_of};
 
@@ -31,6 +32,25 @@ fn add_each(fields: &mut [i128], qubits: &[u32], share: i128)
     }
 }
 
+/// The share of a field on a chain of so many qubits, and how many of these get one more. A field of
+/// at most 64 bits is divided as such.
+fn divided(field: i128, length: usize) -> (i128, usize)
+    requires { 0 < length }
+    ensures share { result.0 ≡ int_div_euclid field (pos length) }
+    ensures rest { result.1 ≡ unsigned_abs (int_rem_euclid field (pos length)) }
+{
+    if let Ok(field) = i64::try_from(field) {
+        if let Ok(length) = i64::try_from(length) {
+            return (
+                i128::from(field.div_euclid(length)),
+                field.rem_euclid(length) as usize,
+            );
+        }
+    }
+    let length = length as i128;
+    (field.div_euclid(length), field.rem_euclid(length) as usize)
+}
+
 /// Splits a field over a chain: it is the share times the length, and a rest. The first qubits, as
 /// many as the rest, get one more.
 fn add_shares(fields: &mut [i128], chain: &[u32], field: i128)
@@ -41,9 +61,8 @@ fn add_shares(fields: &mut [i128], chain: &[u32], field: i128)
     ensures length { length fields.new ≡ length fields.old }
     ensures sizes { sizes_of fields.new ≤ sizes_of fields.old + unsigned_abs field }
 {
-    let length = chain.len() as i128;
-    let share = field.div_euclid(length);
-    let (more, others) = chain.split_at(field.rem_euclid(length) as usize);
+    let (share, rest) = divided(field, chain.len());
+    let (more, others) = chain.split_at(rest);
     add_each(fields, more, share + 1);
     add_each(fields, others, share);
 }

@@ -1,5 +1,5 @@
 //! How strongly the qubits of each chain are tied.
-ghost use Rattle.std.specs.Prelude.{◌≡◌, ◌+◌, ◌<◌, ◌≤◌, ◌^◌, ℕ, All, IfOk, length, map, unsigned_abs};
+ghost use Rattle.std.specs.Prelude.{◌≡◌, ◌+◌, ◌<◌, ◌≤◌, ◌^◌, ◌∷◌, [], ℕ, All, IfOk, length, map, unsigned_abs};
 ghost use Rattle.std.specs.List.{slice_index_or, slice_set};
 ghost use Rattle.bits_model.specs.Output.{weight_total};
 ghost use Rattle.quad_form.specs.Quads.{IsCoupler};
@@ -7,7 +7,7 @@ ghost use Rattle.embedding_check.specs.Embeddings.{IsEmbedding};
 ghost use Rattle.chain_layer.specs.Image.{couplings_at, nodes_of, strength};
 
 use base::NoMemory;
-use bits_model::CouplerList;
+use bits_model::{CouplerList, Entry};
 use embedding_check::Embedded;
 use std::alloc::Global;
 
@@ -32,6 +32,20 @@ fn raise(strengths: &mut [u128], node: u32, size: u128)
     strengths[node as usize] += size;
 }
 
+/// Adds the size of a coupling to what both of its ends have.
+pub fn raise_ends(sums: &mut [u128], coupling: &Entry)
+    requires ends { IsCoupler (length sums.old) coupling.now }
+    requires small { (i : ℕ) → i < length sums.old
+        → slice_index_or sums.old i 0 + unsigned_abs coupling.now.weight < 2 ^ 127 }
+    ensures length { length sums.new ≡ length sums.old }
+    ensures sums { (i : ℕ) → i < length sums.old → slice_index_or sums.new i 0
+        ≡ slice_index_or sums.old i 0 + couplings_at i (coupling.now ∷ []) }
+{
+    let size = coupling.weight.unsigned_abs();
+    raise(sums, coupling.first, size);
+    raise(sums, coupling.second, size);
+}
+
 /// Adds the size of each coupling to both of its nodes.
 fn add_couplings(strengths: &mut [u128], couplings: &CouplerList)
     requires within { All (IsCoupler (length strengths.old)) couplings.now }
@@ -42,9 +56,7 @@ fn add_couplings(strengths: &mut [u128], couplings: &CouplerList)
         ≡ slice_index_or strengths.old i 0 + couplings_at i couplings.now }
 {
     for coupling in couplings.iter() {
-        let size = coupling.weight.unsigned_abs();
-        raise(strengths, coupling.first, size);
-        raise(strengths, coupling.second, size);
+        raise_ends(strengths, &coupling);
     }
 }
 

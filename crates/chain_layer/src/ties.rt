@@ -1,5 +1,7 @@
 //! The couplings of qubits: those that are placed, and ties.
 ghost use Rattle.std.specs.Prelude.{◌≡◌, ◌+◌, ◌<◌, ◌≤◌, ◌^◌, ◌++◌, [], IfOk, OnOk, drop, length, map};
+ghost use Rattle.std.specs.List.Sorted.{IsPermutation, IsNonDecreasingBy};
+ghost use Rattle.bits_model.specs.PairNumbers.{pair_number};
 ghost use Rattle.embedding_check.specs.Embeddings.{IsEmbedding};
 ghost use Rattle.chain_layer.specs.Image.{
   all_ties,
@@ -11,10 +13,12 @@ ghost use Rattle.chain_layer.specs.Image.{
   ties_cost,
 };
 
+use crate::merging::{ascend, merged};
+use crate::placing::PlacedEntries;
 use base::NoMemory;
 use bits_model::{CouplerList, Entry};
 use embedding_check::Embedded;
-use pair_sums::Pairs;
+use pair_sums::{Pairs, in_order};
 use std::alloc::Global;
 
 /// A coupling of two qubits, the lesser one first.
@@ -45,15 +49,9 @@ fn add_placed(
     requires { length places.now ≡ length couplings.now }
     ensures { OnOk result (made.new ≡ made.old ++ placed couplings.now places.now) }
 {
-    let mut at = 0;
-    for coupling in couplings.iter() {
-        let (first, second) = places[at];
-        made.push(Entry {
-            first,
-            second,
-            weight: coupling.weight,
-        })?;
-        at += 1;
+    let mut left = PlacedEntries::new(couplings, places);
+    while let Some(entry) = left.take_up_to(u64::MAX) {
+        made.push(entry)?;
     }
     Ok(())
 }
@@ -116,22 +114,52 @@ fn add_ties(made: &mut Pairs, source: &Embedded, strengths: &[u128]) -> Result<(
     Ok(())
 }
 
+/// The ties of all chains in order.
+fn ties_of(alloc: Global, source: &Embedded, strengths: &[u128]) -> Result<CouplerList, NoMemory>
+    requires kept { IsEmbedding source.now }
+    requires strengths { strengths.now ≡ map (strength source.now) (nodes_of source.now) }
+    ensures same { IfOk result (IsPermutation (all_ties source.now)) }
+    ensures ordered { IfOk result (IsNonDecreasingBy pair_number) }
+{
+    let mut made = with_room(alloc, 0, source.qubits())?;
+    add_ties(&mut made, source, strengths)?;
+    in_order(alloc, made)
+}
+
 /// The ties of all chains, and the placed couplings. Ties come first, since their weights are the
 /// greatest: how weights are held is known before most of them come.
-pub fn couplings_of(alloc: Global, source: &Embedded, strengths: &[u128]) -> Result<Pairs, NoMemory>
+fn gathered(alloc: Global, source: &Embedded, strengths: &[u128]) -> Result<Pairs, NoMemory>
     requires kept { IsEmbedding source.now }
     requires strengths { strengths.now ≡ map (strength source.now) (nodes_of source.now) }
     ensures { IfOk result (λ v. v
         ≡ all_ties source.now ++ placed source.now.ising.couplings source.now.places) }
 {
-    let mut made = with_room(alloc, source.ising().couplings.len(), source.qubits())?;
+    let couplings = &source.ising().couplings;
+    let mut made = with_room(alloc, couplings.len(), source.qubits())?;
     add_ties(&mut made, source, strengths)?;
-    add_placed(
-        &mut made,
-        &source.ising().couplings,
-        source.places().as_slice(),
-    )?;
+    add_placed(&mut made, couplings, source.places().as_slice())?;
     Ok(made)
+}
+
+/// The ties of all chains and the placed couplings in the order of their pairs. Only ties are sorted
+/// where the places ascend.
+pub fn couplings_of(
+    alloc: Global,
+    source: &Embedded,
+    strengths: &[u128],
+) -> Result<CouplerList, NoMemory>
+    requires kept { IsEmbedding source.now }
+    requires strengths { strengths.now ≡ map (strength source.now) (nodes_of source.now) }
+    ensures same { IfOk result (IsPermutation
+        (all_ties source.now ++ placed source.now.ising.couplings source.now.places)) }
+    ensures ordered { IfOk result (IsNonDecreasingBy pair_number) }
+{
+    let places = source.places().as_slice();
+    if ascend(places) {
+        let ties = ties_of(alloc, source, strengths)?;
+        return merged(alloc, &ties, &source.ising().couplings, places);
+    }
+    in_order(alloc, gathered(alloc, source, strengths)?)
 }
 
 /// What the ties cost where none is broken.

@@ -3,7 +3,8 @@
 -- Whose a qubit is can be read off its place: on side 0 by its column, on side 1 by its row. So no
 -- qubit is listed twice. A chain is a path, whose neighbours are joined. And the part of a later node
 -- that goes down its column meets the part of an earlier one that goes along its row in a cell.
-use Rattle.chain_map.proofs.Common.{◌≡◌, ◌≢◌, ℕ, zero, suc, ◌+◌, ◌-◌, ◌*◌, ◌/◌, ◌%◌, ◌<◌, ◌≤◌, ◌==◌, inl, inr, true, List, [], length, map, get_or, All, if◌then◌else◌, refl, sym, ap, ◌∙◌, arith, mod-lt, count_by, sum_by, range_with_len, cases_eq, cases_lt, nat_tests, length-append, get_or_append_left, get_or-append_right, length-map-range_with_len, get_or-map-range_with_len, sum_by-append, sum_by-cons, div-add-mod', div-mul-add, mod-mul-add, div-lt_iff_lt-mul, mul_comm, min-le_left, min-le_right, div-mul-le_self, le-div_iff_mul-le, Chimera, Place, IsPlaceIn, qubits_of, index_of, place_of, are_joined, index_below, Entry, IsConnected, IsCoupler, occurrences, IsCrossing, IsCoupled, diagonal_of, clique_places, down_qubit, along_qubit, path_of, clique_chain, clique_of, IsForClique}
+use Rattle.chain_map.proofs.Common.{◌≡◌, ◌≢◌, ℕ, zero, suc, ◌+◌, ◌-◌, ◌*◌, ◌/◌, ◌%◌, ◌<◌, ◌≤◌, ◌==◌, inl, inr, true, List, [], length, map, get_or, All, if◌then◌else◌, refl, sym, ap, ◌∙◌, arith, mod-lt, count_by, sum_by, range_with_len, cases_eq, cases_lt, nat_tests, length-append, get_or_append_left, get_or-append_right, length-map-range_with_len, get_or-map-range_with_len, sum_by-append, sum_by-cons, div-add-mod', div-lt_iff_lt-mul, mul_comm, min-le_left, min-le_right, div-mul-le_self, le-div_iff_mul-le, Chimera, Place, IsPlaceIn, qubits_of, index_of, place_of, are_joined, index_below, Entry, IsConnected, IsCoupler, occurrences, IsCrossing, IsCoupled, diagonal_of, clique_places, down_qubit, along_qubit, path_of, clique_chain, clique_of, IsForClique}
+pub use Rattle.chain_map.proofs.Common.{place_again}
 use Rattle.chain_map.proofs.Occurrences.{occurrences-sum}
 use Rattle.chain_map.proofs.Rows.{default_free}
 use Rattle.chain_map.proofs.Paths.{is_in_at, path_connected}
@@ -15,18 +16,6 @@ down_place i k row = record { row = row; col = i; side = 0; at = k }
 
 abbrev pub along_place : ℕ → ℕ → ℕ → Place
 along_place i k col = record { row = i; col = col; side = 1; at = k }
-
-pub place_again : (graph : Chimera) (p : Place) → IsPlaceIn graph p
-    → place_of graph (index_of graph p) ≡ p
-place_again graph p inside =
-    let cell = p.row * graph.cols + p.col in
-    let line = div-mul-add (cell * 2 + p.side) graph.shore p.at inside.at_below in
-    let whole = ap (λ n. n / 2) line ∙ div-mul-add cell 2 p.side inside.side_below in
-    let row = ap (λ n. n / graph.cols) whole ∙ div-mul-add p.row graph.cols p.col inside.col_below in
-    let col = ap (λ n. n % graph.cols) whole ∙ mod-mul-add p.row graph.cols p.col inside.col_below in
-    let side = ap (λ n. n % 2) line ∙ mod-mul-add cell 2 p.side inside.side_below in
-    let at = mod-mul-add (cell * 2 + p.side) graph.shore p.at inside.at_below in
-    λ i. record { row = row i; col = col i; side = side i; at = at i }
 
 pub down_in : (graph : Chimera) (i k row : ℕ) → i < diagonal_of graph → k < graph.shore → row ≤ i
     → IsPlaceIn graph (down_place i k row)
@@ -166,6 +155,7 @@ path_once graph i k q cell at =
     let h : ℕ → ℕ = λ p. if p == q then 1 else 0 in
     let once : (p : ℕ) → h p ≤ 1 = λ p. grind (arith, nat_tests) in
     let place = place_of graph q in
+    let crossed = place.row in
     let all = count_path graph i k q in
     let down = λ (v : ℕ) (low : v ≤ i). place_down graph i k v q cell at low in
     let along = λ (v : ℕ) (less : v < diagonal_of graph). place_along graph i k v q cell at less in
@@ -173,7 +163,7 @@ path_once graph i k q cell at =
     let alongs = sum_none h (along_qubit graph i k) i (diagonal_of graph - i) in
     elim (cases_eq place.side 0) [
       | inl zero_side ↦
-          let one = sum_once h (down_qubit graph i k) place.row 0 (i + 1) (λ v low high. once _)
+          let one = sum_once h (down_qubit graph i k) crossed 0 (i + 1) (λ v low high. once _)
           (λ v low high other. is_other _ _ (λ e.
           let is = down v (omega (arith, high)) e in other (cc))) in
           omega (arith, alongs (λ v low high. is_other _ _ (λ e. let is = along v (omega (arith, low, high, cell)) e in absurd (cc))))

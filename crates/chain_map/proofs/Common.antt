@@ -12,7 +12,7 @@ pub use Rattle.chimera_graph.specs.declared.chimera.Chimera.{Chimera}
 pub use Rattle.chimera_graph.specs.declared.place.Place.{Place}
 pub use Rattle.chimera_graph.specs.Graph.{IsPlaceIn, qubits_of, index_of, place_of}
 pub use Rattle.chimera_graph.specs.Places.{are_joined}
-pub use Rattle.chimera_graph.proofs.Numbering.{index_below}
+pub use Rattle.chimera_graph.proofs.Numbering.{index_below, place_again}
 pub use Rattle.bits_model.specs.declared.output.Entry.{Entry}
 pub use Rattle.bits_model.specs.Walks.{is_in, IsConnected, first_of, IsWalk, end_of, IsReached}
 pub use Rattle.quad_form.specs.Quads.{IsCoupler}

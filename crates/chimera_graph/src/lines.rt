@@ -19,6 +19,39 @@ fn place_at(place: Place, row: u32, col: u32) -> Place
     }
 }
 
+impl Chimera {
+    ghost use Rattle.std.specs.Prelude.{◌+◌, ◌<◌, ◌^◌, true};
+    ghost use Rattle.chimera_graph.specs.Graph.{qubits_of, place_of};
+    ghost use Rattle.chimera_graph.specs.Lines.{facing_of};
+    ghost use Rattle.chimera_graph.specs.Places.{are_joined};
+
+    /// The first qubit of the other side of a qubit's cell, by one division.
+    #[inline(always)]
+    fn across(&self, a: u32) -> u32
+        requires { a < qubits_of self.now }
+        ensures start { result ≡ (facing_of self.now a).start }
+        ensures small { result + self.now.shore < 2 ^ 32 }
+    {
+        let line = a / self.shore;
+        if line % 2 == 0 {
+            (line + 1) * self.shore
+        } else {
+            (line - 1) * self.shore
+        }
+    }
+
+    /// Whether a qubit faces another one: most joins are found by this alone.
+    #[inline(always)]
+    fn faces(&self, a: u32, b: u32) -> bool
+        requires first { a < qubits_of self.now }
+        requires second { b < qubits_of self.now }
+        ensures { result ≡ true → are_joined (place_of self.now a) (place_of self.now b) ≡ true }
+    {
+        let start = self.across(a);
+        start <= b && b - start < self.shore
+    }
+}
+
 impl Hardware for Chimera {
     ghost use Rattle.chimera_graph.specs.Graph.{qubits_of, place_of};
     ghost use Rattle.chimera_graph.specs.Lines.{facing_of, before_of, after_of};
@@ -41,18 +74,12 @@ impl Hardware for Chimera {
     }
 
     fn joined(&self, a: u32, b: u32) -> bool {
-        are_joined(self.place(a), self.place(b))
+        self.faces(a, b) || are_joined(self.place(a), self.place(b))
     }
 
     /// The other side of its cell.
     fn facing(&self, a: u32) -> Span {
-        let place = self.place(a);
-        let start = self.index(Place {
-            row: place.row,
-            col: place.col,
-            side: 1 - place.side,
-            at: 0,
-        });
+        let start = self.across(a);
         Span {
             start,
             end: start + self.shore,

@@ -35,7 +35,7 @@ pub use Rattle.bits_model.specs.Walks.{is_in, first_of}
 pub use Rattle.bits_model.proofs.Energies.{weights-append}
 pub use Rattle.ising_form.specs.Isings.{IsIsing, ising_total, ising_size, IsingContent}
 pub use Rattle.chain_layer.specs.laws.Aligned.{couplers_of, node_at}
-pub use Rattle.chain_layer.proofs.Added.{ties_of_more, filled_lengths, at_map, zip_lengths, flat_range, CanRaise, next_small, can_raise, first_fits, second_fits, raised_more, AreLeft, left_more, changed}
+pub use Rattle.chain_layer.proofs.Added.{ties_of_more, filled_lengths, at_map, zip_lengths, flat_range, AreLeft, left_next, left_more, changed}
 pub use Rattle.chain_layer.proofs.Sizes.{sum_is, size, weights-in_order, weights-flat_map, fields_small, weights_of_shares, weights_of_image_fields, weights_placed, sums_le, few_qubits, sizes-append, sizes-in_order, sizes-le, sizes_of_nodes, sizes_of_couplers, weights_of_ties_by, length-placed, length-ties_by}
 pub use Rattle.chain_layer.specs.laws.OnceChains.{Once, chain_once, own_parents}
 pub use Rattle.quad_form.proofs.NodeEnergies.{weights_within}

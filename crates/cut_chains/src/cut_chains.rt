@@ -17,7 +17,7 @@ ghost use Rattle.cut_chains.specs.CutLinks.{Fits, IsSound, decoding};
 use crate::image::image_of;
 use crate::link::CutLink;
 use base::NoMemory;
-use chain_layer::{decoded, extended};
+use chain_layer::{copied, decoded, extended};
 use embedding_check::Embedded;
 use form_steps::Lowered;
 use ising_form::Ising;
@@ -43,7 +43,7 @@ fn lowered(alloc: Global, source: &Embedded) -> Result<(Ising, i128), NoMemory>
 }
 
 impl CutChains {
-    /// Makes the image of a form.
+    /// Makes the image of a form that stays.
     pub fn lower(
         &self,
         alloc: Global,
@@ -65,20 +65,11 @@ impl CutChains {
         ensures size { IfOk result (λ made.
             ising_size made.target ≤ embedding_size source.now * 2 ^ 1) }
     {
-        let (target, offset) = lowered(alloc, source)?;
-        Ok(Lowered {
-            target,
-            link: CutLink {
-                chains: source.chains().copied(alloc)?,
-                qubits: source.qubits(),
-            },
-            scale: 1,
-            offset,
-        })
+        self.lower_owned(alloc, copied(alloc, source)?)
     }
 
     /// The image of a form that is given up: its chains become those of the link, where they lie.
-    /// `lower` makes the same of a form that stays.
+    /// `lower` makes the same of a copy.
     pub fn lower_owned(
         &self,
         alloc: Global,

@@ -1,6 +1,6 @@
 //! How much each qubit weighs: the sizes of its field and of the placed couplings that end at it.
 ghost use Rattle.std.specs.Prelude.{◌≡◌, ◌+◌, ◌<◌, ◌^◌, ℕ, All, IfOk, length, map, unsigned_abs};
-ghost use Rattle.std.specs.List.{range_with_len, slice_index_or, slice_set};
+ghost use Rattle.std.specs.List.{range_with_len, slice_index_or};
 ghost use Rattle.bits_model.specs.Output.{weight_total};
 ghost use Rattle.quad_form.specs.Quads.{IsCoupler};
 ghost use Rattle.chain_layer.specs.Image.{couplings_at, all_shares, field_at, placed};
@@ -8,6 +8,7 @@ ghost use Rattle.embedding_check.specs.Embeddings.{IsEmbedding};
 ghost use Rattle.cut_chains.specs.Sides.{weight_of};
 
 use base::NoMemory;
+use chain_layer::raise_ends;
 use embedding_check::Embedded;
 use pair_sums::Pairs;
 use std::alloc::Global;
@@ -23,16 +24,6 @@ fn field_weights(alloc: Global, fields: &[i128]) -> Result<Vec<u128>, NoMemory>
     Ok(weights)
 }
 
-/// Adds to the weight of a qubit.
-fn raise(weights: &mut [u128], qubit: u32, size: u128)
-    requires within { qubit < length weights.old }
-    requires small { slice_index_or weights.old qubit 0 + size < 2 ^ 127 }
-    ensures { weights.new
-        ≡ slice_set weights.old qubit (slice_index_or weights.old qubit 0 + size) }
-{
-    weights[qubit as usize] += size;
-}
-
 /// Adds the size of each coupling to both of its qubits.
 fn add_couplings(weights: &mut [u128], couplings: &Pairs)
     requires within { All (IsCoupler (length weights.old)) couplings.now }
@@ -43,10 +34,7 @@ fn add_couplings(weights: &mut [u128], couplings: &Pairs)
         ≡ slice_index_or weights.old i 0 + couplings_at i couplings.now }
 {
     for k in 0..couplings.len() {
-        let coupling = couplings.at(k);
-        let size = coupling.weight.unsigned_abs();
-        raise(weights, coupling.first, size);
-        raise(weights, coupling.second, size);
+        raise_ends(weights, &couplings.at(k));
     }
 }
 

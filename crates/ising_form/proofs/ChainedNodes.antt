@@ -1,5 +1,5 @@
 -- The entries of nodes on chains, beside those of all nodes.
-use Rattle.ising_form.proofs.Common.{cases_lt, cases_Bool, nat_tests, ◌≡◌, inl, inr, ℕ, suc, ◌+◌, ◌<◌, ◌≤◌, ◌==◌, Bool, false, cond, ◌&&◌, ◌||◌, ℤ, pos, unsigned_abs, List, [], ◌∷◌, ◌++◌, length, take, get_or, All, refl, ap, ◌∙◌, arith, AllByRecursion, filter, list_any, slice_index_or, IsStrictlySortedBy, ints, sum_by-cons, recursion_from_All, total_by, Entry, spins_energy, entry_cmp, has_node, is_chained, weight_total, listed_entries, node_entries, IsCoupler, node_entries_more, is_marked, is_on_chain, energy_of_node, cases_eq, leb, ltb}
+use Rattle.ising_form.proofs.Common.{cases_lt, cases_Bool, nat_tests, ◌≡◌, inl, inr, ℕ, suc, ◌+◌, ◌<◌, ◌≤◌, ◌==◌, Bool, true, false, cond, ◌&&◌, ◌||◌, ℤ, pos, unsigned_abs, List, [], ◌∷◌, ◌++◌, length, length-append, length-set, length-take-le, append-nil, take, take_more_set, get_or, get_or-set_other, set, All, refl, sym, ap, ◌∙◌, arith, AllByRecursion, filter, list_any, slice_index_or, IsStrictlySortedBy, ints, sum_by-cons, recursion_from_All, total_by, Entry, spins_energy, entry_cmp, has_node, is_chained, weight_total, listed_entries, node_entries, IsCoupler, node_entries_more, is_marked, is_on_chain, energy_of_node, cases_eq, leb, ltb}
 use Rattle.std.specs.declared.cmp.Ordering.TheVariants.{Less}
 
 -- ---- some of a list, and then another list
@@ -127,7 +127,7 @@ filter_push p [] x = refl
 filter_push p (y ∷ ys) x = grind (arith, nat_tests, filter_push p ys x)
 
 -- a node that is marked has an entry, and one that is not marked has none
-pub marked_more : (marks : List Bool) (ws : List ℤ) (i : ℕ) (d : ℤ) → i < length ws
+marked_more : (marks : List Bool) (ws : List ℤ) (i : ℕ) (d : ℤ) → i < length ws
     → filter (is_marked marks) (node_entries 0 (take (i + 1) ws))
     ≡ filter (is_marked marks) (node_entries 0 (take i ws))
     ++ cond (slice_index_or marks i false) (record { first = i; second = i; weight = get_or ws i d } ∷ []) []
@@ -142,7 +142,7 @@ filter-same p q [] same = refl
 filter-same p q (x ∷ xs) same = (λ i. cond (same x i) (x ∷ filter-same p q xs same i) (filter-same p q xs same i))
 
 -- one node more is listed
-pub listed_push : (ns : List ℕ) (ws : List ℤ) (n : ℕ) (w : ℤ) → length ns ≡ length ws
+listed_push : (ns : List ℕ) (ws : List ℤ) (n : ℕ) (w : ℤ) → length ns ≡ length ws
     → listed_entries (ns ++ n ∷ []) (ws ++ w ∷ [])
     ≡ listed_entries ns ws ++ record { first = n; second = n; weight = w } ∷ []
 listed_push [] [] n w h = refl
@@ -150,3 +150,40 @@ listed_push [] (v ∷ ws) n w h = absurd (omega arith)
 listed_push (m ∷ ns) [] n w h = absurd (omega arith)
 listed_push (m ∷ ns) (v ∷ ws) n w h =
     ap (λ es. record { first = m; second = m; weight = v } ∷ es) (listed_push ns ws n w (omega arith))
+
+-- ---- fields that are moved together
+
+-- the marked nodes below i are listed, with their fields in front, and the fields from i on stand
+-- where they stood
+pub record AreKept (marks : List Bool) (ws : List ℤ) (i : ℕ) (ns : List ℕ) (xs : List ℤ) : Type 0 where
+  pub few : length ns ≤ i
+  pub same : length xs ≡ length ws
+  pub listed : listed_entries ns (take (length ns) xs) ≡ filter (is_marked marks) (node_entries 0 (take i ws))
+  pub later : (j : ℕ) → i ≤ j → get_or xs j (pos 0) ≡ get_or ws j (pos 0)
+
+pub kept_more : (marks : List Bool) (ws : List ℤ) (i : ℕ) (ns : List ℕ) (xs : List ℤ) → i < length ws
+    → slice_index_or marks i false ≡ true → AreKept marks ws i ns xs
+    → AreKept marks ws (i + 1) (ns ++ i ∷ []) (set xs (length ns) (get_or xs i (pos 0)))
+kept_more marks ws i ns xs below is kept =
+    let k = length ns in
+    let long : length (ns ++ i ∷ []) ≡ k + 1 = omega (arith, length-append {A = ℕ}) in
+    let inside : k < length xs = omega (arith, kept.few, below, kept.same) in
+    record {
+      few = omega (arith, long, kept.few);
+      same = length-set xs k _ ∙ kept.same;
+      listed = rw (long, take_more_set xs k (get_or xs i (pos 0)) inside, kept.later i (omega arith))
+          (listed_push ns (take k xs) i (get_or ws i (pos 0)) (sym (length-take-le k xs (omega (arith, inside))))
+          ∙ ap (λ es. es ++ record { first = i; second = i; weight = get_or ws i (pos 0) } ∷ []) kept.listed
+          ∙ sym (marked_more marks ws i (pos 0) below ∙ rw is refl));
+      later = λ j high. get_or-set_other xs k j _ (pos 0) (λ e. omega (arith, e, high, kept.few))
+          ∙ kept.later j (omega (arith, high));
+    }
+
+pub kept_less : (marks : List Bool) (ws : List ℤ) (i : ℕ) (ns : List ℕ) (xs : List ℤ) → i < length ws
+    → slice_index_or marks i false ≡ false → AreKept marks ws i ns xs → AreKept marks ws (i + 1) ns xs
+kept_less marks ws i ns xs below isnt kept = record {
+  few = omega (arith, kept.few);
+  same = kept.same;
+  listed = kept.listed ∙ sym (marked_more marks ws i (pos 0) below ∙ rw isnt (append-nil _));
+  later = λ j high. kept.later j (omega (arith, high));
+}

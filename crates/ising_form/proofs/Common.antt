@@ -1,10 +1,10 @@
 -- What the proofs of this crate stand on, of std and of the crates below.
-pub use Rattle.std.proofs.Common.{◌≡◌, ◌⊎◌, inl, inr, ℕ, suc, ◌+◌, ◌<◌, ◌≤◌, ◌==◌, Bool, true, false, cond, ◌&&◌, ◌||◌, ℤ, pos, ◌+ℤ◌, unsigned_abs, List, [], ◌∷◌, ◌++◌, length, take, get_or, All, refl, sym, ap, ◌∙◌, subst, arith, ◌-◌, drop, zero, ◌*◌, ◌*ℤ◌, ◌^◌, if◌then◌else◌, neg_ℤ, ◌≤ℤ◌, map, length-append, to_z, of_z, rules, ◌-ℤ◌, slice_set, append_assoc, leb, ltb}
+pub use Rattle.std.proofs.Common.{◌≡◌, ◌⊎◌, inl, inr, ℕ, suc, ◌+◌, ◌<◌, ◌≤◌, ◌==◌, Bool, true, false, cond, ◌&&◌, ◌||◌, ℤ, pos, ◌+ℤ◌, unsigned_abs, List, [], ◌∷◌, ◌++◌, length, take, get_or, set, All, refl, sym, ap, ◌∙◌, subst, arith, ◌-◌, drop, zero, ◌*◌, ◌*ℤ◌, ◌^◌, if◌then◌else◌, neg_ℤ, ◌≤ℤ◌, map, length-append, to_z, of_z, rules, ◌-ℤ◌, slice_set, append_assoc, leb, ltb}
 pub use Rattle.std.specs.List.{AllByRecursion, filter, list_any, slice_index_or, sum_by}
 unfoldable pub use Rattle.std.specs.List.Sorted.{IsStrictlySortedBy}
 pub use Rattle.std.proofs.lemmas.Bool.Decides.{nat_tests}
 pub use Rattle.std.proofs.lemmas.Int.{ints, to_z-of_z}
-pub use Rattle.std.proofs.lemmas.List.{append-nil, length-take-le, drop_more, length-drop, take_all, take_more}
+pub use Rattle.std.proofs.lemmas.List.{append-nil, length-take-le, drop_more, length-drop, length-set, get_or-set_other, take_all, take_more, take_more_set}
 pub use Rattle.std.proofs.lemmas.List.Sums.{sum_by-cons, sum_by-append}
 pub use Rattle.std.proofs.lemmas.List.Elements.{recursion_from_All, All-from_recursion, All-get_or}
 pub use Rattle.base.specs.Sums.{total_by, if_so}

@@ -1,7 +1,6 @@
 -- Ising forms whose weights are counted in their greatest unit: what a quadratic form of the same
 -- weights keeps, and the energies of spins.
 use Rattle.ising_form.proofs.Common.{nat_tests, arith, ◌≡◌, ◌*◌, ◌≤◌, Bool, ℤ, pos, neg_ℤ, ◌≤ℤ◌, unsigned_abs, List, map, ap, Entry, Reduces, spins_energy, QuadContent, IsQuad, unit_of, weights_of, counted_in, entry_in, IsLinear, one_le_quad_unit, reduced_is_quad, IsingContent, IsIsing, ising_total, form_of, ising_unit, reduced}
-use Rattle.quad_form.specs.Units as units
 use Rattle.quad_form.proofs.ReducedForms as quads
 
 -- the quadratic form of the same weights

@@ -1,8 +1,8 @@
 //! The nodes of a model on the qubits of a graph: one has an entry where it is on a chain.
 //!
 //! The qubits of chains are marked first, so that each qubit and each chain is seen once.
-ghost use Rattle.std.specs.Prelude.{◌≡◌, ◌<◌, ◌^◌, ◌++◌, ◌∷◌, [], ◌||◌, ℕ, All, IfOk, OnOk, false, length};
-ghost use Rattle.std.specs.List.{filter, slice_index_or};
+ghost use Rattle.std.specs.Prelude.{◌≡◌, ◌<◌, ◌≤◌, ◌^◌, ◌++◌, ◌∷◌, [], ◌||◌, ℕ, pos, All, IfOk, OnOk, false, length};
+ghost use Rattle.std.specs.List.{filter, slice_index_or, slice_set};
 ghost use Rattle.bits_model.specs.Output.{is_chained};
 ghost use Rattle.bits_model.specs.Walks.{is_in};
 ghost use Rattle.quad_form.specs.Quads.{node_entries};
@@ -39,54 +39,56 @@ fn marked(alloc: Global, nodes: usize, chains: &ChainList) -> Result<Vec<bool>, 
     Ok(marks)
 }
 
-/// Appends a node's number and its field.
-fn push_node(
-    numbers: &mut Vec<u32>,
-    weights: &mut Vec<i128>,
-    node: u32,
-    field: i128,
-) -> Result<(), NoMemory>
+/// Appends a node's number, and moves its field behind those of the numbers before.
+fn keep_node(numbers: &mut Vec<u32>, fields: &mut Vec<i128>, node: u32) -> Result<(), NoMemory>
+    requires later { length numbers.old.items ≤ node }
+    requires within { node < length fields.old.items }
     ensures numbers { OnOk result (numbers.new.items ≡ numbers.old.items ++ node ∷ []) }
-    ensures weights { OnOk result (weights.new.items ≡ weights.old.items ++ field ∷ []) }
+    ensures fields { OnOk result (fields.new.items
+        ≡ slice_set fields.old.items (length numbers.old.items) (slice_index_or fields.old.items node (pos 0))) }
 {
+    fields[numbers.len()] = fields[node as usize];
     numbers.push(node)?;
-    weights.push(field)?;
     Ok(())
 }
 
-/// The fields of the nodes that are marked.
-fn marked_nodes(alloc: Global, fields: &[i128], marks: &[bool]) -> Result<NodeWeights, NoMemory>
-    requires narrow { length fields.now < 2 ^ 32 }
-    requires marks { length marks.now ≡ length fields.now }
+/// The fields of the nodes that are marked, which are moved together.
+fn marked_nodes(
+    alloc: Global,
+    mut fields: Vec<i128>,
+    marks: &[bool],
+) -> Result<NodeWeights, NoMemory>
+    requires narrow { length fields.items < 2 ^ 32 }
+    requires marks { length marks.now ≡ length fields.items }
     ensures { IfOk result (λ nodes. nodes
-        ≡ filter (is_marked marks.now) (node_entries 0 fields.now)) }
+        ≡ filter (is_marked marks.now) (node_entries 0 fields.items)) }
 {
     let mut numbers = Vec::new(alloc);
-    let mut weights = Vec::new(alloc);
-    for (i, field) in fields.iter().enumerate() {
+    for i in 0..marks.len() {
         if marks[i] {
-            push_node(&mut numbers, &mut weights, i as u32, *field)?;
+            keep_node(&mut numbers, &mut fields, i as u32)?;
         }
     }
-    Ok(NodeWeights::listed(numbers, weights))
+    fields.truncate(numbers.len());
+    Ok(NodeWeights::listed(numbers, fields))
 }
 
 /// The fields of the nodes on chains.
 fn chained_nodes(
     alloc: Global,
-    fields: &[i128],
+    fields: Vec<i128>,
     chains: &ChainList,
 ) -> Result<NodeWeights, NoMemory>
-    requires narrow { length fields.now < 2 ^ 32 }
-    requires placed { All (λ chain. All (λ q. q < length fields.now) chain) chains.now }
+    requires narrow { length fields.items < 2 ^ 32 }
+    requires placed { All (λ chain. All (λ q. q < length fields.items) chain) chains.now }
     ensures { IfOk result (λ nodes. nodes
-        ≡ filter (is_on_chain chains.now) (node_entries 0 fields.now)) }
+        ≡ filter (is_on_chain chains.now) (node_entries 0 fields.items)) }
 {
     let marks = marked(alloc, fields.len(), chains)?;
     marked_nodes(alloc, fields, &marks)
 }
 
-/// The fields that a model of this kind has, which are moved where it has all.
+/// The fields that a model of this kind has, in their own memory.
 pub fn nodes_for(
     alloc: Global,
     fields: NumberList,
@@ -99,6 +101,6 @@ pub fn nodes_for(
 {
     match kind {
         Kind::Qubo | Kind::Ising => Ok(NodeWeights::numbered(fields.into_vec())),
-        Kind::Chimera { .. } => chained_nodes(alloc, fields.as_slice(), chains),
+        Kind::Chimera { .. } => chained_nodes(alloc, fields.into_vec(), chains),
     }
 }

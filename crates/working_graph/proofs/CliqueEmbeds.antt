@@ -1,8 +1,7 @@
 -- The chains of a clique, with all qubits but the last as parents and the least joined pair of each
 -- coupling, are what a check of the chains gives.
-use Rattle.working_graph.proofs.Common.{eqb-true, ◌≡◌, ℕ, suc, ◌*◌, ◌/◌, ◌%◌, ◌<◌, ◌≤◌, ◌==◌, Bool, true, false, List, [], ◌∷◌, length, map, get_or, All, if◌then◌else◌, refl, ap, ◌∙◌, arith, mod-lt, AllZip, nat_tests, length-map-range_with_len, div-add-mod', Entry, IsCoupler, IsingContent, IsIsing, Chimera, qubits_of, clique_places, spot_of, down_qubit, along_qubit, clique_chain, clique_of, path_len, cell_of, cells_rise, chain_at_node, clique_valid, AreParents, Embedding, IsEmbedding, IsPlace, IsPlaceOf, IsChecked, checked_embeds, but_last, place_of_spots, clique_place, joined_on}
-use Rattle.working_graph.proofs.PathParents.{path_parents}
-use Rattle.working_graph.proofs.CliquePaths.{clique_path}
+use Rattle.working_graph.proofs.Common.{eqb-true, ◌≡◌, ℕ, suc, ◌*◌, ◌/◌, ◌%◌, ◌<◌, ◌≤◌, ◌==◌, List, [], ◌∷◌, length, map, get_or, All, refl, ap, ◌∙◌, arith, mod-lt, AllZip, length-map-range_with_len, div-add-mod', Entry, IsCoupler, IsingContent, IsIsing, Chimera, qubits_of, clique_places, spot_of, down_qubit, along_qubit, clique_chain, clique_of, path_len, cell_of, cells_rise, chain_at_node, clique_valid, AreParents, Embedding, IsEmbedding, IsPlace, IsPlaceOf, IsChecked, checked_embeds, but_last, place_of_spots, clique_place, joined_on, eqb-false, cond_both}
+use Rattle.working_graph.proofs.CliquePaths.{path_parents, clique_path}
 use Rattle.working_graph.proofs.LeastMeetings.{same_cell, other_cell}
 
 -- ---- places
@@ -14,14 +13,6 @@ at_order graph u v before cell =
     let one = div-add-mod' u graph.shore in
     let two = div-add-mod' v graph.shore in
     omega (arith, before, ap (λ n. n * graph.shore) cell)
-
-chosen : (graph : Chimera) (c d : List ℕ) (b : Bool) (x y : ℕ × ℕ)
-    → (b ≡ true → IsPlace (joined_on graph) c d x) → (b ≡ false → IsPlace (joined_on graph) c d y)
-    → IsPlace (joined_on graph) c d (if b then x else y)
-chosen graph c d b x y one other = grind (arith, nat_tests)
-
-is_other : (a b : ℕ) → (a == b) ≡ false → a ≡ b → ⊥
-is_other a b e = grind (arith, nat_tests)
 
 -- the least joined pair of the chains of two nodes
 least_place : (graph : Chimera) (u v : ℕ) → u < v → v < clique_places graph
@@ -37,13 +28,13 @@ least_place graph u v before below =
     let order = cells_rise graph u v (omega (arith, before)) in
     let at = mod-lt u graph.shape.some_shore in
     let at' = mod-lt v graph.shape.some_shore in
-    chosen graph (clique_chain graph u) (clique_chain graph v) (i == j)
-    (down_qubit graph i k i, along_qubit graph j l j) (down_qubit graph j l i, along_qubit graph i k j)
+    cond_both (i == j) (down_qubit graph i k i, along_qubit graph j l j) (down_qubit graph j l i, along_qubit graph i k j)
+    (IsPlace (joined_on graph) (clique_chain graph u) (clique_chain graph v))
     (λ e.
     let same : i ≡ j = eqb-true i j e in
     rw (← same)
     (same_cell graph i k l (omega (arith, order, cell)) (at_order graph u v before same) at'))
-    (λ e. other_cell graph i k j l (omega (arith, order, is_other i j e)) cell at at')
+    (λ e. other_cell graph i k j l (omega (arith, order, eqb-false i j e)) cell at at')
 
 coupling_place : (graph : Chimera) (nodes : ℕ) (c : Entry) → nodes ≤ clique_places graph
     → IsCoupler nodes c

@@ -1,21 +1,41 @@
 -- Which place may be taken next, by what the code asks.
-use Rattle.working_graph.proofs.Common.{nat_tests, ◌≡◌, ℕ, suc, ◌+◌, ◌-◌, ◌*◌, ◌/◌, ◌%◌, ◌<◌, ◌≤◌, ◌^◌, ◌==◌, Bool, true, false, not, ◌&&◌, ◌||◌, List, [], ◌∷◌, ◌++◌, length, map, take, set, min, max, get_or, refl, sym, ap, ◌∙◌, arith, mod-lt, list_all, cases_eq, eqb-true, list_all_at, list_any-append, get_or-set_same, get_or-set_other, length-map, length-take, map-append, take_all, mul-add-lt, div-add-mod', is_in, Chimera, index_below, Joins, cell_of, diagonal_of, clique_places, down_qubit, along_qubit, clique_chain, is_in_at, at_of_in, Fabric, WorkingGraph, joined_in, fabric_of, pair_number, has_pair, AreRising, first_across, is_cut, AreTaken, AreMarked, IsParted, are_linked, are_coupled, is_whole, is_free, is_marked, taken_next, taken_of, taken_places, working_clique}
-use Rattle.working_graph.proofs.TakenPlaces.{taken_front}
+use Rattle.working_graph.proofs.Common.{nat_tests, ◌≡◌, ℕ, suc, ◌+◌, ◌-◌, ◌*◌, ◌/◌, ◌%◌, ◌<◌, ◌≤◌, ◌^◌, ◌==◌, Bool, true, false, not, ◌&&◌, ◌||◌, List, [], ◌∷◌, ◌++◌, length, map, take, set, min, max, get_or, refl, sym, ap, ◌∙◌, arith, mod-lt, list_all, cases_eq, eqb-true, list_all_at, list_any-append, get_or-set_same, get_or-set_other, length-map, length-take, take_all, mul-add-lt, div-add-mod', is_in, Chimera, index_below, Joins, cell_of, diagonal_of, clique_places, down_qubit, along_qubit, clique_chain, is_in_at, at_of_in, Fabric, WorkingGraph, joined_in, fabric_of, pair_number, has_pair, AreRising, first_across, is_cut, AreTaken, AreMarked, IsParted, are_linked, are_coupled, is_whole, is_free, is_marked, taken_of, taken_places, working_clique, false_from_ne_true, list_all-from_AllPass, All-from_get_or}
+use Rattle.working_graph.proofs.WorkingCliques.{taken_front, any_of}
 use Rattle.working_graph.proofs.Pairs.{number_of_ordered}
-use Rattle.working_graph.proofs.WorkingCliques.{any_of}
-use Rattle.working_graph.proofs.Barriers.{HasPassed, passed_all}
 use Rattle.working_graph.proofs.Meetings.{unparted_coupled, parted_uncoupled}
+
+-- ---- numbers of dead couplers that begin at one qubit
+
+-- those from here on are not too low, and none before is of a number that is barred
+pub record HasPassed (cuts : List ℕ) (from k : ℕ) (Bars : ℕ → Type 0) : Type 0 where
+  pub after : (i : ℕ) → k ≤ i → i < length cuts → from ≤ get_or cuts i 0
+  pub passed : (i other : ℕ) → i < k → get_or cuts i 0 ≡ from + other → Bars other → ⊥
+
+pub passed_more : (cuts : List ℕ) (from k : ℕ) (Bars : ℕ → Type 0) → HasPassed cuts from k Bars
+    → k < length cuts → (Bars (get_or cuts k 0 - from) → ⊥) → HasPassed cuts from (k + 1) Bars
+passed_more cuts from k Bars inv below none = record {
+  after = λ i high low. inv.after i (omega (arith, high)) low;
+  passed = λ i other low is bars.
+      let old = inv.passed i other in
+      grind (arith, nat_tests, cases_eq i k);
+}
+
+-- once the numbers are too high, none is barred at all
+pub passed_all : (cuts : List ℕ) (from k width : ℕ) (Bars : ℕ → Type 0) → AreRising cuts
+    → HasPassed cuts from k Bars → (k < length cuts → get_or cuts k 0 - from < width → ⊥)
+    → (i other : ℕ) → i < length cuts → other < width → get_or cuts i 0 ≡ from + other
+    → Bars other → ⊥
+passed_all cuts from k width Bars rising inv done i other low small is bars =
+    let before = inv.passed i other in
+    let up = rising k i in
+    let here = inv.after k (omega arith) in
+    grind (arith, nat_tests)
 
 -- ---- tests of lists
 
-pub false_unless : (b : Bool) → (b ≡ true → ⊥) → b ≡ false
-false_unless b never = grind (arith, nat_tests)
-
 pub all_from : (p : ℕ → Bool) (xs : List ℕ)
     → ((i : ℕ) → i < length xs → p (get_or xs i 0) ≡ true) → list_all p xs ≡ true
-all_from p [] each = refl
-all_from p (x ∷ xs) each =
-    rw (each 0 (omega arith), all_from p xs (λ i low. each (suc i) (omega (arith, low)))) refl
+all_from p xs each = list_all-from_AllPass p xs (All-from_get_or (λ x. p x ≡ true) xs 0 each)
 
 pub linked_from : (joined : Joins) (xs : List ℕ) → ((j : ℕ) → suc j < length xs
     → joined (get_or xs j 0) (get_or xs (suc j) 0) ≡ true) → are_linked joined xs ≡ true
@@ -42,6 +62,12 @@ pub place_below : (graph : Chimera) (row other : ℕ) → row < diagonal_of grap
 place_below graph row other low below = mul-add-lt row graph.shore other
     (diagonal_of graph) low below
 
+-- the cell of a place is one of the graph
+pub place_in : (graph lent : Chimera) (place : ℕ) → lent ≡ graph → place < clique_places graph
+    → (place / lent.shore < lent.rows) × (place / lent.shore < lent.cols)
+place_in graph lent place same below =
+    let cell = cell_of graph place below in rw same (omega (arith, cell), omega (arith, cell))
+
 -- the chain of one place is coupled to that of another
 abbrev meets : WorkingGraph → ℕ → ℕ → Bool
 meets w place u = are_coupled (joined_in w) (clique_chain w.graph place) (clique_chain w.graph u)
@@ -53,29 +79,23 @@ IsBar w marks place = (u : ℕ) × (is_marked marks u ≡ true) × IsParted w pl
 abbrev IsUnbarred : WorkingGraph → List Bool → ℕ → Type 0
 IsUnbarred w marks place = (u : ℕ) → is_marked marks u ≡ true → IsParted w place u → ⊥
 
-free_when : (w : WorkingGraph) (marks : List Bool) (place : ℕ) (xs : List ℕ) (b : Bool)
-    → place < clique_places w.graph → (b ≡ true → IsBar w marks place) → (b ≡ false
-    → IsUnbarred w marks place) → is_whole (fabric_of w) (clique_chain w.graph place) ≡ true
-    → AreMarked marks xs → AreTaken (fabric_of w) (clique_chain w.graph) place xs → not b
-    ≡ list_all (meets w place) xs
-free_when w marks place xs true below found none whole marked taken =
+pub free_by : (w : WorkingGraph) (marks : List Bool) (place : ℕ) (xs : List ℕ) (b : Bool)
+    → place < clique_places w.graph → (b ≡ true → IsBar w marks place)
+    → (b ≡ false → IsUnbarred w marks place)
+    → is_whole (fabric_of w) (clique_chain w.graph place) ≡ true → AreMarked marks xs
+    → AreTaken (fabric_of w) (clique_chain w.graph) place xs
+    → not b ≡ is_free (fabric_of w) (clique_chain w.graph) xs place
+free_by w marks place xs true below found none whole marked taken =
     let bar = found refl in
     let at = at_of_in xs bar.0 (sym (marked bar.0) ∙ bar.1) in
     let before : bar.0 < place = rw at.2 at (taken.below at.0 at.1) in
-    let apart = false_unless _ (parted_uncoupled w bar.0 place before below bar.2) in
+    let apart = false_from_ne_true _ (parted_uncoupled w bar.0 place before below bar.2) in
     sym (list_all_at (meets w place) xs at.0 0 at.1 (rw at.2 apart))
-free_when w marks place xs false below found none whole marked taken =
+    ∙ sym (λ i. whole i && list_all (meets w place) xs)
+free_by w marks place xs false below found none whole marked taken =
     sym (all_from (meets w place) xs (λ i low.
     unparted_coupled w _ place (taken.below i low) below (taken.whole i low) whole
     (none refl _ (marked _ ∙ is_in_at xs i _ low refl))))
-
-pub free_by : (w : WorkingGraph) (marks : List Bool) (place : ℕ) (xs : List ℕ) (b : Bool)
-    → place < clique_places w.graph → (b ≡ true → IsBar w marks place) → (b ≡ false
-    → IsUnbarred w marks place) → is_whole (fabric_of w) (clique_chain w.graph place) ≡ true
-    → AreMarked marks xs → AreTaken (fabric_of w) (clique_chain w.graph) place xs → not b
-    ≡ is_free (fabric_of w) (clique_chain w.graph) xs place
-free_by w marks place xs b below found none whole marked taken =
-    free_when w marks place xs b below found none whole marked taken
     ∙ sym (λ i. whole i && list_all (meets w place) xs)
 
 -- ---- marks
@@ -95,19 +115,15 @@ mark_more marks xs v low marked u =
 
 -- ---- the next place
 
-next_of : (fabric : Fabric) (chain : ℕ → List ℕ) (n : ℕ)
-    → taken_of fabric chain (n + 1) ≡ taken_next fabric chain (taken_of fabric chain n) n
-next_of fabric chain n = let next : n + 1 ≡ suc n = omega arith in rw next refl
-
 pub next_free : (fabric : Fabric) (chain : ℕ → List ℕ) (n : ℕ) (xs : List ℕ)
     → xs ≡ taken_of fabric chain n
     → is_free fabric chain xs n ≡ true → xs ++ n ∷ [] ≡ taken_of fabric chain (n + 1)
-next_free fabric chain n xs same free = let next = next_of fabric chain n in rw (next, ← same, free) refl
+next_free fabric chain n xs same free = let next : n + 1 ≡ suc n = omega arith in rw (next, ← same, free) refl
 
 pub next_barred : (fabric : Fabric) (chain : ℕ → List ℕ) (n : ℕ) (xs : List ℕ)
     → xs ≡ taken_of fabric chain n
     → is_free fabric chain xs n ≡ false → xs ≡ taken_of fabric chain (n + 1)
-next_barred fabric chain n xs same barred = let next = next_of fabric chain n in rw (next, ← same, barred) refl
+next_barred fabric chain n xs same barred = let next : n + 1 ≡ suc n = omega arith in rw (next, ← same, barred) refl
 
 -- ---- dead couplers of one row
 
@@ -146,11 +162,6 @@ unbarred w place row k cuts from marks below high said is_from rising inv done u
     (mod-lt u some) (omega (arith, at.2, number, start)) (rw again marked, rw again parted)
 
 -- ---- the chains of the taken places
-
--- the chain of a place more
-pub more_chains : (F : ℕ → List ℕ) (xs ys : List ℕ) (v : ℕ) (m : List (List ℕ)) (c : List ℕ)
-    → m ≡ map F xs → c ≡ F v → xs ++ v ∷ [] ≡ ys → m ++ c ∷ [] ≡ map F ys
-more_chains F xs ys v m c same here more = rw (same, here, ← more) (sym (map-append F xs (v ∷ [])))
 
 -- the chains of so many places, once so many are taken
 pub chains_front : (w : WorkingGraph) (n nodes : ℕ) (m : List (List ℕ)) → n ≤ clique_places w.graph

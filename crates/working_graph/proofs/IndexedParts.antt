@@ -1,5 +1,5 @@
 -- Marks and numbers stand for the parts themselves.
-use Rattle.working_graph.proofs.Common.{nat_tests, ◌≡◌, ℕ, suc, ◌+◌, ◌^◌, ◌<◌, ◌==◌, Bool, true, false, ◌&&◌, ◌||◌, List, [], ◌∷◌, ◌++◌, length, take, All, get_or, min, max, refl, ◌∙◌, arith, list_any, IsPermutation, take-suc, eqb-true, flat_map-append, append-nil, list_any-append, list_any-IsPermutation, Chimera, qubits_of, DeadPart, is_qubit, is_coupler, pair_number, has_pair, coupler_number, numbers_of, IsPartOf}
+use Rattle.working_graph.proofs.Common.{nat_tests, ◌≡◌, ℕ, suc, ◌^◌, ◌<◌, ◌==◌, true, ◌&&◌, ◌||◌, List, [], ◌∷◌, All, min, max, refl, ◌∙◌, arith, list_any, IsPermutation, eqb-true, list_any-append, list_any-IsPermutation, Chimera, qubits_of, DeadPart, is_qubit, is_coupler, pair_number, has_pair, coupler_number, numbers_of, IsPartOf, Bool, false}
 use Rattle.working_graph.specs.declared.parts.DeadPart.TheVariants.{Qubit, Coupler}
 
 -- ---- one part more
@@ -12,21 +12,6 @@ dead_below graph (Coupler a b) below q test = absurd cc
 
 or_none : (b : Bool) → (b || false) ≡ b
 or_none b = grind (arith, nat_tests)
-
--- a test of the first parts, and of one more
-pub any_more : (test : DeadPart → Bool) (parts : List DeadPart) (k : ℕ) (d : DeadPart)
-    → k < length parts
-    → list_any test (take (k + 1) parts) ≡ (list_any test (take k parts) || test (get_or parts k d))
-any_more test parts k d low =
-    let next : k + 1 ≡ suc k = omega arith in
-    rw (next, take-suc parts k d low, list_any-append, or_none) refl
-
--- the numbers of the first parts, and that of one more
-pub numbers_more : (parts : List DeadPart) (k : ℕ) (d : DeadPart) → k < length parts
-    → numbers_of (take (k + 1) parts) ≡ numbers_of (take k parts) ++ coupler_number (get_or parts k d)
-numbers_more parts k d low =
-    let next : k + 1 ≡ suc k = omega arith in
-    rw (next, take-suc parts k d low, flat_map-append, append-nil) refl
 
 -- ---- numbers
 

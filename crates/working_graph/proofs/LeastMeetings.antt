@@ -3,7 +3,7 @@
 -- Two chains have different lines, so that they meet in cells alone: where the later one goes down
 -- its column through the row of the earlier one. Only in one cell of the diagonal the earlier one
 -- also goes down through the row of the later one, and there it stands before it.
-use Rattle.working_graph.proofs.Common.{and_parts, nat_tests, ◌≡◌, ℕ, ◌<◌, ◌≤◌, ◌⊎◌, inl, inr, Bool, true, ◌&&◌, ◌||◌, List, refl, sym, ap, ◌∙◌, arith, cases_lt, or_cases, is_in, Chimera, Place, index_of, place_of, are_joined, are_joined-comm, number_again, Joins, IsCrossing, diagonal_of, down_qubit, along_qubit, path_of, IsBefore, IsPlace, down_place, along_place, place_again, down_in, along_in, cell_joined, joined_on}
+use Rattle.working_graph.proofs.Common.{and_parts, nat_tests, ◌≡◌, ℕ, ◌<◌, ◌≤◌, ◌⊎◌, inl, inr, true, ◌&&◌, List, refl, sym, ap, ◌∙◌, arith, cases_lt, or_cases, is_in, Chimera, Place, index_of, place_of, are_joined, are_joined-comm, number_again, Joins, IsCrossing, diagonal_of, down_qubit, along_qubit, path_of, IsBefore, IsPlace, down_place, along_place, place_again, down_in, along_in, cell_joined, joined_on, and_from, or_left, or_right}
 use Rattle.working_graph.proofs.CliquePaths.{IsStep, step_of, joined_at}
 use Rattle.working_graph.proofs.Meetings.{in_down, in_along}
 
@@ -86,12 +86,6 @@ swapped a b pair e = grind (arith, nat_tests)
 
 -- ---- the place
 
-left_end : (p q r : Bool) → p ≡ true → q ≡ true → ((p && q) || r) ≡ true
-left_end p q r e f = rw (e, f) refl
-
-right_end : (p q r : Bool) → q ≡ true → r ≡ true → (p || (q && r)) ≡ true
-right_end p q r e f = grind (arith, nat_tests)
-
 joined_in_cell : (graph : Chimera) (i j k l : ℕ) → i ≤ j → j < diagonal_of graph → k < graph.shore
     → l < graph.shore → joined_on graph (down_qubit graph j l i) (along_qubit graph i k j) ≡ true
 joined_in_cell graph i j k l before cell at at' =
@@ -108,8 +102,7 @@ same_cell graph i k l cell less at =
     let at' : k < graph.shore = omega (arith, less, at) in
     let here : i ≤ i = omega arith in
     let up = side_before graph i i l k at' in
-    let ends = left_end _ _ _ (in_down graph i k i cell here) (in_along graph i l i cell here cell)
-    in
+    let ends = or_left _ _ (and_from _ _ (in_down graph i k i cell here) (in_along graph i l i cell here cell)) in
     record {
       crossing = record {
         between = record { upward = up; ends = ends };
@@ -138,8 +131,7 @@ pub other_cell : (graph : Chimera) (i k j l : ℕ) → i < j → j < diagonal_of
 other_cell graph i k j l before cell at at' =
     let first : i < diagonal_of graph = omega (arith, before, cell) in
     let order : i ≤ j = omega (arith, before) in
-    let ends = right_end _ _ _ (in_down graph j l i cell order)
-    (in_along graph i k j first order cell) in
+    let ends = or_right _ _ (and_from _ _ (in_down graph j l i cell order) (in_along graph i k j first order cell)) in
     record {
       crossing = record {
         between = record { upward = side_before graph i j k l at'; ends = ends };

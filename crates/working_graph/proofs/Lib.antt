@@ -1,17 +1,13 @@
 pub mod Common
 pub mod Pairs
 pub mod EmptyForm
-pub mod TakenPlaces
 pub mod WorkingCliques
-pub mod Barriers
 pub mod Meetings
 pub mod FreePlaces
 pub mod FaultsOn
 pub mod LineRows
 pub mod PartRows
-pub mod LineParts
 pub mod IndexedParts
-pub mod PathParents
 pub mod CliquePaths
 pub mod LeastMeetings
 pub mod CliqueEmbeds

@@ -1,6 +1,5 @@
 -- The rows of a text come line by line: the words of a line are a row, where it has words.
-use Rattle.working_graph.proofs.Common.{inr, inl, true_or_false, nat_tests, ◌≡◌, ℕ, ◌+◌, ◌<◌, ◌==◌, false, List, [], ◌∷◌, ◌++◌, map, refl, sym, ap, ◌∙◌, arith, Style, Word, word, is_comment, pieces_of_line, tokens_of_line, tokens_from, Row, onto_rows, by_line, row_of, by_line-first}
-use Rattle.working_graph.proofs.Pairs.{is_other}
+use Rattle.working_graph.proofs.Common.{inr, inl, cases_Bool, nat_tests, ◌≡◌, ℕ, ◌+◌, ◌<◌, ◌==◌, false, List, [], ◌∷◌, ◌++◌, map, refl, sym, ap, ◌∙◌, arith, Style, Word, word, is_comment, pieces_of_line, tokens_of_line, tokens_from, Row, onto_rows, by_line, row_of, by_line-first, ne_eqb}
 
 -- ---- the words of one line
 
@@ -8,7 +7,7 @@ use Rattle.working_graph.proofs.Pairs.{is_other}
 line_words : (style : Style) (n : ℕ) (line : List ℕ)
     → (bytes : List (List ℕ)) × (tokens_of_line style n line ≡ map (word n) bytes)
 unfolding tokens_of_line
-line_words style n line = elim (true_or_false (is_comment style line)) [
+line_words style n line = elim (cases_Bool (is_comment style line)) [
   | inl e ↦ ([], rw e refl)
   | inr e ↦ (pieces_of_line style line, rw e refl)
 ]
@@ -46,7 +45,7 @@ IsPast n (w ∷ ws) = (w.line == n) ≡ false
 past_words : (m n : ℕ) (bytes : List (List ℕ)) (ws : List Word) → m < n → IsPast m ws
     → IsPast m (map (word n) bytes ++ ws)
 past_words m n [] ws low past = past
-past_words m n (b ∷ bs) ws low past = is_other n m (λ e. omega (arith, low, e))
+past_words m n (b ∷ bs) ws low past = ne_eqb n m (λ e. omega (arith, low, e))
 
 later_past : (style : Style) (m n : ℕ) (lines : List (List ℕ)) → m < n
     → IsPast m (tokens_from style n lines)

@@ -3,7 +3,7 @@
 -- A place goes down a column and on along a row. Of two places the later one goes down through the
 -- row of the earlier one; in one cell of the diagonal the earlier one goes down through that of the
 -- later one, too. Qubits of one kind are joined along a line, and no two places share one.
-use Rattle.working_graph.proofs.Common.{true_or_false, ◌≡◌, ℕ, ◌+◌, ◌-◌, ◌*◌, ◌/◌, ◌%◌, ◌<◌, ◌≤◌, ◌⊎◌, inl, inr, Bool, true, false, not, ◌&&◌, List, refl, sym, ap, ◌∙◌, arith, mod-lt, list_any, cases_eq, cases_lt, nat_tests, list_any_at, div-add-mod', is_in, Chimera, Place, IsPlaceIn, place_of, index_of, are_joined, Joins, diagonal_of, clique_places, down_qubit, along_qubit, path_of, clique_chain, down_place, along_place, place_again, down_in, along_in, path_len, path_down, path_along, cell_joined, cell_of, cells_rise, is_in_at, at_of_in, Fabric, WorkingGraph, exists_in, joined_in, fabric_of, are_coupled, is_whole, is_cut, is_cut_at, IsParted, joined_in-comm, joined_in-plain}
+use Rattle.working_graph.proofs.Common.{cases_Bool, ◌≡◌, ℕ, ◌+◌, ◌-◌, ◌*◌, ◌/◌, ◌%◌, ◌<◌, ◌≤◌, ◌⊎◌, inl, inr, Bool, true, false, not, ◌&&◌, List, refl, sym, ap, ◌∙◌, arith, mod-lt, list_any, cases_eq, cases_lt, nat_tests, list_any_at, div-add-mod', is_in, Chimera, Place, IsPlaceIn, place_of, index_of, are_joined, Joins, diagonal_of, clique_places, down_qubit, along_qubit, path_of, clique_chain, down_place, along_place, place_again, down_in, along_in, path_len, path_down, path_along, cell_joined, cell_of, cells_rise, is_in_at, at_of_in, Fabric, WorkingGraph, exists_in, joined_in, fabric_of, are_coupled, is_whole, is_cut, is_cut_at, IsParted, joined_in-comm, joined_in-plain}
 use Rattle.working_graph.proofs.WorkingCliques.{any_of, whole_exists}
 
 -- ---- the qubits of a place
@@ -137,13 +137,13 @@ unparted_coupled w u v before below whole_u whole_v unparted =
     let in_v = λ (q : ℕ) (inside : is_in d q ≡ true). exists_of (fabric_of w) d q whole_v inside in
     let down_in_v = in_down graph j (v % graph.shore) i cell_v order in
     let along_in_u = in_along graph i (u % graph.shore) j cell_u order cell_v in
-    elim (true_or_false (is_cut_at w v u)) [
+    elim (cases_Bool (is_cut_at w v u)) [
       | inr e ↦
           coupled_by (joined_in w) d c _ _ down_in_v along_in_u
           (meet_joined w i j _ _ cell_u cell_v at_u at_v (in_v _ down_in_v) (in_u _ along_in_u) e)
       | inl cut ↦ elim (cases_eq i j) [
         | inr other ↦ absurd (unparted (record { down = cut; across = λ same. absurd (other same) }))
-        | inl same ↦ elim (true_or_false (is_cut_at w u v)) [
+        | inl same ↦ elim (cases_Bool (is_cut_at w u v)) [
           | inr e ↦
               let down_in_u = in_down graph i (u % graph.shore) j cell_u (omega (arith, same)) in
               let along_in_v = in_along graph j (v % graph.shore) i cell_v (omega (arith, same)) cell_u in

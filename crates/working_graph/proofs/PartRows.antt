@@ -1,58 +1,48 @@
 -- The parts that rows name, one row after another, and one line after another.
-use Rattle.working_graph.proofs.Common.{◌≡◌, ℕ, ◌+◌, ◌++◌, List, [], ◌∷◌, Ok, Err, refl, sym, ap, ◌∙◌, Result, append_assoc, append-nil, TextFault, TextAnswer, Word, tokens_of_line, tokens_from, by_line, each, ◌>>=◌, Fails, row_of, Chimera, after_front, DeadPart, part_at, parts_of_words}
+--
+-- The part that a line names, by the words that stand on it.
+use Rattle.working_graph.proofs.Common.{Plain, ◌≡◌, ℕ, ◌+◌, ◌++◌, List, [], ◌∷◌, Ok, Err, refl, sym, ap, ◌∙◌, Result, append_assoc, append-nil, TextFault, TextAnswer, Word, tokens_of_line, tokens_from, by_line, each, ◌>>=◌, Fails, row_of, Chimera, after_front, DeadPart, part_at, parts_of_words, ◌<◌, ◌≤◌, not, length, map, take, slice_range, position_or_len, word, words, is_blank, fault, words_none, skipped, slice_none, first_word, qubit_at, joined_at, rest_at}
 use Rattle.whole_text.specs.declared.faults.TextAnswer.TheVariants.{Bad, NoMemory}
-use Rattle.whole_text.specs.declared.token.Style.TheVariants.{Plain}
 use Rattle.working_graph.proofs.LineRows.{one_row, rows_of_lines}
+use Rattle.working_graph.specs.declared.parts.DeadPart.TheVariants.{Qubit, Coupler}
+use Rattle.whole_text.specs.declared.faults.TextKind.TheVariants as kinds
 
 -- ---- readings of lists
 
-one_before : {B : Type 0} (front : List B) (b : B) (rest : Result (List B) TextFault)
-    → after_front front (rest >>= λ more. Ok (b ∷ more)) ≡ after_front (front ++ b ∷ []) rest
-one_before front b (Ok bs) = ap Ok (sym (append_assoc front (b ∷ []) bs))
-one_before front b (Err f) = refl
+one_more : {B : Type 0} (b : Result B TextFault) (some rest : Result (List B) TextFault)
+    → (b >>= λ c. (some >>= λ cs. rest >>= λ ds. Ok (cs ++ ds)) >>= λ cs. Ok (c ∷ cs))
+    ≡ ((b >>= λ c. some >>= λ cs. Ok (c ∷ cs)) >>= λ cs. rest >>= λ ds. Ok (cs ++ ds))
+one_more (Ok c) (Ok cs) (Ok ds) = refl
+one_more (Ok c) (Ok cs) (Err f) = refl
+one_more (Ok c) (Err f) rest = refl
+one_more (Err f) some rest = refl
 
-abbrev said_of : {B : Type 0} → Result (List B) TextFault → List B
-said_of (Ok bs) = bs
-said_of (Err f) = []
+no_more : {B : Type 0} (rest : Result (List B) TextFault) → rest ≡ (rest >>= λ ds. Ok ds)
+no_more (Ok ds) = refl
+no_more (Err f) = refl
 
-step_more : {B : Type 0} (front next : List B) (b : Result B TextFault)
-    (some all rest : Result (List B) TextFault) → ((c : B) → after_front (front ++ c ∷ []) some
-    ≡ Ok next → after_front (front ++ c ∷ []) all ≡ rest)
-    → after_front front (b >>= λ c. some >>= λ more. Ok (c ∷ more)) ≡ Ok next
-    → after_front front (b >>= λ c. all >>= λ more. Ok (c ∷ more)) ≡ rest
-step_more front next (Ok c) some all rest go said =
-    one_before front c all ∙ go c (sym (one_before front c some) ∙ said)
-step_more front next (Err f) some all rest go said = absurd cc
+each-append : {A B : Type 0} (read : A → Result B TextFault) (xs ys : List A)
+    → each read (xs ++ ys) ≡ (each read xs >>= λ cs. each read ys >>= λ ds. Ok (cs ++ ds))
+unfolding each
+each-append read [] ys = no_more (each read ys)
+each-append read (x ∷ xs) ys =
+    rw (each-append read xs ys) (one_more (read x) (each read xs) (each read ys))
 
 -- what some are read as, and then the others
-each_more : {A B : Type 0} (read : A → Result B TextFault) (front next : List B) (xs ys : List A)
-    → after_front front (each read xs) ≡ Ok next
-    → after_front front (each read (xs ++ ys)) ≡ after_front next (each read ys)
-unfolding each
-each_more {B = B} read front next [] ys said =
-    ap (λ (bs : List B). after_front bs (each read ys)) (sym (append-nil front) ∙ ap said_of said)
-each_more read front next (x ∷ xs) ys said =
-    step_more front next (read x) (each read xs) (each read (xs ++ ys))
-    (after_front next (each read ys)) (λ c. each_more read (front ++ c ∷ []) next xs ys) said
-
-step_fails : {B : Type 0} (front : List B) (b : Result B TextFault)
-    (some all : Result (List B) TextFault) (f : TextFault) → ((c : B)
-    → after_front (front ++ c ∷ []) some ≡ Err f → after_front (front ++ c ∷ []) all ≡ Err f)
-    → after_front front (b >>= λ c. some >>= λ more. Ok (c ∷ more)) ≡ Err f
-    → after_front front (b >>= λ c. all >>= λ more. Ok (c ∷ more)) ≡ Err f
-step_fails front (Ok c) some all f go fails =
-    one_before front c all ∙ go c (sym (one_before front c some) ∙ fails)
-step_fails front (Err g) some all f go fails = fails
+joined_more : {B : Type 0} (front next : List B) (some rest : Result (List B) TextFault)
+    → after_front front some ≡ Ok next
+    → after_front front (some >>= λ cs. rest >>= λ ds. Ok (cs ++ ds)) ≡ after_front next rest
+joined_more front next (Ok cs) (Ok ds) said =
+    let same : front ++ cs ≡ next = cc said in rw (← same) (ap Ok (sym (append_assoc front cs ds)))
+joined_more front next (Ok cs) (Err f) said = refl
+joined_more front next (Err f) rest said = absurd cc
 
 -- a fault of some
-each_fails : {A B : Type 0} (read : A → Result B TextFault) (front : List B) (xs ys : List A)
-    (f : TextFault) → after_front front (each read xs) ≡ Err f
-    → after_front front (each read (xs ++ ys)) ≡ Err f
-unfolding each
-each_fails read front [] ys f fails = absurd cc
-each_fails read front (x ∷ xs) ys f fails =
-    step_fails front (read x) (each read xs) (each read (xs ++ ys)) f
-    (λ c. each_fails read (front ++ c ∷ []) xs ys f) fails
+joined_fails : {B : Type 0} (front : List B) (some rest : Result (List B) TextFault) (f : TextFault)
+    → after_front front some ≡ Err f
+    → after_front front (some >>= λ cs. rest >>= λ ds. Ok (cs ++ ds)) ≡ Err f
+joined_fails front (Ok cs) rest f fails = absurd cc
+joined_fails front (Err g) rest f fails = fails
 
 -- ---- one line
 
@@ -81,9 +71,7 @@ pub line_more : (graph : Chimera) (front next : List DeadPart) (n : ℕ) (line :
     ≡ after_front next (parts_from graph (n + 1) after)
 unfolding parts_of_words
 line_more graph front next n line before after cut said =
-    rw (cut, rows_of_lines Plain n line after)
-    (each_more (part_at graph) front next (by_line (tokens_of_line Plain n line))
-    (by_line (tokens_from Plain (n + 1) after)) said)
+    rw (cut, rows_of_lines Plain n line after, each-append) (joined_more front next _ _ said)
 
 line_bad : (graph : Chimera) (front : List DeadPart) (n : ℕ) (line : List ℕ)
     (before after : List (List ℕ)) (f : TextFault) → before ≡ line ∷ after
@@ -91,9 +79,7 @@ line_bad : (graph : Chimera) (front : List DeadPart) (n : ℕ) (line : List ℕ)
     → after_front front (parts_from graph n before) ≡ Err f
 unfolding parts_of_words
 line_bad graph front n line before after f cut fails =
-    rw (cut, rows_of_lines Plain n line after)
-    (each_fails (part_at graph) front (by_line (tokens_of_line Plain n line))
-    (by_line (tokens_from Plain (n + 1) after)) f fails)
+    rw (cut, rows_of_lines Plain n line after, each-append) (joined_fails front _ _ f fails)
 
 -- a fault of one line
 pub line_fails : (graph : Chimera) (front : List DeadPart) (n : ℕ) (line : List ℕ)
@@ -109,3 +95,72 @@ pub lines_end : (graph : Chimera) (front : List DeadPart) (n : ℕ)
     → after_front front (parts_from graph n []) ≡ Ok front
 unfolding tokens_from
 lines_end graph front n = rw (parts_none graph (tokens_from Plain n []) refl, append-nil) refl
+
+-- ---- words
+
+-- the first word of what stands from a to b
+abbrev pub head_of : ℕ → List ℕ → ℕ → ℕ → Word
+head_of line text a b =
+    word line (take (position_or_len is_blank (slice_range text a b)) (slice_range text a b))
+
+-- all words of what stands from a to b
+abbrev pub all_of : ℕ → List ℕ → ℕ → ℕ → List Word
+all_of line text a b = map (word line) (words (slice_range text a b))
+
+-- blanks to the end
+pub none_left : (text : List ℕ) (a b n line : ℕ) → a ≤ b → b ≤ length text
+    → n ≡ position_or_len (λ c. not (is_blank c)) (slice_range text a b) → a + n ≡ b
+    → all_of line text a b ≡ []
+none_left text a b n line ab le first end =
+    let skip = (skipped text a b n ab le first).0 in
+    cc (end, slice_none text b, words_none)
+
+-- blanks, and then a word
+pub some_left : (text : List ℕ) (a b n m line : ℕ) → a ≤ b → b ≤ length text
+    → n ≡ position_or_len (λ c. not (is_blank c)) (slice_range text a b) → a + n < b
+    → m ≡ position_or_len is_blank (slice_range text (a + n) b) → (a + n + m ≤ b)
+    × (all_of line text a b ≡ head_of line text (a + n) b ∷ all_of line text (a + n + m) b)
+some_left text a b n m line ab le first lt e =
+    let skip = skipped text a b n ab le first in
+    let w = first_word text (a + n) b m line lt le (skip.2 lt) e in
+    (w.1, ap (map (word line)) skip.0 ∙ w.2)
+
+-- ---- what follows the number of a qubit
+
+pub rest_none : (graph : Chimera) (a : ℕ) (ws : List Word) → ws ≡ []
+    → rest_at graph a ws ≡ Ok (Qubit a)
+unfolding rest_at
+rest_none graph a ws none = rw none refl
+
+pub rest_bad : (graph : Chimera) (a : ℕ) (w : Word) (ws : List Word) (f : TextFault)
+    → joined_at graph a w ≡ Err f → rest_at graph a (w ∷ ws) ≡ Err f
+unfolding rest_at
+rest_bad graph a w [] f bad = rw bad refl
+rest_bad graph a w (v ∷ vs) f bad = rw bad refl
+
+pub rest_one : (graph : Chimera) (a b : ℕ) (w : Word) (ws : List Word) → joined_at graph a w ≡ Ok b
+    → ws ≡ [] → rest_at graph a (w ∷ ws) ≡ Ok (Coupler a b)
+unfolding rest_at
+rest_one graph a b w ws said none = rw (none, said) refl
+
+pub rest_more : (graph : Chimera) (a b : ℕ) (w v : Word) (ws vs : List Word)
+    → joined_at graph a w ≡ Ok b → ws ≡ v ∷ vs
+    → rest_at graph a (w ∷ ws) ≡ Err (fault kinds.Extra v.line)
+unfolding rest_at
+rest_more graph a b w v ws vs said more = rw (more, said) refl
+
+-- ---- the line
+
+-- a first word that is the number of no qubit
+pub first_bad : (graph : Chimera) (n : ℕ) (line : List ℕ) (w : Word) (ws : List Word)
+    (f : TextFault) → tokens_of_line Plain n line ≡ w ∷ ws → qubit_at graph w ≡ Err f
+    → parts_of_words graph (tokens_of_line Plain n line) ≡ Err f
+unfolding part_at
+first_bad graph n line w ws f said bad = rw (line_says graph n line w ws said, bad) refl
+
+-- and one that is, and what follows
+pub first_good : (graph : Chimera) (n a : ℕ) (line : List ℕ) (w : Word) (ws : List Word)
+    → tokens_of_line Plain n line ≡ w ∷ ws → qubit_at graph w ≡ Ok a
+    → parts_of_words graph (tokens_of_line Plain n line) ≡ rest_at graph a ws >>= λ part. Ok (part ∷ [])
+unfolding part_at
+first_good graph n a line w ws said good = rw (line_says graph n line w ws said, good) refl

@@ -1,10 +1,105 @@
+-- The places that are taken of the first n: each is whole, and coupled to those before it.
+--
+-- What a place has to have is what it was taken for: its chain is whole, and it is coupled to all
+-- that were taken before. That no qubit is listed twice is the grid's, as for the clique on a whole
+-- graph.
+--
 -- The chains of the taken places are valid for every Ising form of so many nodes.
 --
 -- A whole place is a path of the working graph, and two that are taken have a join. That its
 -- numbers are below those of the graph and none is listed twice is so on the whole graph.
-use Rattle.working_graph.proofs.Common.{and_parts, nat_tests, ◌≡◌, ◌≢◌, ℕ, zero, suc, ◌+◌, ◌/◌, ◌%◌, ◌<◌, ◌≤◌, ◌==◌, inl, inr, Bool, true, List, [], ◌∷◌, length, take, get_or, All, refl, sym, ap, ◌∙◌, arith, count_by, list_any, list_all, cases_eq, cases_lt, or_cases, or_left, or_right, length-map, length-take, get_or-map, get_or-take, sum_by-take-le, is_in, IsConnected, IsCoupler, qubits_of, Joins, occurrences, IsCrossing, clique_places, clique_chain, clique_of, path_len, cell_of, occurrences-sum, path_connected, default_free, same_test, Fabric, WorkingGraph, exists_in, joined_in, fabric_of, are_linked, are_coupled, is_whole, taken_places, working_clique, IsForWorkingClique, joined_in-comm, joined_in-self}
+use Rattle.working_graph.proofs.Common.{and_parts, cases_Bool, nat_tests, ◌≡◌, ℕ, zero, suc, ◌+◌, ◌-◌, ◌<◌, ◌≤◌, inl, inr, Bool, true, List, [], ◌∷◌, ◌++◌, length, map, take, get_or, if◌then◌else◌, refl, sym, ap, ◌∙◌, arith, sum_by, range_with_len, sum_by-map-range_with_len_more, cases_lt, append-nil, append_assoc, length-append, get_or_append_left, get_or-append_seam, take-append_seam, sum_by-append, sum_by-cons, Fabric, AreTaken, is_whole, is_free, taken_of, AllPass-from_list_all, cond_both, ◌≢◌, ◌/◌, ◌%◌, ◌==◌, All, count_by, list_any, list_all, length-map, length-take, get_or-map, get_or-take, sum_by-take-le, is_in, IsConnected, IsCoupler, qubits_of, Joins, occurrences, IsCrossing, clique_places, clique_chain, clique_of, path_len, cell_of, occurrences-sum, path_connected, default_free, WorkingGraph, exists_in, joined_in, fabric_of, are_linked, are_coupled, taken_places, working_clique, IsForWorkingClique, joined_in-comm, joined_in-self, Any-from_list_any, is_in_at, ordered, crossing_at}
 use Rattle.working_graph.proofs.EmptyForm.{clique_once, clique_within}
-use Rattle.working_graph.proofs.TakenPlaces.{all_at, are_taken, sum_by-map, taken_sum}
+
+-- ---- what is taken
+
+last_at : (xs : List ℕ) (v i : ℕ) → i ≡ length xs → get_or (xs ++ v ∷ []) i 0 ≡ v
+last_at xs v i e = ap (λ j. get_or (xs ++ v ∷ []) j 0) e ∙ get_or-append_seam xs v [] 0
+
+pushed_taken : (fabric : Fabric) (chain : ℕ → List ℕ) (n : ℕ) (xs : List ℕ)
+    → AreTaken fabric chain n xs
+    → is_free fabric chain xs n ≡ true → AreTaken fabric chain (n + 1) (xs ++ n ∷ [])
+pushed_taken fabric chain n xs taken free =
+    let len = length-append xs (n ∷ []) in
+    let front = λ (i : ℕ) (h : i < length xs). get_or_append_left xs (n ∷ []) 0 i h in
+    let last = last_at xs n in
+    let both = and_parts (is_whole fabric (chain n)) _ free in
+    let all_coupled = λ (i : ℕ) (low : i < length xs). AllPass-from_list_all _ xs both.1 i 0 low in
+    record {
+      below = λ i low. let old = taken.below i in grind (arith, nat_tests, cases_lt i (length xs));
+      whole = λ i low. let old = taken.whole i in grind (arith, nat_tests, cases_lt i (length xs));
+      coupled = λ i j before low.
+          let old = taken.coupled i j before in
+          let first = front i (omega (arith, before, low, len)) in
+          let end = last j in
+          let next = front j in
+          let new = all_coupled i in
+          grind (arith, nat_tests, cases_lt j (length xs));
+    }
+
+kept_taken : (fabric : Fabric) (chain : ℕ → List ℕ) (n : ℕ) (xs : List ℕ)
+    → AreTaken fabric chain n xs → AreTaken fabric chain (n + 1) xs
+kept_taken fabric chain n xs taken = grind (arith, nat_tests)
+
+-- the taken places of the first n are such
+pub are_taken : (fabric : Fabric) (chain : ℕ → List ℕ) (n : ℕ)
+    → AreTaken fabric chain n (taken_of fabric chain n)
+are_taken fabric chain zero = grind (arith, nat_tests)
+are_taken fabric chain (suc n) =
+    let next : suc n ≡ n + 1 = omega arith in
+    let before = are_taken fabric chain n in
+    rw next (cond_both (is_free fabric chain _ n) _ _ (AreTaken fabric chain (n + 1))
+    (pushed_taken fabric chain n _ before) (λ _. kept_taken fabric chain n _ before))
+
+-- the places that are taken of fewer come first
+first_taken : (fabric : Fabric) (chain : ℕ → List ℕ) (m n : ℕ)
+    → (later : List ℕ) × (taken_of fabric chain (m + n) ≡ taken_of fabric chain m ++ later)
+first_taken fabric chain m zero =
+    ([], ap (taken_of fabric chain) (omega arith) ∙ sym (append-nil (taken_of fabric chain m)))
+first_taken fabric chain m (suc n) =
+    let more = first_taken fabric chain m n in
+    let next : m + suc n ≡ suc (m + n) = omega arith in
+    elim (cases_Bool (is_free fabric chain (taken_of fabric chain (m + n)) (m + n))) [
+      | inl free ↦ (
+        more.0 ++ (m + n) ∷ [],
+        rw (next, free)
+            (rw (more.1) (append_assoc (taken_of fabric chain m) more.0 ((m + n) ∷ []))),
+      )
+      | inr not ↦ (more.0, rw (next, not) more.1)
+    ]
+
+-- so many of the places that are taken, once so many are
+pub taken_front : (fabric : Fabric) (chain : ℕ → List ℕ) (m n nodes : ℕ) (xs : List ℕ) → m ≤ n
+    → xs ≡ taken_of fabric chain m → length xs ≡ nodes → xs ≡ take nodes (taken_of fabric chain n)
+taken_front fabric chain m n nodes xs low same len =
+    let more = first_taken fabric chain m (n - m) in
+    let all : n ≡ m + (n - m) = omega (arith, low) in
+    let front = take-append_seam xs more.0 in
+    let is = more.1 in
+    cc
+
+-- ---- how often a qubit is listed
+
+-- the chains of taken places list no qubit more often than all chains
+next_sum : (h : ℕ → ℕ) (n : ℕ) (xs : List ℕ) (b : Bool)
+    → sum_by h (if b then xs ++ n ∷ [] else xs) ≤ sum_by h xs + h n
+next_sum h n xs b = grind (arith, nat_tests, sum_by-append h xs (n ∷ []), sum_by-cons h n [])
+
+pub sum_by-map : (h : List ℕ → ℕ) (chain : ℕ → List ℕ) (xs : List ℕ)
+    → sum_by h (map chain xs) ≡ sum_by (λ v. h (chain v)) xs
+sum_by-map h chain [] = refl
+sum_by-map h chain (x ∷ xs) = omega (arith, sum_by-cons, sum_by-map h chain xs)
+
+pub taken_sum : (fabric : Fabric) (chain : ℕ → List ℕ) (h : List ℕ → ℕ) (n : ℕ)
+    → sum_by h (map chain (taken_of fabric chain n)) ≤ sum_by h (map chain (range_with_len 0 n))
+taken_sum fabric chain h zero = omega arith
+taken_sum fabric chain h (suc n) =
+    let before = taken_of fabric chain n in
+    let next : n + 1 ≡ suc n = omega arith in
+    let more = rw next at (sum_by-map-range_with_len_more h chain 0 n n (omega arith)) in
+    let step = next_sum (λ v. h (chain v)) n before (is_free fabric chain before n) in
+    let last = sum_by-map h chain (taken_of fabric chain (suc n)) in
+    omega (arith, step, taken_sum fabric chain h n, sum_by-map h chain before, last, more)
 
 -- ---- one chain
 
@@ -26,38 +121,26 @@ whole_connected fabric xs whole =
 
 pub whole_exists : (fabric : Fabric) (xs : List ℕ) → is_whole fabric xs ≡ true
     → All (λ q. fabric.exists q ≡ true) xs
-whole_exists fabric xs whole = λ j d low.
-    rw (← default_free xs j 0 d low)
-    (all_at fabric.exists xs (and_parts (list_all fabric.exists xs) (are_linked fabric.joined xs)
-    whole).0 j low)
+whole_exists fabric xs whole =
+    AllPass-from_list_all fabric.exists xs
+    (and_parts (list_all fabric.exists xs) (are_linked fabric.joined xs) whole).0
 
 -- ---- two chains
 
 -- a listed number that passes a test
 pub any_of : (p : ℕ → Bool) (xs : List ℕ) → list_any p xs ≡ true
     → (q : ℕ) × (is_in xs q ≡ true) × (p q ≡ true)
-any_of p [] h = absurd cc
-any_of p (x ∷ xs) h = elim (or_cases (p x) (list_any p xs) h) [
-  | inl here ↦ (x, or_left (x == x) (is_in xs x) (same_test x x refl), here)
-  | inr there ↦ let found = any_of p xs there in (found.0, or_right (x == found.0) (is_in xs found.0) found.1, found.2)
-]
-
-crossing_of : (w : WorkingGraph) (c d : List ℕ) (a b : ℕ) → is_in d a ≡ true → is_in c b ≡ true
-    → joined_in w a b ≡ true → (pair : ℕ × ℕ) × IsCrossing (joined_in w) c d pair
-crossing_of w c d a b in_d in_c linked =
-    let self = joined_in-self w a in
-    let back = joined_in-comm w b a in
-    elim (cases_lt a b) [
-      | inl low ↦ ((a, b), grind (arith, nat_tests))
-      | inr high ↦ ((b, a), grind (arith, nat_tests, cases_eq a b))
-    ]
+any_of p xs h =
+    let a = Any-from_list_any p xs h in
+    (a.1, is_in_at xs a.0 a.1 a.2 (default_free xs a.0 0 a.1 a.2 ∙ a.3), a.4)
 
 pub coupled_crossing : (w : WorkingGraph) (c d : List ℕ) → are_coupled (joined_in w) d c ≡ true
     → (pair : ℕ × ℕ) × IsCrossing (joined_in w) c d pair
 coupled_crossing w c d coupled =
     let a = any_of (λ p. list_any (joined_in w p) c) d coupled in
     let b = any_of (joined_in w a.0) c a.2 in
-    crossing_of w c d a.0 b.0 a.1 b.1 b.2
+    let back = joined_in-comm w b.0 a.0 in
+    (ordered b.0 a.0, crossing_at (joined_in w) c d b.0 a.0 back (joined_in-self w b.0) b.1 a.1 (back ∙ b.2))
 
 -- ---- all chains
 

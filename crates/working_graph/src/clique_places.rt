@@ -1,7 +1,7 @@
 //! The places of the couplings on the chains of a clique.
 ghost use Rattle.std.specs.Prelude.{◌≡◌, ◌<◌, ◌≤◌, ◌++◌, length, map, All, IfOk, OnOk};
 ghost use Rattle.quad_form.specs.Quads.{IsCoupler};
-ghost use Rattle.chain_map.specs.Cliques.{diagonal_of, clique_places};
+ghost use Rattle.chain_map.specs.Cliques.{diagonal_of, clique_places, spot_of};
 ghost use Rattle.working_graph.specs.CliquePlaces.{place_of_spots, clique_place};
 
 use base::{Items, NoMemory};
@@ -32,6 +32,25 @@ fn place_of_spots(graph: &Chimera, first: Spot, second: Spot) -> (u32, u32)
     }
 }
 
+/// Where a node is. A node in the same cell as another one is found without a division.
+#[inline(always)]
+fn spot_near(graph: &Chimera, other: Spot, node: u32) -> Spot
+    requires node { node < clique_places graph.now }
+    requires cell { other.cell < diagonal_of graph.now }
+    ensures spot { result ≡ spot_of graph.now node }
+    ensures cell { result.cell < diagonal_of graph.now }
+    ensures at { result.at < graph.now.shore }
+{
+    let start = other.cell * graph.shore;
+    if start <= node && node - start < graph.shore {
+        return Spot {
+            cell: other.cell,
+            at: node - start,
+        };
+    }
+    spot_of(graph, node)
+}
+
 /// Adds the place of each coupling of a row.
 fn push_places(graph: &Chimera, row: &Row<'_>, places: &mut Vec<(u32, u32)>) -> Result<(), NoMemory>
     requires some { 0 < length row.now }
@@ -40,8 +59,9 @@ fn push_places(graph: &Chimera, row: &Row<'_>, places: &mut Vec<(u32, u32)>) -> 
         ++ map (clique_place graph.now) row.now) }
 {
     let first = spot_of(graph, row.first());
+    let mut second = first;
     for k in 0..row.len() {
-        let second = spot_of(graph, row.second(k));
+        second = spot_near(graph, second, row.second(k));
         places.push(place_of_spots(graph, first, second))?;
     }
     Ok(())

@@ -103,7 +103,7 @@ number_back : (graph : Chimera) (b : ℕ) → index_of graph (place_of graph b) 
 number_back graph b = simp div-add-mod'
 
 -- the row of a qubit is one of the graph's rows
-row_below : (graph : Chimera) (b : ℕ) → b < qubits_of graph
+pub row_below : (graph : Chimera) (b : ℕ) → b < qubits_of graph
     → (place_of graph b).row < graph.rows
 row_below graph b h =
     let few : b < graph.rows * graph.cols * 2 * graph.shore = omega (arith, h) in

@@ -19,8 +19,8 @@ image_is c =
     ∙ ap (λ (f : IsingContent). f.constant) (c.behind-source.view_is ∙ c.ising.ensures.form) in
     let fields = c.new.ensures ∙ c.in_ok-fields.ensures in
     let couplings =
-    sorted_is_image e c.requires.kept c.in_ok-gathered.gathered c.in_ok-couplings.couplings
-    c.in_ok-gathered.ensures c.in_ok-couplings.ensures.same c.in_ok-couplings.ensures.ordered in
+    sorted_is_image e c.requires.kept c.in_ok-couplings.couplings c.in_ok-couplings.ensures.same
+    c.in_ok-couplings.ensures.ordered in
     λ k. record { constant = constant k; fields = fields k; couplings = couplings k }
 
 pub invariant_of-result : goal.invariant_of-result

@@ -1,4 +1,4 @@
-use Rattle.chain_map.proofs.Common.{◌+◌, true, sym, ◌∙◌, arith, is_ascii_digit, more_value, more_digits, pow_more, pow_few, digit_small, get_or, ◌-◌}
+use Rattle.chain_map.proofs.Common.{◌+◌, sym, ◌∙◌, arith, more_value, more_digits, pow_more, pow_few, digit_small, get_or, ◌-◌}
 use Rattle.chain_map.proofs.digits.front_digits.Goals as goal
 
 pub overflow_mul-value : goal.overflow_mul-value

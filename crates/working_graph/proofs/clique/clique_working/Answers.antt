@@ -1,5 +1,4 @@
-use Rattle.working_graph.proofs.Common.{◌≡◌, List, ℕ, length, ap, ◌∙◌, arith, taken_places}
-use Rattle.chain_map.specs.declared.faults.EmbedFault.TheVariants.{TooManyNodes}
+use Rattle.working_graph.proofs.Common.{TooManyNodes, ◌≡◌, List, ℕ, length, ap, ◌∙◌, arith, taken_places}
 use Rattle.working_graph.proofs.WorkingCliques.{working_clique_valid}
 use Rattle.working_graph.proofs.FreePlaces.{clique_len}
 use Rattle.working_graph.proofs.clique.clique_working.Goals as goal

@@ -8,8 +8,8 @@ spot_of-first-requires c =
     c.requires.nodes 0 zero c.requires.some in
     omega (arith, coupler.upward, coupler.within, c.first.ensures 0 zero c.requires.some)
 
-pub spot_of-second-requires : goal.spot_of-second-requires
-spot_of-second-requires c =
+pub spot_near-second-requires-clause-node : goal.spot_near-second-requires-clause-node
+spot_near-second-requires-clause-node c =
     let row = c.args.row.now in
     let k = c.loop-k.k in
     let zero : Entry = record { first = 0; second = 0; weight = pos 0 } in
@@ -29,7 +29,7 @@ place_of_spots-requires-clause-order c =
     omega (arith, coupler.upward, c.first.ensures k zero below, c.second.ensures zero) in
     let rise = cells_rise c.args.graph.now c.first.result c.second.result (omega (arith, upward)) in
     let one = ap (λ (s : Spot). s.cell) c.spot_of-first.ensures.spot in
-    omega (arith, rise, one, ap (λ (s : Spot). s.cell) c.spot_of-second.ensures.spot)
+    omega (arith, rise, one, ap (λ (s : Spot). s.cell) c.spot_near-second.ensures.spot)
 
 pub loop-k-preserved : goal.loop-k-preserved
 loop-k-preserved c =
@@ -44,10 +44,13 @@ loop-k-preserved c =
     cc (
       c.place_of_spots.ensures,
       c.spot_of-first.ensures.spot,
-      c.spot_of-second.ensures.spot,
+      c.spot_near-second.ensures.spot,
       c.first.ensures k zero below,
       c.second.ensures zero,
     ) in
     let join = append_assoc front (map (clique_place graph) (take k row)) (clique_place graph entry ∷ []) in
     let all = map-append (clique_place graph) (take k row) (entry ∷ []) in
-    cc (c.in_ok-push.ensures.items, c.loop-k.invariant, take_more row k zero below)
+    record {
+      places = cc (c.in_ok-push.ensures.items, c.loop-k.invariant.places, take_more row k zero below);
+      cell = c.spot_near-second.ensures.cell;
+    }

@@ -1,28 +1,25 @@
-use Rattle.working_graph.proofs.Common.{◌/◌, ◌%◌, ◌<◌, ap, sym, subst, ◌∙◌, arith, mod-lt, Chimera, along_qubit, down_qubit, cell_of, is_cut}
+use Rattle.working_graph.proofs.Common.{◌/◌, ◌%◌, ap, ◌∙◌, mod-lt, Chimera, along_qubit, down_qubit, is_cut}
+use Rattle.working_graph.proofs.FreePlaces.{place_in}
 use Rattle.working_graph.proofs.parting.is_cut_at.Goals as goal
 
 pub qubit_at-requires-clause-row : goal.qubit_at-requires-clause-row
 qubit_at-requires-clause-row c =
-    subst (λ (h : Chimera). c.args.other / h.shore < h.rows) (sym c.graph-graph.ensures)
-    (omega (arith, cell_of c.args.working.now.graph c.args.other c.requires.other))
+    (place_in _ _ c.args.other c.graph-graph.ensures c.requires.other).0
 
 pub qubit_at-requires-clause-col : goal.qubit_at-requires-clause-col
 qubit_at-requires-clause-col c =
-    subst (λ (h : Chimera). c.args.place / h.shore < h.cols) (sym c.graph-graph.ensures)
-    (omega (arith, cell_of c.args.working.now.graph c.args.place c.requires.place))
+    (place_in _ _ c.args.place c.graph-graph.ensures c.requires.place).1
 
 pub qubit_at-requires-clause-at : goal.qubit_at-requires-clause-at
 qubit_at-requires-clause-at c = mod-lt c.args.place c.graph-graph.result.shape.some_shore
 
 pub qubit_at-requires-2-clause-row : goal.qubit_at-requires-2-clause-row
 qubit_at-requires-2-clause-row c =
-    subst (λ (h : Chimera). c.args.other / h.shore < h.rows) (sym c.graph-graph.ensures)
-    (omega (arith, cell_of c.args.working.now.graph c.args.other c.requires.other))
+    (place_in _ _ c.args.other c.graph-graph.ensures c.requires.other).0
 
 pub qubit_at-requires-2-clause-col : goal.qubit_at-requires-2-clause-col
 qubit_at-requires-2-clause-col c =
-    subst (λ (h : Chimera). c.args.place / h.shore < h.cols) (sym c.graph-graph.ensures)
-    (omega (arith, cell_of c.args.working.now.graph c.args.place c.requires.place))
+    (place_in _ _ c.args.place c.graph-graph.ensures c.requires.place).1
 
 pub qubit_at-requires-2-clause-at : goal.qubit_at-requires-2-clause-at
 qubit_at-requires-2-clause-at c = mod-lt c.args.other c.graph-graph.result.shape.some_shore

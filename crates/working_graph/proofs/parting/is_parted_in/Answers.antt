@@ -1,7 +1,6 @@
-use Rattle.working_graph.proofs.Common.{◌≡◌, ℕ, ◌+◌, ◌*◌, ◌-◌, ◌/◌, ◌<◌, ◌≤◌, true, length, get_or, sym, ap, subst, ◌∙◌, arith, mod-lt, Chimera, diagonal_of, clique_places, cell_of, pair_number, first_across, is_marked, IsParted}
-use Rattle.working_graph.proofs.Barriers.{HasPassed, passed_more}
+use Rattle.working_graph.proofs.Common.{◌≡◌, ℕ, ◌+◌, ◌*◌, ◌-◌, ◌/◌, ◌<◌, ◌≤◌, true, length, get_or, ap, subst, ◌∙◌, arith, mod-lt, Chimera, diagonal_of, clique_places, cell_of, pair_number, first_across, is_marked, IsParted}
+use Rattle.working_graph.proofs.FreePlaces.{HasPassed, passed_more, place_in, BarsIn, place_below, unbarred}
 use Rattle.working_graph.proofs.EmptyForm.{few_places}
-use Rattle.working_graph.proofs.FreePlaces.{BarsIn, place_below, unbarred}
 use Rattle.working_graph.proofs.parting.is_parted_in.Goals.{At-loop-k}
 use Rattle.working_graph.proofs.parting.is_parted_in.Goals as goal
 
@@ -17,8 +16,7 @@ qubit_at-requires-clause-row c =
 
 pub qubit_at-requires-clause-col : goal.qubit_at-requires-clause-col
 qubit_at-requires-clause-col c =
-    subst (λ (h : Chimera). c.args.place / h.shore < h.cols) (sym c.graph-graph.ensures)
-    (omega (arith, cell_of c.args.working.now.graph c.args.place c.requires.place))
+    (place_in _ _ c.args.place c.graph-graph.ensures c.requires.place).1
 
 pub qubit_at-requires-clause-at : goal.qubit_at-requires-clause-at
 qubit_at-requires-clause-at c = mod-lt c.args.place c.graph-graph.result.shape.some_shore
@@ -30,8 +28,7 @@ qubit_at-requires-2-clause-row c =
 
 pub qubit_at-requires-2-clause-col : goal.qubit_at-requires-2-clause-col
 qubit_at-requires-2-clause-col c =
-    subst (λ (h : Chimera). c.args.place / h.shore < h.cols) (sym c.graph-graph.ensures)
-    (omega (arith, cell_of c.args.working.now.graph c.args.place c.requires.place))
+    (place_in _ _ c.args.place c.graph-graph.ensures c.requires.place).1
 
 pub loop-k-init : goal.loop-k-init
 loop-k-init c =

@@ -1,7 +1,5 @@
-use Rattle.working_graph.proofs.Common.{◌≡◌, [], refl, sym, arith, slice_range, err_from_is_err_and, tokens_of_line, line_blank, line_comment, line_tokens}
-use Rattle.whole_text.specs.declared.token.Style.TheVariants.{Plain}
-use Rattle.working_graph.proofs.LineParts.{first_bad, first_good, follow_bad}
-use Rattle.working_graph.proofs.PartRows.{parts_none}
+use Rattle.working_graph.proofs.Common.{Plain, ◌≡◌, [], refl, arith, slice_range, err_from_is_err_and, tokens_of_line, line_blank, line_comment, line_tokens}
+use Rattle.working_graph.proofs.PartRows.{first_bad, first_good, parts_none}
 use Rattle.working_graph.proofs.parts.part_of_line.Goals.{then-at-end-via-then-at-end, then-at-end-via-else-at-end+then-text-at-eq99}
 use Rattle.working_graph.proofs.parts.part_of_line.Goals as goal
 
@@ -34,11 +32,12 @@ returns-in_err-rest_of_line-clause-read c =
     c.blank_len.ensures.first (omega arith) c.if-text-at-eq99.false c.in_ok-qubit.ensures.len in
     let residual = c.from_residual-in_err-rest_of_line in
     let p = err_from_is_err_and residual.result residual.ensures.1 in
-    rw (p.1, p.2) (follow_bad _ _ _ _ _ _ _ t.2 c.in_ok-qubit.ensures.value
-    (sym c.in_err-rest_of_line.ensures.read))
+    let read = first_good _ _ _ _ _ _ t.2 c.in_ok-qubit.ensures.value in
+    rw (p.1, p.2, read, ← c.in_err-rest_of_line.ensures.read) refl
 
 pub returns-clause-read : goal.returns-clause-read
 returns-clause-read c =
     let t = line_tokens _ _ _ _ _ c.args.line c.requires.ordered c.requires.within
     c.blank_len.ensures.first (omega arith) c.if-text-at-eq99.false c.in_ok-qubit.ensures.len in
-    first_good _ _ _ _ _ _ _ t.2 c.in_ok-qubit.ensures.value (sym c.in_ok-rest_of_line.ensures.read)
+    let read = first_good _ _ _ _ _ _ t.2 c.in_ok-qubit.ensures.value in
+    rw (read, ← c.in_ok-rest_of_line.ensures.read) refl

@@ -1,5 +1,5 @@
 use Rattle.working_graph.proofs.Common.{Err, refl, sym, ap, ◌∙◌, arith, err_from_is_err_and, rest_at}
-use Rattle.working_graph.proofs.LineParts.{none_left, some_left, rest_none, rest_bad, rest_one, rest_more}
+use Rattle.working_graph.proofs.PartRows.{none_left, some_left, rest_none, rest_bad, rest_one, rest_more}
 use Rattle.working_graph.proofs.parts.rest_of_line.Goals as goal
 
 pub returns-then-at-end-clause-read : goal.returns-then-at-end-clause-read

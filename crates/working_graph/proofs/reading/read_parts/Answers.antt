@@ -1,5 +1,4 @@
-use Rattle.working_graph.proofs.Common.{◌≡◌, ◌+◌, inl, inr, List, [], length, sym, ap, subst, ◌∙◌, arith, rules, cases_lt, take_rest, err_from_is_err_and, tokens_of, tokens_from, Fails, lines_from, line_cut, line_last, after_front, front_none, DeadPart, parts_of_words, dead_parts}
-use Rattle.whole_text.specs.declared.token.Style.TheVariants.{Plain}
+use Rattle.working_graph.proofs.Common.{Plain, ◌≡◌, ◌+◌, inl, inr, List, [], length, sym, ap, subst, ◌∙◌, arith, rules, cases_lt, take_rest, err_from_is_err_and, tokens_of, tokens_from, Fails, lines_from, line_cut, line_last, after_front, front_none, DeadPart, parts_of_words, dead_parts}
 use Rattle.working_graph.proofs.PartRows.{line_more, line_fails, lines_end}
 use Rattle.working_graph.proofs.reading.read_parts.Goals as goal
 

@@ -1,5 +1,4 @@
-use Rattle.working_graph.proofs.Common.{◌≡◌, ◌+◌, ◌-◌, ◌≤◌, All, length, tokens_from, lines_from, after_front, parts_of_words, dead_parts, IsPartOf}
-use Rattle.whole_text.specs.declared.token.Style.TheVariants.{Plain}
+use Rattle.working_graph.proofs.Common.{Plain, ◌≡◌, ◌+◌, ◌-◌, ◌≤◌, All, length, tokens_from, lines_from, after_front, parts_of_words, dead_parts, IsPartOf}
 use Rattle.working_graph.proofs.reading.read_parts.Given as goal
 
 -- the parts so far, in front of what the other lines name, are all of them

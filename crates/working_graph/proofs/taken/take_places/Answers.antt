@@ -1,6 +1,6 @@
-use Rattle.working_graph.proofs.Common.{◌≡◌, ℕ, ◌+◌, ◌<◌, List, [], ◌∷◌, Bool, true, length, map, refl, sym, ap, ◌∙◌, arith, length-append, length-set, clique_places, clique_chain, at_of_in, fabric_of, taken_of}
-use Rattle.working_graph.proofs.TakenPlaces.{are_taken}
-use Rattle.working_graph.proofs.FreePlaces.{next_free, next_barred, mark_more, more_chains, chains_front, chains_all}
+use Rattle.working_graph.proofs.Common.{◌≡◌, ℕ, ◌+◌, ◌<◌, List, [], ◌∷◌, Bool, true, length, map, refl, sym, ap, ◌∙◌, arith, length-append, length-set, clique_places, clique_chain, at_of_in, fabric_of, taken_of, map-append}
+use Rattle.working_graph.proofs.WorkingCliques.{are_taken}
+use Rattle.working_graph.proofs.FreePlaces.{next_free, next_barred, mark_more, chains_front, chains_all}
 use Rattle.working_graph.proofs.taken.take_places.Goals.{then-free+in_ok-push_qubits, else-free}
 use Rattle.working_graph.proofs.taken.take_places.Goals as goal
 
@@ -48,7 +48,7 @@ loop-place-preserved c =
           let here = w.deref.ensures.value ∙ c.in_ok-free.ensures.filled w.if-free.true in
           let count = length-append old (w.deref.result.now ∷ []) in
           let size = ap (λ (m : List (List ℕ)). length m) pushed in (
-            pushed ∙ more_chains chain xs next place old _ inv.0 here more,
+            pushed ∙ rw (inv.0, here, ← more) (sym (map-append chain xs (place ∷ []))),
             λ u. cc (marks, mark_more seen xs place below inv.1 u, more),
             ap (λ (ms : List Bool). length ms) marks ∙ length-set seen place true ∙ inv.2,
             omega (arith, inv.3, c.len.ensures, c.if-len-nodes.false, count, size),

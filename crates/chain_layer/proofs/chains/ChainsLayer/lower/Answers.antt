@@ -1,30 +1,10 @@
-use Rattle.chain_layer.proofs.Common.{unsigned_abs, ap, ◌∙◌, arith, rules, w128, to_z-of_z, ising_total, ising_size, ChainLink, Fits, chains_keep}
-use Rattle.chain_layer.proofs.Sizes.{offset_small, total_grows, size_grows}
+use Rattle.chain_layer.proofs.Common.{ap, ◌∙◌, IfOk-weaker, image, offset}
 use Rattle.chain_layer.proofs.chains.ChainsLayer.lower.Goals as goal
+
+pub returns-clause-image : goal.returns-clause-image
+returns-clause-image c =
+    IfOk-weaker c.lower_owned.result _ _ (λ made same. same ∙ ap image c.in_ok-copied.ensures) c.lower_owned.ensures.image
 
 pub returns-clause-offset : goal.returns-clause-offset
 returns-clause-offset c =
-    to_z-of_z w128 c.in_ok-target.offset (search rules) ∙ c.in_ok-target.ensures.offset
-
-pub returns-clause-keeps : goal.returns-clause-keeps
-returns-clause-keeps c =
-    let link : ChainLink = record { chains = c.in_ok-copied.field-0; qubits = c.qubits.result } in
-    let fits : Fits link c.args.source.now = record {
-      chains = c.in_ok-copied.ensures ∙ c.chains.ensures;
-      qubits = c.qubits.ensures;
-      kept = c.in_ok-target.ensures.kept;
-    } in
-    rw (c.in_ok-target.ensures.image, returns-clause-offset c)
-    (chains_keep link c.args.source.now fits)
-
-pub returns-clause-offset_high : goal.returns-clause-offset_high
-returns-clause-offset_high c =
-    omega (arith, ap unsigned_abs (returns-clause-offset c), offset_small c.args.source.now c.in_ok-target.ensures.kept)
-
-pub returns-clause-total : goal.returns-clause-total
-returns-clause-total c =
-    omega (arith, ap ising_total c.in_ok-target.ensures.image, total_grows c.args.source.now c.in_ok-target.ensures.kept)
-
-pub returns-clause-size : goal.returns-clause-size
-returns-clause-size c =
-    omega (arith, ap ising_size c.in_ok-target.ensures.image, size_grows c.args.source.now c.in_ok-target.ensures.kept)
+    IfOk-weaker c.lower_owned.result _ _ (λ made same. same ∙ ap offset c.in_ok-copied.ensures) c.lower_owned.ensures.offset

@@ -1,21 +1,10 @@
-use Rattle.cut_chains.proofs.Common.{unsigned_abs, ap, ◌∙◌, arith, rules, w128, to_z-of_z, CutLink, cut_keeps}
-use Rattle.cut_chains.proofs.CutSizes.{cut_offset_small}
+use Rattle.cut_chains.proofs.Common.{ap, ◌∙◌, IfOk-weaker, cut_image, cut_offset}
 use Rattle.cut_chains.proofs.cut_chains.CutChains.lower.Goals as goal
+
+pub returns-clause-image : goal.returns-clause-image
+returns-clause-image c =
+    IfOk-weaker c.lower_owned.result _ _ (λ made same. same ∙ ap cut_image c.in_ok-copied.ensures) c.lower_owned.ensures.image
 
 pub returns-clause-offset : goal.returns-clause-offset
 returns-clause-offset c =
-    to_z-of_z w128 c.in_ok-target.offset (search rules) ∙ c.in_ok-target.ensures.offset
-
-pub returns-clause-keeps : goal.returns-clause-keeps
-returns-clause-keeps c =
-    let link : CutLink = record { chains = c.in_ok-copied.field-0; qubits = c.qubits.result } in
-    let chains = c.in_ok-copied.ensures ∙ c.chains.ensures in
-    let kept = c.in_ok-target.ensures.kept in
-    rw (c.in_ok-target.ensures.image, returns-clause-offset c)
-    (cut_keeps link c.args.source.now
-    (record { chains = chains; qubits = c.qubits.ensures; kept = kept }))
-
-pub returns-clause-offset_high : goal.returns-clause-offset_high
-returns-clause-offset_high c =
-    let small = cut_offset_small c.args.source.now c.in_ok-target.ensures.kept in
-    omega (arith, ap unsigned_abs (returns-clause-offset c))
+    IfOk-weaker c.lower_owned.result _ _ (λ made same. same ∙ ap cut_offset c.in_ok-copied.ensures) c.lower_owned.ensures.offset
