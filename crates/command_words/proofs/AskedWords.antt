@@ -1,17 +1,10 @@
 -- Words that ask for a command, by the words at their places.
-use Rattle.command_words.proofs.Common.{nat_tests, arith, ◌≡◌, ℕ, List, [], ◌∷◌, ◌++◌, Option, Some, None, Ok, refl, ◌∙◌, UnitChoice, Format, Target, NodeModel, TargetWord, Chaining, ChainStrength, digits_number, Keys, Slack, Verb, EachJobIsAskedFor, EachSizeIsAskedFor, EachDecodingIsAskedFor, EachEvaluationIsAskedFor, EachExtensionIsAskedFor, EachSampleIsAskedFor, EachSolutionIsAskedFor, EachProofIsAskedFor, EachUnitIsAskedFor, EachSlackIsAskedFor, EachOrderIsAskedFor, EachGraphIsAskedFor, EachKeyStands, NoKeyStandsTwice, NoGraphKeyElsewhere, NoOrderElsewhere, NoGraphWithout, NoLargerGraph, IsRefusedAfterAll, format_word, slack_key, order_key, on_fourth_word, board_of, board_with, dead_at, target_word, unit_key, rows_key, cols_key, shore_key, map_key, clique_key, dead_keys, chain_key, compile_words, command_of, format_of, target_of, keys_from, no_keys, target_by, with_word}
-use Rattle.base.specs.declared.unit.UnitChoice.TheVariants.{One, Reduce}
+use Rattle.command_words.proofs.Common.{nat_tests, arith, ◌≡◌, ℕ, List, [], ◌∷◌, ◌++◌, Option, Some, None, Ok, refl, UnitChoice, Format, NodeModel, TargetWord, Chaining, ChainStrength, digits_number, Keys, Slack, Verb, EachJobIsAskedFor, EachSizeIsAskedFor, EachDecodingIsAskedFor, EachEvaluationIsAskedFor, EachExtensionIsAskedFor, EachSampleIsAskedFor, EachSolutionIsAskedFor, EachProofIsAskedFor, EachUnitIsAskedFor, EachSlackIsAskedFor, EachOrderIsAskedFor, EachGraphIsAskedFor, EachKeyStands, NoKeyStandsTwice, NoGraphKeyElsewhere, NoOrderElsewhere, NoGraphWithout, NoLargerGraph, IsRefusedAfterAll, format_word, slack_key, on_fourth_word, board_of, board_with, dead_at, target_word, unit_key, rows_key, cols_key, shore_key, map_key, clique_key, dead_keys, chain_key, compile_words, command_of, format_of, target_of, keys_from, no_keys, target_by, with_word, Choi, Cut, Clique, Map, Value}
 use Rattle.command_words.specs.declared.commands.TargetWord.TheVariants.{Nodes, Chimera}
-use Rattle.command_words.specs.declared.commands.Chaining.TheVariants.{Clique, Map}
-use Rattle.command_words.specs.declared.commands.ChainStrength.TheVariants.{Choi, Cut}
-use Rattle.command_words.specs.declared.commands.WordAt.TheVariants.{Value}
 use Rattle.command_words.specs.declared.commands.Ask.TheVariants as asks
 use Rattle.chimera_graph.specs.declared.chimera.Chimera as graphs
-use Rattle.command_words.specs.declared.commands.Slack.TheVariants.{Bits, Pairs}
 use Rattle.command_words.specs.declared.commands.Verb.TheVariants as verbs
-use Rattle.command_words.proofs.CutWords.{cut_bound, cut_order, cut_rows, cut_cols, cut_shore, cut_map, cut_dead}
-use Rattle.command_words.proofs.Sides.{side_of-digits}
-use Rattle.command_words.proofs.BoundKeys.{bound_of-digits}
+use Rattle.command_words.proofs.KeyWords.{cut_bound, cut_order, cut_rows, cut_cols, cut_shore, cut_map, cut_dead, side_of-digits, bound_of-digits}
 use Rattle.command_words.proofs.Graphs.{graph_with-its, graph_with-larger}
 
 -- ---- the words of a job
@@ -31,54 +24,43 @@ pub each_size : EachSizeIsAskedFor
 each_size format word file keys = rw (format_of-format_word format, target_of-target_word word) refl
 
 pub each_solution : EachSolutionIsAskedFor
-each_solution format word file keys =
-    rw (format_of-format_word format, target_of-target_word word) refl
+each_solution format word file keys = grind (arith, nat_tests)
 
 pub each_decoding : EachDecodingIsAskedFor
-each_decoding format word file state keys =
-    rw (format_of-format_word format, target_of-target_word word) refl
+each_decoding format word file state keys = grind (arith, nat_tests)
 
 pub each_evaluation : EachEvaluationIsAskedFor
-each_evaluation format word file states keys =
-    rw (format_of-format_word format, target_of-target_word word) refl
+each_evaluation format word file states keys = grind (arith, nat_tests)
 
 pub each_extension : EachExtensionIsAskedFor
-each_extension format word file assignment keys =
-    rw (format_of-format_word format, target_of-target_word word) refl
+each_extension format word file assignment keys = grind (arith, nat_tests)
 
 pub each_proof : EachProofIsAskedFor
-each_proof format word file state certificate keys =
-    rw (format_of-format_word format, target_of-target_word word) refl
+each_proof format word file state certificate keys = grind (arith, nat_tests)
 
 pub each_sample : EachSampleIsAskedFor
-each_sample number clauses first second word keys one two =
-    rw (one, two, target_of-target_word word) refl
+each_sample number clauses first second word keys one two = grind (arith, nat_tests)
 
 -- a key for the unit alone
 unit_alone : (model : NodeModel) (unit : UnitChoice)
     → keys_from verbs.Compile (Nodes model) no_keys 4 (unit_key unit ∷ [])
     ≡ Ok (record no_keys { unit = Some unit })
-unit_alone model One = refl
-unit_alone model Reduce = refl
+unit_alone model unit = grind (arith, nat_tests)
 
 pub each_unit : EachUnitIsAskedFor
-each_unit format model file unit =
-    each_job format (Nodes model) file (unit_key unit ∷ []) ∙ rw (unit_alone model unit) refl
+each_unit format model file unit = grind (arith, nat_tests, each_job, unit_alone)
 
 -- a key alone for conflicts
 slack_alone : (model : NodeModel) (slack : Slack)
     → keys_from verbs.Compile (Nodes model) no_keys 4 (slack_key slack ∷ [])
     ≡ Ok (record no_keys { slack = Some slack })
-slack_alone model Bits = refl
-slack_alone model Pairs = refl
+slack_alone model slack = grind (arith, nat_tests)
 
 pub each_slack : EachSlackIsAskedFor
-each_slack format model file slack =
-    each_job format (Nodes model) file (slack_key slack ∷ []) ∙ rw (slack_alone model slack) refl
+each_slack format model file slack = grind (arith, nat_tests, each_job, slack_alone)
 
 pub each_order : EachOrderIsAskedFor
-each_order format model file name =
-    each_solution format (Nodes model) file (order_key name ∷ []) ∙ rw (cut_order name) refl
+each_order format model file name = grind (arith, nat_tests)
 
 pub each_key : EachKeyStands
 each_key = record {
@@ -206,15 +188,7 @@ no_graph_key_elsewhere = record {
 }
 
 pub no_order_elsewhere : NoOrderElsewhere
-no_order_elsewhere verbs.Solve target keys at other word value named = absurd (other refl)
-no_order_elsewhere verb target keys at other word value named = rw named refl
-
--- nothing
-abbrev no_graph : Option graphs.Chimera
-no_graph = None
-
-abbrev no_target : Option Target
-no_target = None
+no_order_elsewhere verb target keys is other word value named = grind (arith, nat_tests)
 
 -- keys that choose no target are refused after all words
 refused : (keys : Keys) → target_by Chimera keys ≡ None → IsRefusedAfterAll keys

@@ -61,12 +61,10 @@ graph_with-none rows cols shore none =
 -- so it is where there were too many qubits
 pub graph_with-larger : (rows cols shore : ℕ) → 2 ^ 20 < 2 * rows * cols * shore
     → graph_with rows cols shore ≡ None
-graph_with-larger rows cols shore larger =
-    graph_with-none rows cols shore (λ shape. omega (arith, larger, shape.few))
+graph_with-larger rows cols shore larger = grind (arith, nat_tests, graph_with-none)
 
 nothing_is_some : (made : Option Chimera) → made ≡ None → IsSome made → ⊥
-nothing_is_some None e some = absurd cc
-nothing_is_some (Some graph) e some = absurd cc
+nothing_is_some made e some = grind (arith, nat_tests)
 
 -- what is made of the numbers is their graph
 pub made_is_graph_with : (rows cols shore : ℕ) (made : Option Chimera)

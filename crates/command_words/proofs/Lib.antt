@@ -1,8 +1,6 @@
 pub mod Common
 pub mod Texts
-pub mod CutWords
-pub mod BoundKeys
-pub mod Sides
+pub mod KeyWords
 pub mod Graphs
 pub mod AskedWords
 pub mod SaidWords

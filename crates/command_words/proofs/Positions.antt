@@ -1,11 +1,9 @@
 -- The position that is told is that of the first word that cannot stand.
-use Rattle.command_words.proofs.Common.{nat_tests, ◌<◌, ◌≡◌, ℕ, suc, ◌+◌, List, [], ◌∷◌, ◌++◌, length, take, drop, Option, Some, None, Result, Ok, Err, refl, ap, sym, subst, ◌∙◌, ◌⊎◌, inl, inr, arith, ◌≤◌, codes, unwrap_or, option_map_or, ok_or, drop-take, length-drop, digits_number, Format, Notice, Origin, TargetWord, Verb, Keys, graph_with, keys_from, no_keys, ◌>>=◌, alone, clauses_of, command_of, commanding, drawn_words, file_words, first_key, format_of, notice_of, request_of, source_words, target_of, verb_of, AskForTooLarge, CanGoOn, PositionsTellTheFirst}
+use Rattle.command_words.proofs.Common.{nat_tests, ◌<◌, ◌≡◌, ℕ, suc, ◌+◌, List, [], ◌∷◌, ◌++◌, length, take, drop, Option, Some, None, Result, Ok, Err, refl, ap, sym, subst, ◌∙◌, ◌⊎◌, inl, inr, arith, ◌≤◌, codes, unwrap_or, option_map_or, ok_or, drop-take, length-drop, digits_number, Format, Notice, Origin, TargetWord, Verb, Keys, graph_with, keys_from, no_keys, ◌>>=◌, alone, clauses_of, command_of, commanding, drawn_words, file_words, first_key, format_of, notice_of, request_of, source_words, target_of, verb_of, AskForTooLarge, CanGoOn, PositionsTellTheFirst, File, Drawn, Whole}
 use Rattle.command_words.specs.declared.commands.Format.TheVariants as formats
 use Rattle.command_words.specs.declared.commands.NodeModel.TheVariants.{Qubo}
 use Rattle.command_words.specs.declared.commands.Notice.TheVariants as notices
-use Rattle.command_words.specs.declared.commands.Origin.TheVariants.{File, Drawn}
 use Rattle.command_words.specs.declared.commands.Request.TheVariants as requests
-use Rattle.command_words.specs.declared.commands.WordAt.TheVariants.{Whole}
 use Rattle.command_words.specs.declared.commands.TargetWord.TheVariants.{Nodes, Chimera}
 use Rattle.command_words.specs.declared.commands.Verb.TheVariants as verbs
 use Rattle.chimera_graph.specs.declared.chimera.Chimera as graphs
@@ -41,8 +39,7 @@ keys_of_none verb target at n = ap (keys_from verb target no_keys at) (drop-nil 
 told_at : {A : Type 0} (words : List (List ℕ)) (j i : ℕ) → the_err {A = A} (suc j) ≡ Err (i + 1)
     → CanGoOn (take j words) → (j < length words → (more : List (List ℕ))
     → request_of (take (suc j) words ++ more) ≡ Err (suc j)) → Told words i
-told_at words j i e before wrong =
-    at_index words j i e (record { before = inl before; wrong = wrong })
+told_at words j i e before wrong = grind (arith, nat_tests)
 
 -- ---- words that say a source and its target
 
@@ -179,8 +176,7 @@ module _ (verb : Verb) (n : ℕ) (first : List ℕ) (no_notice : notice_of first
   says_file : (second third fourth : List ℕ) (format : Format) (target : TargetWord)
       → format_of second ≡ Some format → target_of third ≡ Some target
       → Say verb n first no_notice is_verb behind second third fourth (File format (Whole 3)) target
-  says_file second third fourth format target e f rest =
-      rw (of_file (first ∷ second ∷ third ∷ fourth ∷ rest), e, f) refl
+  says_file second third fourth format target e f rest = grind (arith, nat_tests)
 
   third_goes_on : (second third : List ℕ) (format : Format) (target : TargetWord)
       → format_of second ≡ Some format → target_of third ≡ Some target

@@ -1,7 +1,6 @@
 -- Words that ask for a command or a notice say it.
-use Rattle.command_words.proofs.Common.{nat_tests, ◌≡◌, ℕ, suc, ◌+◌, false, List, [], ◌∷◌, ◌++◌, length, drop, Option, Some, None, Result, Ok, Err, refl, ap, sym, subst, ◌∙◌, ◌⊎◌, arith, IfOk, IfSome, ◌==◌, ◌||◌, bytes_eq, codes, slice_get, if◌then◌else◌, ⊤, option_map_or, drop_more, slice_get_within, get_or_from_slice_get, ne_eqb, bytes_eq-Decides, Format, Target, TargetWord, WordAt, Ask, Command, Origin, digits_number, Keys, Verb, Notice, Request, EachNoticeIsAskedFor, EachCommandIsAskedFor, NoOtherWordsAsk, Say, SayRequest, format_word, job_words, long_word, short_word, target_word, word_of, ◌>>=◌, alone, ask_of, chosen_target, clauses_of, command_of, commanding, drawn_words, file_words, first_key, first_notice, format_of, named, notice_of, source_words, target_of, valued, verb_of, keys_from, no_keys, text_at}
+use Rattle.command_words.proofs.Common.{nat_tests, ◌≡◌, ℕ, suc, ◌+◌, false, List, [], ◌∷◌, ◌++◌, length, drop, Option, Some, None, Result, Ok, Err, refl, ap, sym, subst, ◌∙◌, ◌⊎◌, arith, IfOk, IfSome, ◌==◌, ◌||◌, bytes_eq, codes, slice_get, if◌then◌else◌, ⊤, option_map_or, drop_more, slice_get_within, get_or_from_slice_get, ne_eqb, bytes_eq-Decides, Format, Target, TargetWord, WordAt, Ask, Command, Origin, digits_number, Keys, Verb, Notice, Request, EachNoticeIsAskedFor, EachCommandIsAskedFor, NoOtherWordsAsk, Say, SayRequest, format_word, job_words, long_word, short_word, target_word, word_of, ◌>>=◌, alone, ask_of, chosen_target, clauses_of, command_of, commanding, drawn_words, file_words, first_key, first_notice, format_of, named, notice_of, source_words, target_of, valued, verb_of, keys_from, no_keys, text_at, File, Drawn}
 use Rattle.command_words.specs.declared.commands.Ask.TheVariants as asks
-use Rattle.command_words.specs.declared.commands.Origin.TheVariants.{File, Drawn}
 use Rattle.command_words.specs.declared.commands.Verb.TheVariants as verbs
 use Rattle.command_words.specs.declared.commands.Notice.TheVariants.{Help, Version}
 use Rattle.command_words.specs.declared.commands.Request.TheVariants as requests
@@ -10,12 +9,10 @@ use Rattle.command_words.specs.declared.commands.Request.TheVariants as requests
 
 next : {A B : Type 0} (r : Result A ℕ) (f : A → Result B ℕ) (Q : A → Type 0) (P : B → Type 0)
     → IfOk r Q → ((x : A) → Q x → IfOk (f x) P) → IfOk (r >>= f) P
-next (Ok x) f Q P q each = each x q
-next (Err position) f Q P q each = tt
+next r f Q P q each = grind (arith, nat_tests)
 
 nothing : {A : Type 0} (r : Result A ℕ) → IfOk r (λ _. ⊤)
-nothing (Ok x) = tt
-nothing (Err position) = tt
+nothing r = grind (arith, nat_tests)
 
 -- ---- a value has its own word
 
@@ -203,8 +200,7 @@ with_file-asked verb words Said each asked =
 one_more : (words : List (List ℕ)) (make : WordAt → Ask)
     → IfOk (named words 4 >>= λ at. Ok (make at))
     (λ ask. (at : WordAt) × (ask ≡ make at) × StandsAt words 4 (text_at words at))
-one_more words make =
-    next (named words 4) (λ at. Ok (make at)) _ _ (named-word words 4) (λ at fifth. (at, refl, fifth))
+one_more words make = grind (arith, nat_tests)
 
 -- those of a state and of a certificate are
 two_more : (words : List (List ℕ)) → IfOk (ask_of verbs.Prove None words)

@@ -1,11 +1,9 @@
 -- Where keys stop, how words go on, and what is told behind all words.
-use Rattle.command_words.proofs.Common.{nat_tests, ◌≡◌, ◌<◌, ℕ, zero, suc, ◌+◌, List, [], ◌∷◌, ◌++◌, length, take, drop, Option, Some, None, Result, Ok, Err, refl, ap, sym, subst, ◌∙◌, ◌⊎◌, arith, unwrap_or, ⊤, ◌≤◌, codes, slice_get, option_map_or, take_all, slice_get_cases, digits_number, Ask, Command, WordAt, Target, TargetWord, Verb, Keys, Origin, graph_with, keys_from, target_by, with_word, clique_key, cols_key, rows_key, shore_key, ◌>>=◌, ask_of, first_key, named, request_of, AskForTooLarge, CanGoOn}
+use Rattle.command_words.proofs.Common.{nat_tests, ◌≡◌, ◌<◌, ℕ, zero, suc, ◌+◌, List, [], ◌∷◌, ◌++◌, length, take, drop, Option, Some, None, Result, Ok, Err, refl, ap, sym, subst, ◌∙◌, ◌⊎◌, arith, unwrap_or, ⊤, ◌≤◌, codes, slice_get, option_map_or, take_all, slice_get_cases, digits_number, Ask, Command, WordAt, Target, TargetWord, Verb, Keys, Origin, graph_with, keys_from, target_by, with_word, clique_key, cols_key, rows_key, shore_key, ◌>>=◌, ask_of, first_key, named, request_of, AskForTooLarge, CanGoOn, Choi, Clique}
 use Rattle.command_words.specs.declared.commands.Request.TheVariants as requests
-use Rattle.command_words.specs.declared.commands.Chaining.TheVariants.{Clique}
 use Rattle.command_words.specs.declared.commands.Target.TheVariants as targets
 use Rattle.command_words.specs.declared.commands.TargetWord.TheVariants.{Nodes, Chimera}
 use Rattle.command_words.specs.declared.commands.Verb.TheVariants as verbs
-use Rattle.command_words.specs.declared.commands.ChainStrength.TheVariants.{Choi}
 use Rattle.chimera_graph.specs.declared.chimera.Chimera as graphs
 use Rattle.command_words.proofs.AskedWords.{each_key}
 use Rattle.command_words.proofs.SaidWords.{with_ask, with_chosen, with_keys}
@@ -212,8 +210,7 @@ pad (suc n) [] = [] ∷ pad n []
 pad (suc n) (word ∷ words) = pad n words
 
 pub drop-nil : (n : ℕ) → drop n (the_none) ≡ []
-drop-nil zero = refl
-drop-nil (suc n) = refl
+drop-nil n = grind (arith, nat_tests)
 
 pub drop-pad : (n : ℕ) (words more : List (List ℕ))
     → drop n (words ++ (pad n words ++ more)) ≡ drop n words ++ more
@@ -224,14 +221,12 @@ drop-pad (suc n) (word ∷ words) more = drop-pad n words more
 
 pub length-pad : (n : ℕ) (words more : List (List ℕ)) → n ≤ length (words ++ (pad n words ++ more))
 length-pad zero words more = omega arith
-length-pad (suc n) [] more =
-    let rest : n ≤ length (pad n [] ++ more) = length-pad n [] more in omega (arith, rest)
+length-pad (suc n) [] more = grind (arith, nat_tests, length-pad n)
 length-pad (suc n) (word ∷ words) more = let rest = length-pad n words more in omega (arith, rest)
 
 pub from_command : (r : Result Command ℕ) (p : ℕ)
     → (r >>= λ command. Ok (requests.Command command)) ≡ Err p → r ≡ Err p
-from_command (Ok command) p e = absurd cc
-from_command (Err q) p e = let same : q ≡ p = cc in ap Err same
+from_command r p e = grind (arith, nat_tests)
 
 -- what a verb asks of enough words
 pub ask : (verb : Verb) (order : Option WordAt) (words : List (List ℕ)) → first_key verb ≤ length words
@@ -272,8 +267,7 @@ late_end verb words origin target keys p e =
 -- the part of a list behind its first few, and more
 pub drop-take-append : (n m : ℕ) (words more : List (List ℕ)) → n ≤ length words
     → drop n (take (n + m) words ++ more) ≡ take m (drop n words) ++ more
-drop-take-append zero m words more few =
-    let same : 0 + m ≡ m = omega arith in ap (λ k. take k words ++ more) same
+drop-take-append zero m words more few = grind (arith, nat_tests)
 drop-take-append (suc n) m [] more few = absurd (omega (arith, few))
 drop-take-append (suc n) m (word ∷ words) more few =
     let same : suc n + m ≡ suc (n + m) = omega arith in

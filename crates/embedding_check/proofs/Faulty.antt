@@ -1,21 +1,14 @@
 -- From the passes to a valid embedding, or to the first fault.
-use Rattle.embedding_check.proofs.Common.{IsFaultAmong, ◌≡◌, ◌≢◌, ℕ, zero, suc, ◌+◌, ◌<◌, ◌≤◌, ◌==◌, if◌then◌else◌, pos, inl, inr, Bool, true, false, ◌&&◌, ◌||◌, List, [], ◌∷◌, ◌++◌, length, get_or, All, refl, sym, ap, subst, ◌∙◌, arith, AllZip, cases_eq, get_or_append_left, get_or-append_seam, sum_by-take-le, sum_by_more, Entry, IsingContent, EmbedFault, CheckAnswer, Joins, is_in, IsReached, chain_of, occurrences, IsCrossing, IsValid, IsPlace, qubit_at, IsSortedChain, IsPlaceIn, IfFault, IsFault, IsFirstAt, Exists, IsNew, IsReachedAt, IsUncoupled, number_at, IsInside, IsApart, AreSearchable, IsLinked, Option, occurrences_more, occurrences-take-le}
-use Rattle.chain_map.specs.declared.faults.EmbedFault.TheVariants.{ChainCount, EmptyChain, TooManyNodes, NoSuchQubit, Repeated, Disconnected, NoCoupler}
-use Rattle.chain_map.specs.declared.faults.CheckAnswer.TheVariants.{Fault, NoMemory}
+use Rattle.embedding_check.proofs.Common.{ChainCount, EmptyChain, TooManyNodes, NoSuchQubit, Repeated, Disconnected, NoCoupler, IsFaultAmong, ◌≡◌, ◌≢◌, ℕ, zero, suc, ◌+◌, ◌<◌, ◌≤◌, ◌==◌, if◌then◌else◌, pos, inl, inr, Bool, true, ◌&&◌, ◌||◌, List, [], ◌∷◌, ◌++◌, length, get_or, All, refl, sym, ap, subst, ◌∙◌, arith, AllZip, cases_eq, get_or_append_left, get_or-append_seam, sum_by-take-le, sum_by_more, Entry, IsingContent, EmbedFault, CheckAnswer, Joins, is_in, chain_of, occurrences, IsCrossing, IsValid, qubit_at, IsSortedChain, IsPlaceIn, IfFault, IsNew, number_at, IsApart, AreSearchable, Option, occurrences_more, occurrences-take-le, both_ways, is_in_at, get_or_default}
 use Rattle.embedding_check.proofs.Noting.{least_pair_same}
-use Rattle.embedding_check.proofs.Sorting.{is_in_at, at_of_in, same_test}
-use Rattle.embedding_check.proofs.Passing.{default_free}
+use Rattle.chain_map.specs.declared.faults.CheckAnswer.TheVariants.{Fault, NoMemory}
+use Rattle.embedding_check.proofs.Sorting.{at_of_in, same_test}
 
 -- ---- a chain and its sorted one
 
-same_truth : (a b : Bool) → (a ≡ true → b ≡ true) → (b ≡ true → a ≡ true) → a ≡ b
-same_truth true b to from = sym (to refl)
-same_truth false true to from = from refl
-same_truth false false to from = refl
-
 pub sorted_members : (chain qs : List ℕ) → IsSortedChain chain qs → (q : ℕ) → is_in qs q ≡ is_in chain q
 sorted_members chain qs sorted q =
-    same_truth _ _
+    both_ways _ _
     (λ h. let i = at_of_in qs q h in subst (λ x. is_in chain x ≡ true) i.2 (sorted.inside i.0 i.1))
     (λ h. let i = sorted.found q h in is_in_at qs i.0 q i.1 i.2)
 
@@ -52,73 +45,18 @@ zip_all {A = A} R P (x ∷ xs) (y ∷ ys) weaker all = go (zip_all R P xs ys wea
 
 -- ---- what the passes before have shown
 
-pub is_filled : (map : List (List ℕ)) → ((u : ℕ) → u < length map → chain_of map u ≢ [])
-    → All (λ chain. chain ≢ []) map
-is_filled map all = λ k d h e. all k h (default_free map k [] d h ∙ e)
-
 pub all_of_places : (map : List (List ℕ)) (P : List ℕ → ℕ → Type 0)
     → ((u : ℕ) → u < length map → (j : ℕ) → j < length (chain_of map u) → P (chain_of map u) (number_at map u j))
     → All (λ chain. All (P chain) chain) map
 all_of_places map P all = λ k d h.
-    subst (λ (chain : List ℕ). All (P chain) chain) (default_free map k [] d h)
-    (λ j e low. subst (P (chain_of map k)) (default_free (chain_of map k) j 0 e low) (all k h j low))
-
-pub is_inside : (qubits : ℕ) (f : IsingContent) (map : List (List ℕ)) → length map ≡ length f.fields
-    → ((u : ℕ) → u < length map → chain_of map u ≢ []) → ((u : ℕ) → u < length map → (j : ℕ)
-    → j < length (chain_of map u) → Exists qubits map u j) → IsInside (λ q. q < qubits) f map
-is_inside qubits f map counted filled within = record {
-  listed = record { listed = record { counted = counted }; filled = is_filled map filled };
-  within = all_of_places map (λ chain q. q < qubits) within;
-}
-
-pub is_apart : (IsQubit : ℕ → Type 0) (f : IsingContent) (map : List (List ℕ)) → IsInside IsQubit f map
-    → ((q : ℕ) → occurrences q map ≤ 1) → IsApart IsQubit f map
-is_apart IsQubit f map inside once = record { inside = inside; once = once }
-
-pub is_linked : (joined : Joins) (IsQubit : ℕ → Type 0) (f : IsingContent) (map : List (List ℕ)) → IsApart IsQubit f map
-    → ((u : ℕ) → u < length map → (j : ℕ) → j < length (chain_of map u) → IsReachedAt joined map u j)
-    → IsLinked joined IsQubit f map
-is_linked joined IsQubit f map apart reached = record {
-  apart = apart;
-  connected = all_of_places map (IsReached joined) reached;
-}
-
-pub is_valid : (joined : Joins) (qubits : ℕ) (f : IsingContent) (map : List (List ℕ)) (places : List (ℕ × ℕ))
-    → IsLinked joined (λ q. q < qubits) f map
-    → AllZip (λ (c : Entry) place. IsPlace joined (chain_of map c.first) (chain_of map c.second) place) f.couplings places
-    → IsValid joined qubits f map
-is_valid joined qubits f map places linked placed = record {
-  counted = linked.apart.inside.listed.listed.counted;
-  filled = linked.apart.inside.listed.filled;
-  within = linked.apart.inside.within;
-  once = linked.apart.once;
-  connected = linked.connected;
-  coupled = zip_all (λ (c : Entry) place. IsPlace joined (chain_of map c.first) (chain_of map c.second) place)
-      (λ (c : Entry). (pair : ℕ × ℕ) × IsCrossing joined (chain_of map c.first) (chain_of map c.second) pair)
-      f.couplings places (λ c place p. (place, p.crossing)) placed;
-}
+    subst (λ (chain : List ℕ). All (P chain) chain) (get_or_default map k [] d h)
+    (λ j e low. subst (P (chain_of map k)) (get_or_default (chain_of map k) j 0 e low) (all k h j low))
 
 -- ---- faults
 
 pub if_fault : (e : CheckAnswer) (P Q : EmbedFault → Type 0) → ((f : EmbedFault) → P f → Q f) → IfFault e P → IfFault e Q
 if_fault (Fault f) P Q weaker p = weaker f p
 if_fault NoMemory P Q weaker p = tt
-
-pub repeated_fault : (joined : Joins) (qubits : ℕ) (f : IsingContent) (map : List (List ℕ)) (e : CheckAnswer)
-    → IsInside (λ q. q < qubits) f map
-    → IfFault e (λ x. (v : ℕ) × (k : ℕ) × IsFirstAt map (IsNew map) v k × (x ≡ Repeated (number_at map v k)))
-    → IfFault e (IsFault joined qubits f map)
-repeated_fault joined qubits f map e inside h =
-    if_fault e _ (IsFault joined qubits f map)
-    (λ x p. subst (IsFault joined qubits f map) (sym p.3) (inside, (p.0, p.1, p.2, refl))) h
-
-pub uncoupled_fault : (joined : Joins) (qubits : ℕ) (f : IsingContent) (map : List (List ℕ)) (e : CheckAnswer)
-    → IsLinked joined (λ q. q < qubits) f map
-    → IfFault e (λ x. (u : ℕ) × (v : ℕ) × (k : ℕ) × IsUncoupled joined f.couplings map u v k × (x ≡ NoCoupler u v))
-    → IfFault e (IsFault joined qubits f map)
-uncoupled_fault joined qubits f map e connected h =
-    if_fault e _ (IsFault joined qubits f map)
-    (λ x p. subst (IsFault joined qubits f map) (sym p.4) (connected, (p.2, p.3))) h
 
 -- one more at the end
 pub pushed_more : {B : Type 0} (R : ℕ → B → Type 0) (ys : List B) (k : ℕ) (y e : B)
@@ -136,13 +74,9 @@ pub sorted_within : (n : ℕ) (chain qs : List ℕ) → ((j : ℕ) → j < lengt
     → IsSortedChain chain qs → All (λ q. q < n) qs
 sorted_within n chain qs within sorted = λ k d h.
     let i = at_of_in chain (qubit_at qs k) (sorted.inside k h) in
-    omega (arith, within i.0 i.1, i.2, default_free qs k 0 d h)
+    omega (arith, within i.0 i.1, i.2, get_or_default qs k 0 d h)
 
 -- ---- a fault makes a map invalid
-
-pub places_of_all : (map : List (List ℕ)) (P : List ℕ → ℕ → Type 0) → All (λ chain. All (P chain) chain) map
-    → (u : ℕ) → u < length map → (j : ℕ) → j < length (chain_of map u) → P (chain_of map u) (number_at map u j)
-places_of_all map P all u below j low = all u [] below j 0 low
 
 some_of_full : (chain : List ℕ) → chain ≢ [] → 0 < length chain
 some_of_full [] full = absurd (full refl)
@@ -153,7 +87,7 @@ pub searchable : (qubits : ℕ) (f : IsingContent) (map : List (List ℕ)) → I
     → AreSearchable qubits map
 searchable qubits f map apart = record {
   filled = λ u below. some_of_full (chain_of map u) (apart.inside.listed.filled u [] below);
-  within = places_of_all map (λ chain q. q < qubits) apart.inside.within;
+  within = λ u below j low. apart.inside.within u [] below j 0 low;
   once = apart.once;
 }
 
@@ -175,17 +109,12 @@ fault_among_invalid joined qubits IsQubit f map (ChainCount n) h valid all = h.1
 fault_among_invalid joined qubits IsQubit f map (EmptyChain v) h valid all =
     h.1.bad (valid.filled v [] h.1.below)
 fault_among_invalid joined qubits IsQubit f map (NoSuchQubit v q) h valid all =
-    h.1.1.place.bad (places_of_all map (λ chain p. IsQubit p) all v h.1.1.chain.below h.1.0 h.1.1.place.below)
+    h.1.1.place.bad (all v [] h.1.1.chain.below h.1.0 0 h.1.1.place.below)
 fault_among_invalid joined qubits IsQubit f map (Repeated q) h valid all =
     h.1.2.place.bad (new_of_once map valid.once h.1.0 h.1.2.chain.below h.1.1 h.1.2.place.below)
 fault_among_invalid joined qubits IsQubit f map (Disconnected v q) h valid all =
-    h.1.1.place.bad (places_of_all map (IsReached joined) valid.connected v h.1.1.chain.below h.1.0 h.1.1.place.below)
+    h.1.1.place.bad (valid.connected v [] h.1.1.chain.below h.1.0 0 h.1.1.place.below)
 fault_among_invalid joined qubits IsQubit f map (NoCoupler u v) h valid all =
     let e : Entry = record { first = 0; second = 0; weight = pos 0 } in
     h.1.1.bad e (valid.coupled h.1.0 e h.1.1.below)
 fault_among_invalid joined qubits IsQubit f map (TooManyNodes n m) h valid all = h
-
-pub fault_invalid : (joined : Joins) (qubits : ℕ) (f : IsingContent) (map : List (List ℕ)) (x : EmbedFault)
-    → IsFault joined qubits f map x → IsValid joined qubits f map → ⊥
-fault_invalid joined qubits f map x h valid =
-    fault_among_invalid joined qubits (λ q. q < qubits) f map x h valid valid.within

@@ -1,7 +1,7 @@
 -- Levels against walks: the distance of a qubit is its level, and the first of the level before that is
 -- joined to it is its parent.
-use Rattle.embedding_check.proofs.Common.{nat_tests, ◌≡◌, ℕ, zero, suc, ◌<◌, ◌≤◌, inl, inr, true, false, List, [], ◌∷◌, ◌++◌, length, refl, sym, ap, subst, ◌∙◌, arith, Contains, cases_eq, cases_lt, length-append, get_or_default_zero, Contains-get_or, Joins, is_in, first_of, IsWalk, end_of, WalksTo, HasDistance, IsParent, Found, waits_at, parent_at, qubit_at, NoneJoined, IsFirst, LevelTakes, IsSortedChain, IsSearched, IsWithin, AtLevel, emptied}
-use Rattle.embedding_check.proofs.Taking.{true_or_false, not_both, rising_once, rising_weak}
+use Rattle.embedding_check.proofs.Common.{nat_tests, ◌≡◌, ℕ, zero, suc, ◌<◌, ◌≤◌, inl, inr, true, false, List, [], ◌∷◌, ◌++◌, length, refl, sym, ap, subst, ◌∙◌, arith, Contains, cases_eq, cases_lt, length-append, get_or_default_zero, Contains-get_or, Joins, is_in, first_of, IsWalk, end_of, WalksTo, HasDistance, IsParent, Found, waits_at, parent_at, qubit_at, NoneJoined, IsFirst, LevelTakes, IsSortedChain, IsSearched, IsWithin, AtLevel, emptied, clash, cases_Bool}
+use Rattle.embedding_check.proofs.Taking.{rising_once, rising_weak}
 use Rattle.embedding_check.proofs.Checked.{one_distance, nearest}
 
 -- ---- walks and their last join
@@ -85,25 +85,21 @@ module _ (joined : Joins) (chain qs level : List ℕ) (d : ℕ) (s : Found)
         let here = before_in_level i below waits p in
         let none = alone here.1.0 here.1.1 in
         let at_m = get_or_default_zero level here.1.0 here.0 here.1.1 in
-        not_both _ p.linked (cc (at_m, here.1.2, here.3, none))
+        clash _ p.linked (cc (at_m, here.1.2, here.3, none))
   ]
-
-  -- the first of a level that reaches q is at the distance d, and q within d + 1
-  reached_within : (t : Found) (i m : ℕ) → i < length qs
-      → IsFirst joined qs level (length level) t i m → IsWithin joined chain (suc d) (qubit_at qs i)
-  reached_within t i m below f =
-      let there = at.here (qubit_at level m) (Contains-get_or level m 0 f.below) in
-      let w = there.1.reached in (
-        w.0 ++ (qubit_at qs i ∷ []),
-        further joined chain (qubit_at qs (qubit_at level m)) (qubit_at qs i) w.0 w.1 (sorted.inside i below) f.linked,
-        omega (arith, w.2, length-append w.0 (qubit_at qs i ∷ [])),
-      )
 
   near_more : (t : Found) → LevelTakes joined qs level (length level) s t → (i : ℕ) → i < length qs
       → waits_at t i ≡ false → IsWithin joined chain (suc d) (qubit_at qs i)
   near_more t takes i below not = elim (takes.each i below) [
     | inl rests ↦ let w = at.near i below (sym rests.stays.waits ∙ not) in (w.0, w.1, omega (arith, w.2))
-    | inr reached ↦ reached_within t i reached.from.0 below reached.from.1
+    | inr reached ↦
+        let f = reached.from.1 in
+        let there = at.here (qubit_at level reached.from.0) (Contains-get_or level reached.from.0 0 f.below) in
+        let w = there.1.reached in (
+          w.0 ++ (qubit_at qs i ∷ []),
+          further joined chain (qubit_at qs (qubit_at level reached.from.0)) (qubit_at qs i) w.0 w.1 (sorted.inside i below) f.linked,
+          omega (arith, w.2, length-append w.0 (qubit_at qs i ∷ [])),
+        )
   ]
 
   far_next : (t : Found) → is_in chain (first_of chain) ≡ true
@@ -112,7 +108,7 @@ module _ (joined : Joins) (chain qs level : List ℕ) (d : ℕ) (s : Found)
       → suc d < length steps
   far_next t first takes i below is steps w = elim (takes.each i below) [
     | inl rests ↦ far_more first i below (sym rests.stays.waits ∙ is) (rests.alone is) steps w
-    | inr reached ↦ absurd (not_both _ is reached.reached)
+    | inr reached ↦ absurd (clash _ is reached.reached)
   ]
 
   -- what was reached in this level has the distance d + 1
@@ -150,7 +146,7 @@ module _ (joined : Joins) (chain qs level : List ℕ) (d : ℕ) (s : Found)
             let up = rising m k.0 in
             let low = f.before k.0 in
             elim (cases_lt k.0 m) [
-              | inl less ↦ absurd (not_both _ n.linked (rw same_qubit at (low less)))
+              | inl less ↦ absurd (clash _ n.linked (rw same_qubit at (low less)))
               | inr more ↦ omega (arith, same_qubit, weak (up more k.1) (omega (arith, same, j.1)))
             ];
       })
@@ -176,9 +172,9 @@ module _ (joined : Joins) (chain qs level : List ℕ) (d : ℕ) (s : Found)
         all = λ i below distance.
             let w = at.near i below in
             let reached = distance.reached in
-            elim (true_or_false (waits_at s i)) [
+            elim (cases_Bool (waits_at s i)) [
               | inr gone ↦ absurd (omega (arith, (w gone).2, distance.least (w gone).0 (w gone).1))
-              | inl is ↦ elim (true_or_false (waits_at t i)) [
+              | inl is ↦ elim (cases_Bool (waits_at t i)) [
                 | inl still ↦
                     absurd (omega (arith, reached.2, far i below still reached.0 reached.1))
                 | inr gone ↦ to i (takes.moves.lists i below is gone)
@@ -212,7 +208,7 @@ level_first joined chain qs s at sorted len below is gone others =
         | inr e ↦ omega (arith, e)
         | inl e ↦
             let e' = rising_once qs sorted.rising i at low below (nearest joined chain (qubit_at qs i) steps w e ∙ sym is) in
-            absurd (not_both _ waits (rw e' gone))
+            absurd (clash _ waits (rw e' gone))
       ];
       here = λ i in'.
           let e = one_in at i in' in
@@ -226,10 +222,6 @@ level_first joined chain qs s at sorted len below is gone others =
 pub one_rising : (x i j : ℕ) → i ≤ j → j < length (x ∷ []) → qubit_at (x ∷ []) i ≤ qubit_at (x ∷ []) j
 one_rising x i j le below = grind (arith, nat_tests)
 
-pub nothing_in : (xs : List ℕ) → length xs ≡ 0 → xs ≡ []
-nothing_in [] none = refl
-nothing_in (x ∷ xs) none = absurd (omega (arith, none))
-
 -- ---- the last level
 
 -- what a walk leads to no longer waits once a level is empty
@@ -242,7 +234,7 @@ stuck joined chain qs d s first sorted at zero i below steps w long waits =
 stuck joined chain qs d s first sorted at (suc n) i below steps w long waits =
     let p = last_join joined chain _ (qubit_at qs i) n steps first w.walk w.ends long in
     let j = sorted.found p.before p.inside in
-    elim (true_or_false (waits_at s j.0)) [
+    elim (cases_Bool (waits_at s j.0)) [
       | inl is ↦
           stuck joined chain qs d s first sorted at n j.0 j.1 p.steps
           (rw j.2 (record { walk = p.walk; ends = p.ends })) p.short is

@@ -4,10 +4,8 @@ pub mod Taking
 pub mod Levels
 pub mod Sorting
 pub mod Passing
-pub mod LeastPairs
+pub mod Noting
 pub mod Faulty
 pub mod Owning
-pub mod Noting
 pub mod PlacedRows
-pub mod Runs
 pub mod Unique

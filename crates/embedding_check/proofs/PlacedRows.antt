@@ -1,5 +1,9 @@
 -- Rows of couplings, one after another: their places, and the first coupling without joined qubits.
-use Rattle.embedding_check.proofs.Common.{nat_tests, ◌≡◌, ℕ, zero, suc, ◌+◌, ◌-◌, ◌<◌, inl, inr, List, [], ◌∷◌, ◌++◌, length, get_or, take, drop, All, sym, ap, subst, append_assoc, ◌∙◌, arith, AllZip, flat_map, cases_lt, length-append, get_or_append_left, get_or-append-add, take-append-drop, take_more, drop_more, flat_map-append, Entry, in_rows, rows_of, joined_rows, rows_before, Joins, IsCoupled, IsUncoupled}
+use Rattle.embedding_check.proofs.Common.{nat_tests, ◌≡◌, ℕ, zero, suc, ◌+◌, ◌-◌, ◌<◌, inl, inr, List, [], ◌∷◌, ◌++◌, length, get_or, take, drop, All, sym, ap, subst, append_assoc, ◌∙◌, arith, AllZip, flat_map, cases_lt, length-append, get_or_append_left, get_or-append-add, take-append-drop, take_more, drop_more, flat_map-append, Entry, in_rows, rows_of, joined_rows, rows_before, Joins, IsCoupled, IsUncoupled, pos}
+
+-- what a place past the end reads as
+abbrev pub no_entry : Entry
+no_entry = record { first = 0; second = 0; weight = pos 0 }
 
 -- ---- no row is empty
 

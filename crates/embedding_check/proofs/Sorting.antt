@@ -1,22 +1,15 @@
 -- The qubits of a chain in ascending order.
-use Rattle.embedding_check.proofs.Common.{◌≡◌, ℕ, zero, suc, ◌+◌, ◌<◌, ◌≤◌, ◌==◌, inl, inr, Bool, true, List, [], ◌∷◌, length, get_or, take, drop, ◌-◌, if◌then◌else◌, refl, sym, ap, ◌∙◌, arith, count_by, IsPermutation, IsNonDecreasing, cases_eq, eqb-true, or_cases, nat_tests, sum_by-IsPermutation, Contains-permutation, IsPermutation-sym, Contains-get_or, get_or_default_zero, get_or-drop, take_all, length-drop, sum_by-cons, is_in, qubit_at, IsSortedChain}
+use Rattle.embedding_check.proofs.Common.{◌≡◌, ℕ, zero, suc, ◌+◌, ◌<◌, ◌≤◌, ◌==◌, Bool, true, List, [], ◌∷◌, length, get_or, take, drop, ◌-◌, if◌then◌else◌, refl, sym, ap, ◌∙◌, arith, count_by, IsPermutation, IsNonDecreasing, cases_eq, eqb-true, nat_tests, sum_by-IsPermutation, Contains-permutation, IsPermutation-sym, Contains-get_or, get_or_default_zero, get_or-drop, take_all, length-drop, sum_by-cons, is_in, qubit_at, IsSortedChain, is_in_at, Any-from_list_any, get_or_default}
 
 pub same_test : (a b : ℕ) → a ≡ b → (a == b) ≡ true
 same_test a b e = grind (arith, nat_tests)
 
 -- ---- in a chain
 
-pub is_in_at : (xs : List ℕ) (k q : ℕ) → k < length xs → qubit_at xs k ≡ q → is_in xs q ≡ true
-is_in_at [] k q below is = absurd (omega (arith, below))
-is_in_at (x ∷ xs) zero q below is = grind (arith, nat_tests)
-is_in_at (x ∷ xs) (suc k) q below is = grind (arith, nat_tests, is_in_at xs k q (omega (arith, below)) is)
-
 pub at_of_in : (xs : List ℕ) (q : ℕ) → is_in xs q ≡ true → (k : ℕ) × (k < length xs) × (qubit_at xs k ≡ q)
-at_of_in [] q in' = absurd cc
-at_of_in (x ∷ xs) q in' = elim (or_cases (x == q) (is_in xs q) in') [
-  | inl here ↦ (0, omega arith, eqb-true x q here)
-  | inr there ↦ let k = at_of_in xs q there in (suc k.0, omega (arith, k.1), k.2)
-]
+at_of_in xs q in' =
+    let a = Any-from_list_any (λ p. p == q) xs in' in
+    (a.0, a.2, get_or_default xs a.0 0 a.1 a.2 ∙ a.3 ∙ eqb-true a.1 q a.4)
 
 -- ---- once
 

@@ -1,33 +1,7 @@
 -- What one qubit and what a level takes: nothing at first, one position more, one qubit more.
-use Rattle.embedding_check.proofs.Common.{nat_tests, ◌≡◌, ℕ, ◌+◌, ◌<◌, ◌≤◌, ◌⊎◌, inl, inr, Bool, true, false, List, [], ◌∷◌, length, if◌then◌else◌, refl, sym, ap, ◌∙◌, arith, cases_eq, get_or-set_same, get_or-set_other, length-set, length-append, Contains-append_left, Contains-push, Contains-push_cases, sum_by-set, Option, Some, Span, CanBeJoined, Joins, Found, waits_at, parent_at, qubit_at, taken, Moves, Takes, Spreads, NoneJoined, IsFirst, LevelTakes}
+use Rattle.embedding_check.proofs.Common.{nat_tests, ◌≡◌, ℕ, ◌+◌, ◌<◌, ◌≤◌, inl, inr, Bool, true, false, List, [], ◌∷◌, length, if◌then◌else◌, sym, ap, ◌∙◌, arith, cases_eq, get_or-set_same, get_or-set_other, length-set, length-append, Contains-append_left, Contains-push, Contains-push_cases, sum_by-set, Option, Some, Span, CanBeJoined, Joins, Found, waits_at, parent_at, qubit_at, taken, Moves, Takes, Spreads, IsFirst, LevelTakes, clash, cases_Bool, IsDone, below_more}
 
-pub true_or_false : (b : Bool) → (b ≡ true) ⊎ (b ≡ false)
-true_or_false true = inl refl
-true_or_false false = inr refl
-
-pub not_both : {A : Type 0} (b : Bool) → b ≡ true → b ≡ false → A
-not_both true is not = absurd cc
-not_both false is not = absurd cc
-
--- ---- nothing
-
-pub moves_none : (count : ℕ) (s : Found) → Moves count s s
-moves_none count s = record {
-  waits = refl;
-  parents = refl;
-  listed = λ i h. inl h;
-  keeps = λ i h. h;
-  lists = λ i h is not. not_both _ is not;
-  counted = refl;
-}
-
-pub takes_none : (joined : Joins) (qs : List ℕ) (q : ℕ) (s : Found) → Takes joined qs q s s
-takes_none joined qs q s = record {
-  moves = moves_none (length qs) s;
-  each = λ i h. inl (record { waits = refl; parent = refl });
-}
-
--- ---- one position more
+-- ---- one position
 
 waits_taken : (s : Found) (i j q : ℕ) → i < length s.waits → j ≡ i → waits_at (taken s i q) j ≡ false
 waits_taken s i j q h e = rw e (get_or-set_same s.waits i false false h)
@@ -35,44 +9,37 @@ waits_taken s i j q h e = rw e (get_or-set_same s.waits i false false h)
 waits_other : (s : Found) (i j q : ℕ) → (j ≡ i → ⊥) → waits_at (taken s i q) j ≡ waits_at s j
 waits_other s i j q e = get_or-set_other s.waits i j false false e
 
-moves_more : (count : ℕ) (s t : Found) (i q : ℕ) → Moves count s t → i < length t.waits → i < count
-    → waits_at s i ≡ true → waits_at t i ≡ true → Moves count s (taken t i q)
-moves_more count s t i q m h below first waits = record {
-  waits = length-set t.waits i false ∙ m.waits;
-  parents = length-set t.parents i q ∙ m.parents;
+moves_taken : (count : ℕ) (s : Found) (i q : ℕ) → i < length s.waits → i < count
+    → waits_at s i ≡ true → Moves count s (taken s i q)
+moves_taken count s i q h below waits = record {
+  waits = length-set s.waits i false;
+  parents = length-set s.parents i q;
   listed = λ j in'.
-      let old = m.listed j in
-      let place = Contains-push_cases t.next i j in' in
-      let here = waits_taken t i j q h in
-      let there = waits_other t i j q in
+      let place = Contains-push_cases s.next i j in' in
+      let here = waits_taken s i j q h in
       grind (arith, nat_tests);
-  keeps = λ j in'. Contains-append_left t.next (i ∷ []) j (m.keeps j in');
+  keeps = λ j in'. Contains-append_left s.next (i ∷ []) j in';
   lists = λ j low is not.
-      let old = m.lists j low is in
-      let there = waits_other t i j q in
-      let last = Contains-push t.next i in
-      let more = Contains-append_left t.next (i ∷ []) j in
+      let there = waits_other s i j q in
+      let last = Contains-push s.next i in
       grind (arith, nat_tests);
   counted =
-      let sum = sum_by-set (λ (b : Bool). if b then 1 else 0) t.waits i false false h in
-      omega (arith, m.counted, sum, ap {B = ℕ} (λ (b : Bool). if b then 1 else 0) waits, length-append t.next (i ∷ []));
+      let sum = sum_by-set (λ (b : Bool). if b then 1 else 0) s.waits i false false h in
+      omega (arith, sum, ap {B = ℕ} (λ (b : Bool). if b then 1 else 0) waits, length-append s.next (i ∷ []));
 }
 
-pub takes_more : (joined : Joins) (qs : List ℕ) (q : ℕ) (s t : Found) (i : ℕ) → Takes joined qs q s t
-    → i < length qs → length t.waits ≡ length qs → length t.parents ≡ length qs
-    → waits_at t i ≡ true → joined q (qubit_at qs i) ≡ true → Takes joined qs q s (taken t i q)
-takes_more joined qs q s t i so_far below waits_len parents_len waits linked =
-    let old = so_far.each i below in
-    let first : waits_at s i ≡ true = grind (arith, nat_tests) in
-    let inside : i < length t.waits = omega (arith, below, waits_len) in
+pub takes_one : (joined : Joins) (qs : List ℕ) (q : ℕ) (s : Found) (i : ℕ) → i < length qs
+    → length s.waits ≡ length qs → length s.parents ≡ length qs → waits_at s i ≡ true
+    → joined q (qubit_at qs i) ≡ true → Takes joined qs q s (taken s i q)
+takes_one joined qs q s i below waits_len parents_len waits linked =
+    let inside : i < length s.waits = omega (arith, below, waits_len) in
     record {
-      moves = moves_more (length qs) s t i q so_far.moves inside below first waits;
+      moves = moves_taken (length qs) s i q inside below waits;
       each = λ j low.
-          let old = so_far.each j low in
-          let here = waits_taken t i j q inside in
-          let there = waits_other t i j q in
-          let same = get_or-set_same t.parents i q 0 (omega (arith, below, parents_len)) in
-          let other = get_or-set_other t.parents i j q 0 in
+          let here = waits_taken s i j q inside in
+          let there = waits_other s i j q in
+          let same = get_or-set_same s.parents i q 0 (omega (arith, below, parents_len)) in
+          let other = get_or-set_other s.parents i j q 0 in
           grind (arith, nat_tests);
     }
 
@@ -91,18 +58,12 @@ moves_both count s t u a b down stay = record {
       let stays = stay i in
       grind (arith, nat_tests);
   keeps = λ i h. b.keeps i (a.keeps i h);
-  lists = λ i h is not. elim (true_or_false (waits_at t i)) [
+  lists = λ i h is not. elim (cases_Bool (waits_at t i)) [
     | inl waits ↦ b.lists i h waits not
     | inr gone ↦ b.keeps i (a.lists i h is gone)
   ];
   counted = omega (arith, a.counted, b.counted);
 }
-
-none_more : (joined : Joins) (qs level : List ℕ) (n i : ℕ) → NoneJoined joined qs level n i
-    → joined (qubit_at qs (qubit_at level n)) (qubit_at qs i) ≡ false → NoneJoined joined qs level (n + 1) i
-none_more joined qs level n i before here m low =
-    let old = before m in
-    grind (arith, nat_tests, cases_eq m n)
 
 first_more : (joined : Joins) (qs level : List ℕ) (n : ℕ) (t u : Found) (i m : ℕ)
     → parent_at u i ≡ parent_at t i → IsFirst joined qs level n t i m → IsFirst joined qs level (n + 1) u i m
@@ -124,7 +85,8 @@ level_more joined qs level n s t u so_far step = record {
     | inl rests ↦ elim (step.takes.each i h) [
       | inl stays ↦ inl (record {
         stays = record { waits = stays.waits ∙ rests.stays.waits; parent = stays.parent ∙ rests.stays.parent };
-        alone = λ w. none_more joined qs level n i (rests.alone (sym stays.waits ∙ w)) (step.all i h w);
+        alone = λ w. below_more (λ m. joined (qubit_at qs (qubit_at level m)) (qubit_at qs i) ≡ false) n
+            (rests.alone (sym stays.waits ∙ w)) (step.all i h w);
       })
       | inr took ↦
           let first : IsFirst joined qs level (n + 1) u i n = record { below = omega arith; parent = took.parent; linked = took.linked; before = rests.alone took.waited } in
@@ -134,7 +96,7 @@ level_more joined qs level n s t u so_far step = record {
       | inl stays ↦
           let first = first_more joined qs level n t u i reached.from.0 stays.parent reached.from.1 in
           inr (record { waited = reached.waited; reached = stays.waits ∙ reached.reached; from = (reached.from.0, first) })
-      | inr took ↦ not_both _ took.waited reached.reached
+      | inr took ↦ clash _ took.waited reached.reached
     ]
   ];
 }
@@ -186,14 +148,13 @@ rising_weak qs rising i j le below = let up = rising i j in grind (arith, nat_te
 
 -- ---- all that one qubit is joined to
 
-pub spreads : (joined : Joins) (qs : List ℕ) (q from : ℕ) (span : Span) (before after : Option ℕ)
-    (s t u v : Found) → ((i : ℕ) → i < from → qubit_at qs i < span.start) → Takes joined qs q s t
-    → ((i : ℕ) → from ≤ i → i < length qs → qubit_at qs i < span.end → waits_at t i ≡ true
-    → joined q (qubit_at qs i) ≡ false) → Takes joined qs q t u → ((i : ℕ) → i < length qs → before
-    ≡ Some (qubit_at qs i) → waits_at u i ≡ true → joined q (qubit_at qs i) ≡ false)
-    → Takes joined qs q u v → ((i : ℕ) → i < length qs → after ≡ Some (qubit_at qs i) → waits_at v i
-    ≡ true → joined q (qubit_at qs i) ≡ false) → ((i : ℕ) → i < length qs → joined q (qubit_at qs i)
-    ≡ true → CanBeJoined span before after (qubit_at qs i)) → Spreads joined qs q s v
+pub spreads : (joined : Joins) (qs : List ℕ) (q from : ℕ) (span : Span) (before after : Option ℕ) (s t u v : Found)
+    → ((i : ℕ) → i < from → qubit_at qs i < span.start) → Takes joined qs q s t
+    → ((i : ℕ) → from ≤ i → i < length qs → qubit_at qs i < span.end → IsDone joined qs q t i) → Takes joined qs q t u
+    → ((i : ℕ) → i < length qs → before ≡ Some (qubit_at qs i) → IsDone joined qs q u i) → Takes joined qs q u v
+    → ((i : ℕ) → i < length qs → after ≡ Some (qubit_at qs i) → IsDone joined qs q v i)
+    → ((i : ℕ) → i < length qs → joined q (qubit_at qs i) ≡ true → CanBeJoined span before after (qubit_at qs i))
+    → Spreads joined qs q s v
 spreads joined qs q from span before after s t u v start one span_done two before_done three after_done findable = record {
   takes = takes_both joined qs q s u v (takes_both joined qs q s t u one two) three;
   all = λ i h is.

@@ -1,7 +1,7 @@
 -- What a check gives is one embedding alone.
 --
 -- Two parents of one qubit are each at most the other, and so are two places of one coupling.
-use Rattle.embedding_check.proofs.Common.{nat_tests, ◌≡◌, ℕ, List, [], ◌∷◌, drop, refl, sym, ◌∙◌, arith, subst, AllZip, Entry, IsingContent, Joins, chain_of, Embedding, IsParent, AreParents, IsBefore, IsPlace, IsPlaceOf, IsChecked}
+use Rattle.embedding_check.proofs.Common.{nat_tests, ◌≡◌, ℕ, List, [], ◌∷◌, drop, refl, sym, ◌∙◌, arith, AllZip, Entry, IsingContent, Joins, chain_of, Embedding, IsParent, AreParents, IsBefore, IsPlace, IsPlaceOf, IsChecked}
 
 -- what stands for each item in turn is one list, where it is one item each
 zip_unique : {A B : Type 0} (R : A → B → Type 0) → ((x : A) (y z : B) → R x y → R x z → y ≡ z)
@@ -33,9 +33,6 @@ parents_unique joined chains ps qs p q =
 
 -- ---- places
 
-abbrev pair : ℕ → ℕ → ℕ × ℕ
-pair a b = (a, b)
-
 both_before : (p q : ℕ × ℕ) → IsBefore p q → IsBefore q p → p ≡ q
 both_before p q a b =
     let first : p.0 ≡ q.0 = grind (arith, nat_tests) in
@@ -57,27 +54,16 @@ places_unique joined chains couplings ps qs p q =
 
 -- ---- embeddings
 
--- the parents and the places for one map and one form
-parents_of_map : (joined : Joins) (n : ℕ) (f : IsingContent) (map : List (List ℕ)) (e : Embedding)
-    → IsChecked joined n f map e → AllZip (AreParents joined) map e.parents
-parents_of_map joined n f map e c =
-    subst (λ chains. AllZip (AreParents joined) chains e.parents) c.chains c.parents
-
-places_of_map : (joined : Joins) (n : ℕ) (f : IsingContent) (map : List (List ℕ)) (e : Embedding)
-    → IsChecked joined n f map e → AllZip (IsPlaceOf joined map) f.couplings e.places
-places_of_map joined n f map e c =
-    rw (← c.ising) (rw (← c.chains) c.places)
-
 pub checked_unique : (joined : Joins) (n : ℕ) (f : IsingContent) (map : List (List ℕ))
     (e e' : Embedding) → IsChecked joined n f map e → IsChecked joined n f map e' → e ≡ e'
 checked_unique joined n f map e e' this that =
     let ising : e.ising ≡ e'.ising = this.ising ∙ sym that.ising in
     let chains : e.chains ≡ e'.chains = this.chains ∙ sym that.chains in
     let qubits : e.qubits ≡ e'.qubits = this.qubits ∙ sym that.qubits in
-    let parents = parents_unique joined map e.parents e'.parents
-    (parents_of_map joined n f map e this) (parents_of_map joined n f map e' that) in
+    let parents = parents_unique joined map e.parents e'.parents (rw this.chains at this.parents)
+    (rw that.chains at that.parents) in
     let places = places_unique joined map f.couplings e.places e'.places
-    (places_of_map joined n f map e this) (places_of_map joined n f map e' that) in
+    (rw (this.ising, this.chains) at this.places) (rw (that.ising, that.chains) at that.places) in
     λ i. record {
       ising = ising i;
       chains = chains i;

@@ -71,15 +71,16 @@ impl Search {
         })
     }
 
-    /// The positions that were reached last, in ascending order. None are listed after that.
-    fn next_level(&mut self, alloc: Global) -> Vec<usize>
+    /// Puts the positions that were reached last, in ascending order, in place of those of a level.
+    /// None are listed after that.
+    fn next_level(&mut self, level: &mut Vec<usize>)
         ensures rest { self.new ≡ emptied self.old }
-        ensures permutation { IsPermutation self.old.next result.items }
-        ensures sorted { IsNonDecreasing result.items }
+        ensures permutation { IsPermutation self.old.next level.new.items }
+        ensures sorted { IsNonDecreasing level.new.items }
     {
-        let mut level = mem::replace(&mut self.next, Vec::new(alloc));
+        level.clear();
+        mem::swap(level, &mut self.next);
         level.sort_unstable();
-        level
     }
 
     /// IsReached a position from a qubit.
@@ -234,7 +235,7 @@ fn search_chain<H: Hardware>(
     let mut level = vec![in alloc; first]?;
     'levels: while !level.is_empty() {
         search.spread_level(hardware, sorted, &level)?;
-        level = search.next_level(alloc);
+        search.next_level(&mut level);
     }
     Ok(search)
 }

@@ -1,14 +1,13 @@
 -- The state that the steps extend an assignment to has the least energy of those that decode to it.
-use Rattle.model_pipeline.proofs.Common.{nat_tests, ◌≡◌, pos, Bool, List, length, take, sym, ap, ◌∙◌, subst, arith, None, IfOk, Result, take-take, BitsLink, first_bits, Extends, ExtendsLeast, figures_after, least-trans, Choices, Normal, High, ProblemContent, form_of, IsNormal, limit_fault, TableContent, figures, penalty_extends, multilinear_extends, mono_reaches, rosen_reaches, flat_keeps, flat_reaches, low_terms_of, quad_by, terms_of, low_extension, extension_by, extension_of, ExtendsLeastBy, IsLeastExtension, LowFits}
+use Rattle.model_pipeline.proofs.Common.{nat_tests, ◌≡◌, pos, Bool, List, length, take, sym, ap, ◌∙◌, subst, arith, None, IfOk, Result, take-take, BitsLink, first_bits, Extends, ExtendsLeast, figures_after, least-trans, Choices, Normal, High, ProblemContent, form_of, IsNormal, limit_fault, TableContent, figures, penalty_extends, multilinear_extends, mono_reaches, rosen_reaches, flat_keeps, flat_reaches, low_terms_of, quad_by, terms_of, low_extension, extension_by, extension_of, ExtendsLeastBy, IsLeastExtension, LowFits, ◌≤◌, ℕ, take-map, Kind, Written, read_off, read_off_the_chains, FirstAreDecoded, LeastExtends, AreLinks, ReadOffIsDecoded, StepLinks, quad_decoding, steps_decoding, Monomial, Rosenberg}
 use Rattle.problem_form.specs.declared.limits.Normal.TheVariants.{Literal, Multilinear}
-use Rattle.problem_form.specs.declared.limits.High.TheVariants.{Monomial, Rosenberg}
-use Rattle.model_pipeline.proofs.PlainForms.{problem_has_quad}
-use Rattle.model_pipeline.proofs.Standing.{figures-still, low_keeps, low_source, steps, term_link, terms_width}
-use Rattle.model_pipeline.proofs.QuadForms.{flat_link, low_link}
+use Rattle.model_pipeline.proofs.Standing.{problem_has_quad, figures-still, low_keeps, low_source, steps, term_link, terms_width, flat_link, low_link}
+use Rattle.bits_model.specs.declared.output.Kind.TheVariants.{Qubo, Ising, Chimera}
 use Rattle.term_table.specs.Tables as tables
 use Rattle.penalty_layer.specs.Penalty as penalty
 use Rattle.quad_form.specs.Quads as quads
 use Rattle.quad_form.specs.Flat as flat
+use Rattle.chain_layer.specs.Image as chains
 
 -- slack bits extend an assignment with the least cost
 terms_extend : (normal : Normal) (a : BitsLink) (p : ProblemContent) (x : List Bool)
@@ -73,3 +72,36 @@ least_by choices p x y normal within width same =
 -- what is true of every value is true of a result's
 pub if_ok-always : {T E : Type 0} (r : Result T E) {P : T → Type 0} → ((y : T) → P y) → IfOk r P
 if_ok-always r f = grind (arith, nat_tests)
+
+-- What is read off a state of a model is what the decoders of the steps give in a row.
+
+module _ (choices : Choices) (p : ProblemContent) (m : Written) (links : StepLinks)
+    (few : m.variables ≤ p.variables) (fits : AreLinks choices p m links) where
+  -- the first bits of what the decoders to a quadratic form give are those of its state
+  first_of : (y : List Bool)
+      → take m.variables ((quad_decoding links).decoded y) ≡ take m.variables y
+  first_of y = grind (arith, nat_tests, steps-first, take-take)
+
+  pub decoded_by : (kind : Kind) (y : List Bool) → read_off kind m.variables m.chains y
+      ≡ take m.variables ((steps_decoding kind links).decoded y)
+  decoded_by Qubo y = sym (first_of y)
+  decoded_by Ising y = sym (first_of y)
+  decoded_by (Chimera rows cols shore) y =
+      ap (λ cs. read_off (Chimera rows cols shore) m.variables cs y) (sym fits.chains)
+      ∙ read_off_the_chains links.chains rows cols shore m.variables y
+      ∙ sym (first_of ((chains.decoding links.chains).decoded y))
+
+pub read_off_is_decoded : ReadOffIsDecoded
+read_off_is_decoded choices p m links few fits y = decoded_by choices p m links few fits m.kind y
+
+-- ---- with more variables
+
+first_read : (kind : Kind) (own variables : ℕ) (chains : List (List ℕ)) (y : List Bool)
+    → own ≤ variables → read_off kind own chains y ≡ take own (read_off kind variables chains y)
+first_read kind own variables chains y few = grind (arith, nat_tests, take-take, take-map)
+
+pub first_are_decoded : FirstAreDecoded
+first_are_decoded m variables y few = grind (arith, nat_tests, first_read)
+
+pub least_extends : LeastExtends
+least_extends f m variables x y same extends least = grind (arith, nat_tests)

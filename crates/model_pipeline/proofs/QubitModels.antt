@@ -1,41 +1,17 @@
 -- The model of an embedded Ising form on the qubits of a graph: what it promises of the form.
-use Rattle.model_pipeline.proofs.Common.{nat_tests, ◌≡◌, ◌≤◌, ◌<◌, ℕ, ◌+◌, ◌*◌, ◌^◌, ℤ, pos, ◌+ℤ◌, ◌*ℤ◌, ◌≤ℤ◌, List, length, All, refl, sym, ap, ◌∙◌, subst, arith, FitsSigned, unsigned_abs, neg_ℤ, ◌-ℤ◌, w128, ints, fits_signed_from_abs, Figures, UnitChoice, Relaxes, decoding_after, figures_moved, IsConnected, AreBounded, HasUnit, FitsFigures, FitsGraph, IsingContent, IsIsing, ising_total, FitsOutput, written_of, ising_unit, reduced, reduced_is_ising, made_total, one_le_ising_unit, written_is_well_formed, written_total, made_is_reduced, Chimera, qubits_of, ChainStrength, Embedding, IsEmbedding, IsChecked, read_off_the_chains, Fabric, AllExist, IsValidOn, kind_of, chained_figures, image_tied, offset_tied, qubit_model, HasChainRoom, IsQubitModelOf, StandsForWhat}
-use Rattle.base.specs.declared.unit.UnitChoice.TheVariants.{One, Reduce}
+use Rattle.model_pipeline.proofs.Common.{nat_tests, ◌≡◌, ◌≤◌, ◌<◌, ℕ, ◌+◌, ◌*◌, ◌^◌, ℤ, pos, ◌+ℤ◌, ◌*ℤ◌, ◌≤ℤ◌, List, length, All, refl, sym, ap, ◌∙◌, subst, arith, FitsSigned, unsigned_abs, neg_ℤ, ◌-ℤ◌, w128, ints, fits_signed_from_abs, Figures, UnitChoice, Relaxes, decoding_after, figures_moved, IsConnected, AreBounded, HasUnit, FitsGraph, IsingContent, IsIsing, ising_total, FitsOutput, written_of, ising_unit, reduced, reduced_is_ising, made_total, one_le_ising_unit, written_is_well_formed, written_total, made_is_reduced, Chimera, qubits_of, ChainStrength, Embedding, IsEmbedding, IsChecked, read_off_the_chains, Fabric, AllExist, IsValidOn, kind_of, chained_figures, image_tied, offset_tied, qubit_model, HasChainRoom, IsQubitModelOf, StandsForWhat, One, Reduce}
 use Rattle.ising_form.specs.Isings as isings
 use Rattle.chain_layer.specs.Image as chains
-use Rattle.model_pipeline.proofs.OnChains.{AreEndsJoined, reduced_fits, reduced_joined, written_joined}
-use Rattle.model_pipeline.proofs.SmallNumbers.{minus_low, once_low, sum_low, unit_low}
-use Rattle.model_pipeline.proofs.Tied.{link_of, tied_fits_output, tied_is_ising, tied_is_joined, tied_offset, tied_stands, tied_total}
+use Rattle.model_pipeline.proofs.Tied.{AreEndsJoined, reduced_fits, reduced_joined, written_joined, link_of, tied_fits_output, tied_is_ising, tied_is_joined, tied_offset, tied_stands, tied_total}
+use Rattle.model_pipeline.proofs.FormModels.{minus_low, once_low, unit_low, AreFigures, figures_are_moved, figures_within, figures_fit}
 use Rattle.model_pipeline.proofs.WrittenStates.{chained_counts, stands_written}
 
 -- ---- figures
 
 -- figures of the same scale, whose threshold lies as far above the offset, none of them greater than
 -- a number
-pub record AreMoved (n r : Figures) (most : ℕ) : Type 0 where
-  pub scale : r.scale ≡ n.scale
-  pub threshold : r.threshold -ℤ r.offset ≡ n.threshold -ℤ n.offset
-  pub offset_low : unsigned_abs r.offset ≤ most
-  pub threshold_low : unsigned_abs r.threshold ≤ most
-
--- the figures where every energy is moved
-moved_once : (n r : Figures) (most more : ℕ) (b : ℤ) → AreMoved n r most → unsigned_abs b ≤ more
-    → AreMoved n (figures_moved r b) (most + more)
-moved_once n r most more b are small = record {
-  scale = are.scale;
-  threshold = omega (arith, ints, are.threshold);
-  offset_low = sum_low r.offset b most more are.offset_low small;
-  threshold_low = sum_low r.threshold b most more are.threshold_low small;
-}
-
--- none of them is greater than a greater number
-moved_within : (n r : Figures) (most more : ℕ) → most ≤ more → AreMoved n r most → AreMoved n r more
-moved_within n r most more h are = record {
-  scale = are.scale;
-  threshold = are.threshold;
-  offset_low = omega (arith, are.offset_low);
-  threshold_low = omega (arith, are.threshold_low);
-}
+abbrev pub AreMoved : (n r : Figures) → ℕ → Type 0
+AreMoved n r most = AreFigures n.scale (n.threshold -ℤ n.offset) r most
 
 -- what the ties of a form with room for the layer cost
 offset_within : (ties : ChainStrength) (e : Embedding) → IsEmbedding e
@@ -68,15 +44,6 @@ pub moved_by_ties : (ties : ChainStrength) (n : Figures) (e : Embedding) → IsE
 moved_by_ties ties n e kept small offset_low threshold_low =
     let tied = offset_within ties e kept small in
     grind (arith, nat_tests, tied_low)
-
--- figures fit their fields
-figures_fit : (n r : Figures) (most : ℕ) → unsigned_abs n.scale ≤ 2 ^ 127 → AreMoved n r most
-    → most ≤ 2 ^ 127 → FitsFigures r
-figures_fit n r most low are fits = record {
-  scale = omega (arith, ap unsigned_abs are.scale);
-  offset = omega (arith, are.offset_low);
-  threshold = omega (arith, are.threshold_low);
-}
 
 -- ---- a graph
 
@@ -115,15 +82,13 @@ module _ (f : IsingContent) (n : Figures) (own : ℕ) (ties : ChainStrength) (gr
       (written_of g own r u (kind_of graph) e.chains)
   stands_in choice g u r ising on_chains joined one small are stands bounds unit =
       let light = ising.small in
-      let narrow = kept.ising.narrow in
       let width = ap (λ (g : IsingContent). length g.fields) checked.ising in
-      let moved = moved_once n r (2 ^ 125) (2 ^ 124) (neg_ℤ g.constant) are
-      (minus_low g.constant _ (omega (arith, light))) in record {
+      let moved = figures_are_moved _ _ r _ are (2 ^ 124) _ (minus_low g.constant _ (omega (arith, light))) in record {
         kind = refl;
         fits = record {
           graph = graph_fits graph;
-          variables = omega (arith, narrow, width, few);
-          figures = figures_fit n _ _ low moved (omega arith);
+          variables = omega (arith, kept.ising.narrow, width, few);
+          figures = figures_fit _ _ _ _ moved low (omega arith);
           unit = omega (arith, small);
           nodes = ising.narrow;
           weights = omega (arith, light, written_total g (kind_of graph) e.chains);
@@ -224,18 +189,17 @@ module _ (f : IsingContent) (n : Figures) (own : ℕ) (ties : ChainStrength) (gr
   model_stands One small are =
       stands_in One tied (pos 1) (chained_figures ties e n) (tied_is_ising e kept ties small)
       tied_on_chains tied_joined (omega (arith, ints)) (omega (arith, ints))
-      (moved_within n _ _ _ (omega arith) are) (stands_for One) image_bounds refl
+      (figures_within _ _ _ _ are _ (omega arith)) (stands_for One) image_bounds refl
   model_stands Reduce small are =
       let u = ising_unit tied in
       let c = neg_ℤ tied.constant in
       let r = figures_moved (chained_figures ties e n) c in
       let ising = tied_is_ising e kept ties small in
       let light = ising.small in
-      let unit = unit_low tied.fields tied.couplings (2 ^ 124) (omega (arith, light)) in
       let fits = reduced_fits (kind_of graph) own e.chains tied tied_on_chains in
       stands_in Reduce (reduced tied) u r (reduced_is_ising tied ising) fits
       (reduced_joined fabric.joined tied tied_joined) (one_le_ising_unit tied)
-      (omega (arith, unit, light))
-      (moved_once n _ _ _ c are (minus_low tied.constant (2 ^ 124) (omega (arith, light))))
+      (omega (arith, unit_low tied.fields tied.couplings (2 ^ 124) (omega (arith, light)), light))
+      (figures_are_moved _ _ _ _ are _ c (minus_low tied.constant (2 ^ 124) (omega (arith, light))))
       (stands_for Reduce) reduced_bounds
       (made_is_reduced tied (reduced tied) u refl refl own r (kind_of graph) e.chains fits)

@@ -1,16 +1,179 @@
--- The model of a problem: what it promises of the problem.
-use Rattle.model_pipeline.proofs.Common.{nat_tests, ◌≡◌, ◌≤◌, ◌<◌, ◌^◌, ◌*◌, ℕ, ℤ, pos, ◌+ℤ◌, ◌*ℤ◌, None, length, refl, ap, ◌∙◌, arith, FitsSigned, unsigned_abs, w128, ints, take-take, Figures, BitsLink, UnitChoice, Decoding, Keeps, Relaxes, decoding_after, figures_after, keeps_after_relaxes, first_bits, Normal, High, Choices, ProblemContent, IsNormal, form_of, upper, limit_fault, NodeModel, figures, node_count, penalty_relaxes, threshold_within, TableContent, multilinear_relaxes, mono_keeps, rosen_keeps, width-run-le, QuadContent, IsQuad, same_bits, length-image, flat_keeps, coupled, length-fields, spins_keeps, image_is_ising, total-image, IsModelOf, form_model, ising_figures, low_terms_of, quad_by, quad_of, terms_of, HaveRoom, HasRoom, IsQuadratized, Stands, LowFits}
+-- From additions that are small to their quadratic form: all that is made on the way is well formed
+-- and has room.
+use Rattle.model_pipeline.proofs.Common.{◌≤◌, ◌+◌, ◌^◌, refl, sym, ap, subst, arith, BitsLink, High, TableContent, IsTable, table_size, terms_total-with_additions, all_nodes-le, IsSound-run, IsLow-image, size-image, QuadContent, IsQuad, quad_size, quad_total, quad_total-image, quad_size-image, IsQuad-image, table_of, IsTable-table_of, IsTable-low_of, image-quad, nodes-table, size-grows, total-grows, IsWithin, low_terms_of, LowFits, AddTo, nat_tests, ◌≡◌, ◌++◌, None, List, [], length, All, ◌∙◌, append-nil, recursion_from_All, ProblemContent, IsNormal, limit_fault, Normal, Term, IsTermSet, with_additions, coefficient_of-with_additions, OfSet, All-with_additions, AreTerms-with_additions, contributions-sets, same_tables, contribution_sets, multiplied, IsSmall, penalty_admits, AreAdditions-multiplied_out, small-additions, total-multiplied, size_within, image_size, AreAdditions-of, total-additions, additions_of, HeldContent, HasPlaces, sum_for-with_additions, places_at_first, terms_of, ◌<◌, ◌*◌, ℕ, ℤ, pos, ◌+ℤ◌, ◌*ℤ◌, FitsSigned, unsigned_abs, w128, ints, take-take, Figures, UnitChoice, Decoding, Keeps, Relaxes, decoding_after, figures_after, keeps_after_relaxes, first_bits, Choices, form_of, upper, NodeModel, figures, node_count, penalty_relaxes, threshold_within, multilinear_relaxes, mono_keeps, rosen_keeps, width-run-le, same_bits, length-image, flat_keeps, coupled, length-fields, spins_keeps, image_is_ising, total-image, IsModelOf, form_model, ising_figures, quad_by, quad_of, HaveRoom, HasRoom, IsQuadratized, Stands, Monomial, Rosenberg, Qubo, Ising}
+use Rattle.term_table.specs.Tables.{IsLow}
+use Rattle.rosenberg_layer.proofs.Growth.{total-image as total-rosenberg}
 use Rattle.problem_form.specs.declared.limits.Normal.TheVariants.{Literal, Multilinear}
-use Rattle.problem_form.specs.declared.limits.High.TheVariants.{Monomial, Rosenberg}
-use Rattle.command_words.specs.declared.commands.NodeModel.TheVariants.{Qubo, Ising}
-use Rattle.model_pipeline.proofs.PlainForms.{admits_of, problem_has_quad}
-use Rattle.model_pipeline.proofs.QuadForms.{HasQuad, flat_link, low_link}
-use Rattle.model_pipeline.proofs.FormModels.{HasFigures, figures_within, qubo_stands, ising_stands}
+use Rattle.term_table.specs.MultipliedOut.{contributions}
+use Rattle.normal_form.specs.Multilinear.{Admits}
+use Rattle.model_pipeline.proofs.FormModels.{HasFigures, qubo_stands, ising_stands, figures_within}
+use Rattle.monomial_layer.specs.Monomials as monomials
+use Rattle.monomial_layer.proofs.Sets as sets
+use Rattle.rosenberg_layer.specs.Rosenberg as rosenberg
+use Rattle.quad_form.specs.Flat as flat
 use Rattle.penalty_layer.specs.Penalty as penalty
+use Rattle.normal_form.specs.Multilinear as multilinear
 use Rattle.term_table.specs.Tables as tables
 use Rattle.quad_form.specs.Quads as quads
 use Rattle.ising_form.specs.Isings as isings
 use Rattle.ising_form.specs.Spins as spins
+
+-- the form of a table whose long terms are replaced so
+abbrev pub quad_after : High → TableContent → QuadContent
+quad_after high t = flat.image (low_terms_of high t)
+
+-- a table that can be replaced so and multiplied out, and has room for the Ising form
+pub record HasQuad (high : High) (t : TableContent) : Type 0 where
+  pub table : IsTable t
+  pub low : IsTable (low_terms_of high t)
+  pub short : IsLow (low_terms_of high t)
+  pub quad : IsQuad (quad_after high t)
+  pub total : quad_total (quad_after high t) + 1 ≤ 2 ^ 98
+  pub size : quad_size (quad_after high t) ≤ 2 ^ 29
+
+-- ---- small additions
+
+pub IsWithin-small : (t u : TableContent) → AddTo t u → IsWithin u
+IsWithin-small t u adds = record {
+  additions = adds.additions;
+  narrow =
+      omega (arith, adds.size, ap table_size adds.table, nodes-table u, all_nodes-le (table_of u).terms);
+  total = omega (arith, adds.total);
+}
+
+sums_have_quad : (high : High) (u : TableContent) → AddTo (table_of u) u → HasQuad high (table_of u)
+sums_have_quad Monomial u adds = record {
+  table = IsTable-table_of u adds.additions;
+  low = IsTable-low_of u adds.additions (omega (arith, adds.total));
+  short = sets.IsLow-image (table_of u);
+  quad = image-quad u (IsWithin-small (table_of u) u adds);
+  total = omega (arith, adds.total, total-grows u adds.additions);
+  size = omega (arith, adds.size, size-grows u);
+}
+sums_have_quad Rosenberg u adds =
+    let t = table_of u in
+    let is = IsTable-table_of u adds.additions in
+    let low = rosenberg.image t in
+    let short = IsLow-image t is.terms in
+    let summed = terms_total-with_additions u.terms in
+    let growth = total-rosenberg t is.terms in
+    let table : IsTable low = record {
+      terms = IsSound-run (rosenberg.excess t.terms) t is.terms;
+      small = omega (arith, growth, summed, adds.total);
+    } in
+    record {
+      table = is;
+      low = table;
+      short = short;
+      quad = IsQuad-image low table short (omega (arith, adds.size, size-image t is.terms))
+          (omega (arith, growth, summed, adds.total));
+      total = omega (arith, quad_total-image low short, growth, summed, adds.total);
+      size = omega (arith, quad_size-image low short, size-image t is.terms, adds.size);
+    }
+
+pub has_quad : (high : High) (t u : TableContent) → AddTo t u → HasQuad high t
+has_quad high t u adds =
+    subst (HasQuad high) adds.table
+    (sums_have_quad high u (subst (λ s. AddTo s u) (sym adds.table) adds))
+
+-- ---- links of the steps, which need not be made
+
+pub low_link : (high : High) (t : TableContent) → HasQuad high t
+    → (link : BitsLink) × LowFits high link t
+low_link Monomial t on = (
+  record { source_width = t.width; target_width = (monomials.image t).width },
+  record { source = refl; target = refl; table = on.table },
+)
+low_link Rosenberg t on = (
+  record { source_width = t.width; target_width = (rosenberg.image t).width },
+  record { source = refl; target = refl; table = on.table },
+)
+
+pub flat_link : (high : High) (t : TableContent) → HasQuad high t
+    → (link : BitsLink) × flat.Fits link (low_terms_of high t)
+flat_link high t on =
+    let width = (low_terms_of high t).width in (
+      record { source_width = width; target_width = width },
+      record { source = refl; target = refl; table = on.low; low = on.short },
+    )
+
+-- What a problem contributes is small. Multiplied out as it comes, it has the problem's multilinear
+-- table.
+
+-- what a problem adds, multiplied out
+abbrev pub plain_additions : ProblemContent → TableContent
+plain_additions p = multiplied (additions_of p)
+
+-- ---- summed before or after it is multiplied out
+
+pub table_of-plain : (p : ProblemContent) → Admits p → table_of (plain_additions p) ≡ multilinear.image p
+table_of-plain p admitted =
+    let width = penalty.node_count p in
+    let ts = penalty.contributions p in
+    let P = OfSet (IsTermSet width) in
+    let sets = contribution_sets p (penalty_admits p admitted) in
+    let summed = contributions-sets width (with_additions [] ts) (recursion_from_All P (with_additions [] ts) (All-with_additions (IsTermSet width) ts sets)) in
+    let same : with_additions [] (contributions ts) ≡ with_additions [] (contributions (with_additions [] ts)) =
+    same_tables width (with_additions [] (contributions ts)) (with_additions [] (contributions (with_additions [] ts)))
+    (AreTerms-with_additions width (contributions ts) (AreAdditions-multiplied_out p admitted).sets)
+    (AreTerms-with_additions width (contributions (with_additions [] ts)) summed) (λ ls.
+    coefficient_of-with_additions ls (contributions ts) ∙ sym (sum_for-with_additions ls ts)
+    ∙ sym (coefficient_of-with_additions ls (contributions (with_additions [] ts)))) in
+    λ i. record { width = width; terms = same i }
+
+-- ---- there is room
+
+-- there is room for it where nothing is held
+pub room-plain : (p : ProblemContent) (h : HeldContent) → Admits p → length h.weights ≡ penalty.node_count p
+    → h.total ≡ 0 → (more : List Term)
+    × (HasPlaces h (contributions (penalty.contributions p ++ more)) × All IsSmall (penalty.contributions p ++ more))
+room-plain p h admitted wide total =
+    let ts = penalty.contributions p in
+    let additions = AreAdditions-multiplied_out p admitted in
+    let places =
+    places_at_first h (contributions ts) (penalty.node_count p) wide total additions.sets
+    (omega (arith, total-multiplied p admitted)) in
+    ([], subst (λ us. HasPlaces h (contributions us) × All IsSmall us) (sym (append-nil ts)) (places, small-additions p admitted))
+
+-- ---- a problem within the limits of the steps
+
+-- the penalty method admits it
+pub admits_of : (normal : Normal) (p : ProblemContent) → IsNormal p → limit_fault normal p ≡ None
+    → penalty.Admits p
+admits_of normal p is within = grind (arith, nat_tests, penalty_admits)
+
+-- what it adds in a normal form
+abbrev pub additions_by : Normal → ProblemContent → TableContent
+additions_by Literal p = additions_of p
+additions_by Multilinear p = plain_additions p
+
+-- is small
+pub added : (normal : Normal) (p : ProblemContent) → IsNormal p → limit_fault normal p ≡ None
+    → AddTo (terms_of normal p) (additions_by normal p)
+added Literal p normal within =
+    let admitted : penalty.Admits p = record { normal = normal; within = within } in
+    record {
+      additions = AreAdditions-of p admitted;
+      table = refl;
+      total = omega (arith, total-additions p within);
+      size = image_size p admitted;
+    }
+added Multilinear p normal within =
+    let admitted : Admits p = record { normal = normal; within = within } in
+    record {
+      additions = AreAdditions-multiplied_out p admitted;
+      table = table_of-plain p admitted;
+      total = total-multiplied p admitted;
+      size = size_within p within;
+    }
+
+-- so there is room on the way to its quadratic form
+pub problem_has_quad : (normal : Normal) (high : High) (p : ProblemContent) → IsNormal p
+    → limit_fault normal p ≡ None → HasQuad high (terms_of normal p)
+problem_has_quad normal high p is_normal within =
+    has_quad high (terms_of normal p) (additions_by normal p) (added normal p is_normal within)
+
+-- The model of a problem: what it promises of the problem.
 
 -- the figures of a problem's form have room for those of an Ising form
 pub formed_have_room : (p : ProblemContent) (q : QuadContent) (n : Figures) → IsQuadratized p q n
@@ -21,11 +184,8 @@ formed_have_room p q n formed = record {
     scale = omega (arith, ints, ap (λ (m : Figures). unsigned_abs m.scale) formed.figures);
     offset = omega (arith, ints, ap (λ (m : Figures). unsigned_abs m.offset) formed.figures);
     threshold =
-        omega (
-          arith,
-          ap (λ (m : Figures). unsigned_abs m.threshold) formed.figures,
-          formed.threshold,
-        );
+        let figures_is = ap (λ (m : Figures). unsigned_abs m.threshold) formed.figures in
+        omega (arith, formed.threshold);
   };
 }
 
@@ -175,16 +335,14 @@ made_model : (target : NodeModel) (choice : UnitChoice) (p : ProblemContent) (ow
     → IsModelOf p own target choice (form_model target choice q own (figures p))
 made_model Qubo choice p own q kept made few =
     let least : own ≤ length q.diagonal = omega (arith, made.enough, few) in
-    let figured =
-    figures_within (pos 1) p (figures p) _ _ (omega arith) (figures_are_stated p made.threshold) in
+    let figured = figures_within _ _ _ _ (figures_are_stated p made.threshold) _ (omega arith) in
     qubo_stands p own made.stands.0 choice q (figures p) kept least (omega (arith, made.total_low))
     figured made.stands.1
 made_model Ising choice p own q kept made few =
     let stands = spins_stand p q kept made.stands in
     let width = length-fields (coupled q.couplers) 0 q.diagonal in
     let enough : p.variables ≤ length (spins.image q).fields = omega (arith, width, made.enough) in
-    let figured = figures_within (pos 4) p (ising_figures (figures p)) _ _ (omega arith)
-    (ising_figures_are_stated p made.threshold) in
+    let figured = figures_within _ _ _ _ (ising_figures_are_stated p made.threshold) _ (omega arith) in
     ising_stands p own stands.0 choice (spins.image q) (ising_figures (figures p))
     (image_is_ising q kept made.total) few enough
     (omega (arith, total-image q, made.total_low)) figured stands.1

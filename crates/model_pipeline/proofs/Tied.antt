@@ -1,12 +1,68 @@
--- What is known of an embedded form on its qubits, however its chains are tied.
-use Rattle.model_pipeline.proofs.Common.{nat_tests, arith, ◌≡◌, ◌≤◌, ℕ, ◌+◌, ◌*◌, ◌^◌, true, ℤ, pos, Bool, List, length, All, refl, sym, ap, ◌∙◌, subst, unsigned_abs, length-map-range_with_len, Figures, Form, IsOf, figures_moved, Decoding, Extends, Reduces, Relaxes, decoding_after, keeps_after_relaxes, reduces_after_relaxes, StandsAtLeast, IsLeast, relaxed_stands, kept_stands, reduced_stands, ChainStrength, IsingContent, IsIsing, ising_total, FitsOutput, Joins, Embedding, IsEmbedding, IsChecked, ChainLink, chains_keep, chains_reach, CutLink, cut_keeps, cut_reaches, cut_is_ising, cut_offset_small, cut_total_grows, cut_fits_output, cut_is_joined, chained_figures, image_tied, offset_tied, LeastStandBy, StandsBy}
+-- Forms on chains, counted in their greatest unit: they are on the same chains and the same joined
+-- qubits.
+use Rattle.model_pipeline.proofs.Common.{nat_tests, ◌≡◌, ℕ, zero, suc, true, false, ℤ, pos, List, [], ◌∷◌, ◌++◌, All, Kind, map, ap, ◌∙◌, arith, nat_lt, AllByRecursion, slice_index_or, zero-div, le-ltb, length-map, All-map, All-from_recursion, recursion_from_All, Entry, is_coupler, node_entries, counted_in, entry_in, IsingContent, FitsOutput, is_on_chain, written_entries, ising_unit, reduced, AllRec-filter, Joins, ◌≤◌, ◌+◌, ◌*◌, ◌^◌, Bool, length, refl, sym, subst, unsigned_abs, length-map-range_with_len, Figures, Form, IsOf, figures_moved, Decoding, Extends, Reduces, Relaxes, decoding_after, keeps_after_relaxes, reduces_after_relaxes, StandsAtLeast, IsLeast, relaxed_stands, kept_stands, reduced_stands, ChainStrength, IsIsing, ising_total, Embedding, IsEmbedding, IsChecked, ChainLink, chains_keep, chains_reach, CutLink, cut_keeps, cut_reaches, cut_is_ising, cut_offset_small, cut_total_grows, cut_fits_output, cut_is_joined, chained_figures, image_tied, offset_tied, LeastStandBy, StandsBy, Choi, Cut}
 use Rattle.bits_model.specs.declared.output.Kind.TheVariants.{Chimera}
-use Rattle.command_words.specs.declared.commands.ChainStrength.TheVariants.{Choi, Cut}
 use Rattle.ising_form.specs.Isings as isings
 use Rattle.chain_layer.specs.Image as chains
 use Rattle.chain_layer.proofs.Ordered as choi
 use Rattle.chain_layer.proofs.Sizes as choi_sizes
 use Rattle.chain_layer.proofs.Written as choi_written
+
+-- ---- the same chains
+
+-- a field that is 0 stays 0
+field_stays_zero : (u : ℤ) (fields : List ℤ) (q : ℕ) → counted_in u (pos 0) ≡ pos 0
+    → slice_index_or fields q (pos 0) ≡ pos 0
+    → slice_index_or (map (counted_in u) fields) q (pos 0) ≡ pos 0
+field_stays_zero u [] q nothing none = none
+field_stays_zero u (h ∷ hs) zero nothing none = ap (counted_in u) none ∙ nothing
+field_stays_zero u (h ∷ hs) (suc q) nothing none = field_stays_zero u hs q nothing none
+
+-- what a form is counted in can be written where the form can
+pub reduced_fits : (kind : Kind) (variables : ℕ) (chains : List (List ℕ)) (f : IsingContent)
+    → FitsOutput kind chains variables f → FitsOutput kind chains variables (reduced f)
+reduced_fits kind variables chains f fits =
+    grind (arith, nat_tests, length-map, field_stays_zero, zero-div)
+
+-- ---- joined qubits
+
+-- the qubits of an entry are joined
+abbrev pub AreEndsJoined : Joins → Entry → Type 0
+AreEndsJoined joined e = joined e.first e.second ≡ true
+
+-- they are, unless it is the entry of a node
+abbrev IsCouplerJoined : Joins → Entry → Type 0
+IsCouplerJoined joined e = is_coupler e ≡ true → AreEndsJoined joined e
+
+pub reduced_joined : (joined : Joins) (f : IsingContent) → All (AreEndsJoined joined) f.couplings
+    → All (AreEndsJoined joined) (reduced f).couplings
+reduced_joined joined f all = All-map (AreEndsJoined joined) (entry_in (ising_unit f)) f.couplings all
+
+couplers_joined : (joined : Joins) (cs : List Entry) → AllByRecursion (AreEndsJoined joined) cs
+    → AllByRecursion (IsCouplerJoined joined) cs
+couplers_joined joined [] all = tt
+couplers_joined joined (c ∷ cs) all = (λ is. all.0, couplers_joined joined cs all.1)
+
+-- no entry of a node is a coupler
+nodes_joined : (joined : Joins) (n : ℕ) (fields : List ℤ) (cs : List Entry)
+    → AllByRecursion (IsCouplerJoined joined) cs
+    → AllByRecursion (IsCouplerJoined joined) (node_entries n fields ++ cs)
+nodes_joined joined n [] cs all = all
+nodes_joined joined n (h ∷ hs) cs all =
+    let no : nat_lt n n ≡ false = le-ltb n n (omega arith) in
+    (λ is. absurd (cc (is, no)), nodes_joined joined (suc n) hs cs all)
+
+-- couplers of a model on a graph are on joined qubits where the form's couplings are
+pub written_joined : (joined : Joins) (rows cols shore : ℕ) (chains : List (List ℕ)) (f : IsingContent)
+    → All (AreEndsJoined joined) f.couplings
+    → All (IsCouplerJoined joined) (written_entries (Chimera rows cols shore) chains f)
+written_joined joined rows cols shore chains f all =
+    All-from_recursion _ _
+    (AllRec-filter (IsCouplerJoined joined) (is_on_chain chains) (node_entries 0 f.fields) f.couplings
+    (nodes_joined joined 0 f.fields f.couplings
+    (couplers_joined joined f.couplings (recursion_from_All _ f.couplings all))))
+
+-- What is known of an embedded form on its qubits, however its chains are tied.
 
 -- ---- the form on the qubits
 
@@ -101,11 +157,7 @@ relaxes_alike f g d d' u n same p = record {
   reached = λ x w v whole.
       let y = p.reached x w v whole in (
         y.0,
-        record {
-          width = y.1.width;
-          decodes = sym (same y.0) ∙ y.1.decodes;
-          energy = y.1.energy;
-        },
+        record { width = y.1.width; decodes = sym (same y.0) ∙ y.1.decodes; energy = y.1.energy },
       );
   below = p.below;
   onto = λ x w. let y = p.onto x w in (y.0, y.1, sym (same y.0) ∙ y.2);

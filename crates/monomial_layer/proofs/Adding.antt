@@ -1,7 +1,7 @@
 -- Steps of the additions that stand for a term.
 use Rattle.monomial_layer.proofs.Common.{nat_tests, ints, ◌≡◌, Bool, ℕ, zero, suc, ◌+◌, ◌-◌, ◌*◌, ◌<◌, ◌≤◌, ◌^◌, List, [], ◌∷◌, ◌++◌, length, map, take, drop, get_or, ℤ, refl, sym, ap, ◌∙◌, arith, Result, OnOk, flat_map, sum_by, append_assoc, append-nil, drop_more, take_rest, recursion_from_All, sum_by-cons, on_ok_weaker, Literal, Term, terms_total, IsTermSet, TableContent, AreAdditions, IsTable, with_appended, with_more, Fills, HasRoomFor, fills_as, fills_more, room_first, room_next, room_same, OfSet, room-additions, node, with_each, pair_terms, node_term, node_terms, new_nodes, new_bits, all_new_terms, Rest, rest_room}
 use Rattle.term_table.proofs.Filling as filling
-use Rattle.monomial_layer.proofs.NewSets.{sets-all_new_terms}
+use Rattle.monomial_layer.proofs.Sets.{sets-all_new_terms}
 use Rattle.monomial_layer.proofs.Sizes.{total-image}
 
 -- ---- a term for each element
@@ -59,10 +59,8 @@ module _ {S : Type 0} (takes : S → List Term → Type 0) (holds : S → TableC
       → ((more : List Term) → takes now ((ks, d) ∷ more) → takes new more)
       → OnOk r (Fills takes holds new last us) → OnOk r (Fills takes holds now last ((ls, c) ∷ us))
   own_and_others r now new last ls ks c d us set weight held room others =
-      on_ok_weaker r
-      (λ more.
-      fills_more takes holds now new last ((ls, c) ∷ []) us
-      (fills_as takes holds now new ls ks c d set weight held room) more)
+      on_ok_weaker r (λ more.
+      fills_more _ _ _ _ _ _ _ (fills_as takes holds now new ls ks c d set weight held room) more)
       others
 
 -- ---- new nodes
@@ -127,8 +125,7 @@ pub room_for_all : (t : TableContent) → IsTable t → (terms_total t.terms + 1
     → HasRoomFor Takes (empty_of t) (all_new_terms t.terms t.width)
 room_for_all t table total =
     let e = empty_of t in
-    let ts = all_new_terms t.terms t.width in
     let sets = sets-all_new_terms e.width t.width t.width t.terms (omega arith) (omega arith)
     (recursion_from_All (OfSet (IsTermSet t.width)) t.terms table.terms.sets) in
-    room-additions e.width ts e
+    room-additions e.width _ e
     (record { sets = sets; small = omega (arith, total-image t table, total) }) refl

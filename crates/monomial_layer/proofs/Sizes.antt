@@ -23,8 +23,7 @@ total-pair_terms (l ∷ ls) c =
     omega (arith, total-pair_terms ls c, total-each (λ k. l ∷ k ∷ []) c ls, terms_total-append)
 
 total-node_term : (ls : List Literal) (c : ℤ) (w : Literal) (k : ℕ)
-    → terms_total (node_term ls c w k)
-    ≡ unsigned_abs c * (factor (length ls) k * (2 * k + 2) - 1)
+    → terms_total (node_term ls c w k) ≡ unsigned_abs c * (factor (length ls) k * (2 * k + 2) - 1)
     + unsigned_abs c * factor (length ls) k * length ls
 total-node_term ls c w k =
     let f = factor (length ls) k in
@@ -87,10 +86,8 @@ total-more_nodes ls c m k (suc n) less =
 whole_bound : (x d n : ℕ) → 2 * n + 1 ≤ d
     → x * pairs d + x * (2 * (n * n) + n + 2 * (n * d)) ≤ x * (2 * (d * d))
 whole_bound x d n h =
-    let low = mul-le-mul_left n h in
-    let high = mul-le-mul_left d h in
     let inner : pairs d + (2 * (n * n) + n + 2 * (n * d)) ≤ 2 * (d * d) =
-    omega (arith, low, high, pairs_is d) in
+    omega (arith, mul-le-mul_left n h, mul-le-mul_left d h, pairs_is d) in
     omega (arith, mul-le-mul_left x inner)
 
 total-positive_terms : (ls : List Literal) (c : ℤ) (n : ℕ) → 3 ≤ length ls
@@ -167,9 +164,8 @@ size-positive_terms ls c n high =
 size-negative_terms : (ls : List Literal) (c : ℤ) (n : ℕ) → 3 ≤ length ls
     → terms_size (negative_terms ls c n) + 1 ≤ 4 * (length ls * length ls)
 size-negative_terms ls c n high =
-    let d = length ls in
     let each = size-each (λ k. k ∷ node n ∷ []) c ls (λ k. refl) in
-    simp terms_size-cons (omega (arith, mul-le-mul_right d high))
+    simp terms_size-cons (omega (arith, mul-le-mul_right (length ls) high))
 
 square_is : (n : ℕ) → n ^ 2 ≡ n * n
 square_is n = pow-succ' n 1 ∙ ap (λ m. n * m) (pow-succ' n 0 ∙ ap (λ m. n * m) (pow-zero n) ∙ omega arith)

@@ -2,8 +2,7 @@
 --
 -- A problem that is widened as it goes has in the end as many variables as if it had been widened
 -- at once, and neither products nor constraints ask how many there are.
-use Rattle.opb_reader.proofs.Common.{nat_tests, arith, ◌≡◌, ℕ, List, [], ◌∷◌, ◌++◌, map, fold, Result, Ok, Err, refl, sym, ap, ◌∙◌, append-nil, append_assoc, flat_map, fold-map, fold-append, TextFault, Word, TextAnswer, ◌>>=◌, Fails, end_line, Literal, Product, Constraint, ProblemContent, Widened, AddedProduct, AddedConstraint, normal_form, blank, with_variables, with_product, with_constraint, with_part, as_written, parts_add_up, products_apart, products_written, Listed, Opb, literals_in, widened, variables_of, constraints_at, head_at, reading_of_words, constraint_of, problem_of, problem_of_words, with_term, with_listed, head_read, constraints_read}
-use Rattle.whole_text.specs.declared.faults.TextAnswer.TheVariants as answers
+use Rattle.opb_reader.proofs.Common.{nat_tests, arith, ◌≡◌, ℕ, List, [], ◌∷◌, ◌++◌, map, fold, Result, Ok, refl, sym, append-nil, append_assoc, flat_map, fold-map, fold-append, TextFault, Word, TextAnswer, ◌>>=◌, Fails, end_line, Literal, Product, Constraint, ProblemContent, Widened, AddedProduct, AddedConstraint, normal_form, blank, with_variables, with_product, with_constraint, with_part, as_written, parts_add_up, products_apart, products_written, Listed, Opb, literals_in, widened, variables_of, constraints_at, head_at, reading_of_words, constraint_of, problem_of, problem_of_words, with_term, with_listed, head_read, constraints_read}
 use Rattle.opb_reader.proofs.Variables.{widened-append}
 
 -- ---- variables apart
@@ -45,8 +44,8 @@ constraints_written : (p : ProblemContent) (ks : List Constraint)
     → fold as_written p (map AddedConstraint ks) ≡ record p { constraints = p.constraints ++ ks }
 constraints_written p [] = λ i. record p { constraints = sym (append-nil p.constraints) i }
 constraints_written p (k ∷ ks) =
-    constraints_written (record p { constraints = p.constraints ++ k ∷ [] }) ks
-    ∙ (λ i. record p { constraints = append_assoc p.constraints (k ∷ []) ks i })
+    let rest = constraints_written (record p { constraints = p.constraints ++ k ∷ [] }) ks in
+    grind (arith, nat_tests, append_assoc)
 
 -- so many variables, products and constraints
 abbrev written : ℕ → List Product → List Constraint → ProblemContent
@@ -57,15 +56,11 @@ parts_are : (v : ℕ) (ts : List Product) (ks : List Constraint)
     ≡ normal_form (written v ts ks)
 parts_are v ts ks =
     let wide = with_variables blank v in
-    let products = map AddedProduct ts in
-    let constraints = map AddedConstraint ks in
-    ap (λ (p : ProblemContent). fold with_constraint p ks) (sym (fold-map with_part AddedProduct wide ts))
-    ∙ sym (fold-map with_part AddedConstraint (fold with_part wide products) ks)
-    ∙ sym (fold-append with_part wide products constraints)
-    ∙ parts_add_up (Widened v ∷ products ++ constraints) ∙ ap normal_form
-    (fold-append as_written wide products constraints
-    ∙ ap (λ (p : ProblemContent). fold as_written p constraints) (products_written wide ts)
-    ∙ constraints_written (record wide { objective = ts }) ks)
+    let parts = parts_add_up (Widened v ∷ map AddedProduct ts ++ map AddedConstraint ks) in
+    let products = fold-map with_part AddedProduct wide ts in
+    let constraints = fold-map with_part AddedConstraint (fold with_part wide (map AddedProduct ts)) ks in
+    let written = constraints_written (record wide { objective = ts }) ks in
+    grind (arith, nat_tests, fold-append, products_written wide ts)
 
 -- ---- the whole
 
@@ -79,13 +74,12 @@ put_together ts ks =
     let u = widened 0 (literals_in ts) in
     let v = variables_of (whole ts ks) in
     let all = fold with_product blank ts in
-    ap (λ (p : ProblemContent). fold with_listed p ks) (terms_apart blank ts)
-    ∙ listed_apart (with_variables all u) ks
-    ∙ ap (λ (p : ProblemContent). with_variables p (widened u (constraint_literals ks))) (constraints_apart all u cs)
-    ∙ ap (with_variables (fold with_constraint all cs)) (sym (widened-append 0 (literals_in ts) (constraint_literals ks)))
-    ∙ sym (constraints_apart all v cs)
-    ∙ ap (λ (p : ProblemContent). fold with_constraint p cs) (sym (products_apart blank v ts))
-    ∙ parts_are v ts cs
+    let terms = terms_apart blank ts in
+    let listed = listed_apart (with_variables all u) ks in
+    let append = widened-append 0 (literals_in ts) (constraint_literals ks) in
+    let apart = constraints_apart all in
+    let products = products_apart blank v ts in
+    grind (arith, nat_tests, parts_are v ts cs)
 
 -- ---- a text
 
@@ -108,14 +102,12 @@ constraints_after end x = constraints_read x.0 end x.1
 others_are : (ts : List Product) (read : Result (List Listed × List Word) TextFault)
     → (read >>= as_whole ts) >>= normal
     ≡ (read >>= λ (x : List Listed × List Word). Ok (fold with_listed (fold with_term blank ts) x.0))
-others_are ts (Ok x) = ap (λ (p : ProblemContent). Ok p) (sym (put_together ts x.0))
-others_are ts (Err f) = refl
+others_are ts read = grind (arith, nat_tests, put_together)
 
 head_is : (end : ℕ) (read : Result (List Product × List Word) TextFault)
     → (read >>= rest_of end) >>= normal
     ≡ (read >>= λ (x : List Product × List Word). Ok (fold with_term blank x.0, x.1)) >>= constraints_after end
-head_is end (Ok x) = others_are x.0 (constraints_at end x.1)
-head_is end (Err f) = refl
+head_is end read = grind (arith, nat_tests, others_are)
 
 -- the problem of words: their objective, put to a problem that says nothing, and their constraints
 pub problem_of_words-put : (ws : List Word)
@@ -126,5 +118,4 @@ problem_of_words-put ws = head_is (end_line ws) (head_at (end_line ws) ws)
 -- a fault in the objective
 pub head_fails : (e : TextAnswer) (end : ℕ) (read : Result (ProblemContent × List Word) TextFault)
     → Fails e read → Fails e (read >>= constraints_after end)
-head_fails answers.NoMemory end read h = tt
-head_fails (answers.Bad f) end read h = ap (λ r. r >>= constraints_after end) h
+head_fails e end read h = grind (arith, nat_tests)

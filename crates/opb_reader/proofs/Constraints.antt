@@ -1,6 +1,5 @@
 -- Constraints: one is a sum and its comparison, and one more is read, or they end.
-use Rattle.opb_reader.proofs.Common.{nat_tests, ◌≡◌, ℕ, ◌+◌, ◌≤◌, ◌<◌, true, false, ℤ, List, [], ◌∷◌, length, map, All, Option, Result, Ok, Err, refl, ap, arith, MatchOption, unsigned_abs, codes, bytes_eq, AllByRecursion, ints, sum_by-cons, All-from_recursion, recursion_from_All, WordRef, TextFault, TextAnswer, Word, word_of, ◌>>=◌, Fails, Product, ProblemContent, negated, products_total, constraint_total, Operator, greatest_index, is_operator, sum_at, comparison_at, constraint_at, constraints_at, head_at, compared, put_all, with_listed, objective_read, head_read, constraint_read, constraints_read}
-use Rattle.whole_text.specs.declared.faults.TextAnswer.TheVariants as answers
+use Rattle.opb_reader.proofs.Common.{nat_tests, ◌≡◌, ℕ, ◌+◌, ◌≤◌, ◌<◌, true, false, ℤ, List, [], ◌∷◌, length, map, All, Option, Result, Ok, Err, refl, arith, MatchOption, unsigned_abs, codes, bytes_eq, ints, sum_by-cons, WordRef, TextFault, TextAnswer, Word, word_of, ◌>>=◌, Fails, Product, ProblemContent, negated, products_total, constraint_total, Operator, greatest_index, is_operator, sum_at, comparison_at, constraint_at, constraints_at, head_at, compared, put_all, with_listed, objective_read, head_read, constraint_read, constraints_read, All-map}
 use Rattle.opb_reader.specs.declared.operator.Operator.TheVariants.{AtLeast, AtMost, Equal}
 use Rattle.opb_reader.proofs.Many.{many_go_on, many_fail, many_end}
 use Rattle.opb_reader.proofs.Shrinking.{constraint_shrinks}
@@ -12,8 +11,7 @@ pub sum_fails : (e : TextAnswer) (p : ProblemContent) (end : ℕ) (w : Word) (ws
     → Fails e (sum_at greatest_index is_operator end (w ∷ ws))
     → Fails e (constraint_read p end w ws)
 unfolding constraint_at
-sum_fails answers.NoMemory p end w ws h = tt
-sum_fails (answers.Bad f) p end w ws h = rw h refl
+sum_fails e p end w ws h = grind (arith, nat_tests)
 
 pub comparison_fails : (f : TextFault) (p : ProblemContent) (end : ℕ) (w : Word)
     (ws rest : List Word) (terms : List Product)
@@ -32,26 +30,16 @@ constraint_is p end w ws rest after terms operator bound sum h = rw (sum, h) ref
 
 -- ---- terms with the other sign
 
-negated_each : (v : ℕ) (ts : List Product)
-    → AllByRecursion (λ (t : Product). All (λ l. l.variable < v) t.literals) ts
-    → AllByRecursion (λ (t : Product). All (λ l. l.variable < v) t.literals) (map negated ts)
-negated_each v [] h = tt
-negated_each v (t ∷ ts) h = (h.0, negated_each v ts h.1)
-
 pub compared_within : (operator : Operator) (v : ℕ) (ts : List Product) (bound : ℤ)
     → AreWithin v ts → AreWithin v (compared operator ts bound).products
 compared_within AtLeast v ts bound h = h
 compared_within Equal v ts bound h = h
 compared_within AtMost v ts bound h =
-    let Within : Product → Type 0 = λ t. All (λ l. l.variable < v) t.literals in
-    All-from_recursion Within (map negated ts) (negated_each v ts (recursion_from_All Within ts h))
+    All-map (λ (t : Product). All (λ l. l.variable < v) t.literals) negated ts h
 
-negated-total : (ts : List Product) → products_total (map negated ts) ≡ products_total ts
+pub negated-total : (ts : List Product) → products_total (map negated ts) ≡ products_total ts
 negated-total [] = refl
-negated-total (t ∷ ts) =
-    let sum = sum_by-cons (λ (u : Product). unsigned_abs u.coefficient) t ts in
-    let sum_cons = sum_by-cons (λ (u : Product). unsigned_abs u.coefficient) (negated t) (map negated ts) in
-    omega (arith, ints, negated-total ts)
+negated-total (t ∷ ts) = simp sum_by-cons (omega (arith, ints, negated-total ts))
 
 pub compared-total : (operator : Operator) (ts : List Product) (bound : ℤ)
     → constraint_total (compared operator ts bound) ≡ products_total ts + unsigned_abs bound
@@ -76,8 +64,7 @@ constraint_goes_on p q end w ws rest le one =
 
 first_fails : (e : TextAnswer) (read : Result (ProblemContent × List Word) TextFault)
     → Fails e read → Fails e (read >>= first_part)
-first_fails answers.NoMemory read h = tt
-first_fails (answers.Bad f) read h = ap (λ r. r >>= first_part) h
+first_fails e read h = grind (arith, nat_tests)
 
 pub constraint_fails : (e : TextAnswer) (p : ProblemContent) (end : ℕ) (w : Word) (ws : List Word)
     → Fails e (constraint_read p end w ws) → Fails e (constraints_read p end (w ∷ ws))

@@ -8,3 +8,4 @@ pub mod Constraints
 pub mod Additions
 pub mod ReadCosts
 pub mod Variables
+mod Lemmas

@@ -1,5 +1,5 @@
 -- What is read again and again: one more is read, or it ends.
-use Rattle.opb_reader.proofs.Common.{nat_tests, ◌≡◌, ℕ, zero, suc, ◌≤◌, Bool, true, false, cond, List, [], ◌∷◌, ◌++◌, length, fold, append-nil, append_assoc, Result, Ok, Err, IfOk, refl, sym, ap, ◌∙◌, arith, TextFault, TextAnswer, Word, ◌>>=◌, Fails, many, put, put_all}
+use Rattle.opb_reader.proofs.Common.{nat_tests, ◌≡◌, ℕ, zero, suc, ◌≤◌, Bool, true, false, List, [], ◌∷◌, ◌++◌, length, fold, append-nil, append_assoc, Result, Ok, IfOk, refl, sym, ap, ◌∙◌, arith, TextFault, TextAnswer, Word, ◌>>=◌, Fails, many, put, put_all}
 
 -- what reads one thing, from its first word and those after it
 abbrev pub Reader : Type 0 → Type 0
@@ -26,9 +26,7 @@ others more x = more x.1 >>= with_first x.0
 same_others : {A : Type 0} (most : ℕ) (f g : List Word → Result (List A × List Word) TextFault)
     (first : Result (A × List Word) TextFault) → IfOk first (Leaves most)
     → ((ws : List Word) → length ws ≤ most → f ws ≡ g ws) → first >>= others f ≡ first >>= others g
-same_others {A = A} most f g (Ok x) h same =
-    ap (λ (read : Result (List A × List Word) TextFault). read >>= with_first x.0) (same x.1 h)
-same_others most f g (Err e) h same = refl
+same_others most f g first h same = grind (arith, nat_tests)
 
 pub many_enough : {A : Type 0} (ends : List ℕ → Bool) (read : Reader A) → Shrinks read
     → (n m : ℕ) (ws : List Word) → length ws ≤ n → length ws ≤ m
@@ -38,9 +36,8 @@ many_enough ends read h n m [] hn hm = refl
 many_enough ends read h zero m (w ∷ ws) hn hm = absurd (omega (arith, hn))
 many_enough ends read h (suc n) zero (w ∷ ws) hn hm = absurd (omega (arith, hm))
 many_enough ends read h (suc n) (suc m) (w ∷ ws) hn hm =
-    ap (λ r. cond (ends w.bytes) (Ok ([], w ∷ ws)) r)
-    (same_others (length ws) (many ends read n) (many ends read m) (read w ws) (h.leaves w ws)
-    (λ rest le. many_enough ends read h n m rest (omega (arith, hn, le)) (omega (arith, hm, le))))
+    rw (same_others (length ws) (many ends read n) (many ends read m) (read w ws) (h.leaves w ws)
+    (λ rest le. many_enough ends read h n m rest (omega (arith, hn, le)) (omega (arith, hm, le)))) refl
 
 -- ---- no more words are left than there were
 
@@ -48,13 +45,7 @@ others_leave : {A : Type 0} (most : ℕ) (f : List Word → Result (List A × Li
     (first : Result (A × List Word) TextFault) → IfOk first (Leaves most)
     → ((ws : List Word) → IfOk (f ws) (Leaves (length ws)))
     → IfOk (first >>= others f) (Leaves (suc most))
-others_leave most f (Err e) h all = tt
-others_leave {A = A} most f (Ok x) h all = go (f x.1) (all x.1)
-  where
-    go : (rest : Result (List A × List Word) TextFault) → IfOk rest (Leaves (length x.1))
-        → IfOk (rest >>= with_first x.0) (Leaves (suc most))
-    go (Ok y) k = omega (arith, h, k)
-    go (Err e) k = tt
+others_leave most f first h all = grind (arith, nat_tests)
 
 pub many_leaves : {A : Type 0} (ends : List ℕ → Bool) (read : Reader A) → Shrinks read
     → (n : ℕ) (ws : List Word) → IfOk (many ends read n ws) (Leaves (length ws))
@@ -62,13 +53,9 @@ unfolding many
 many_leaves ends read h n [] = omega arith
 many_leaves ends read h zero (w ∷ ws) = omega arith
 many_leaves ends read h (suc n) (w ∷ ws) =
-    go (ends w.bytes)
-    (others_leave (length ws) (many ends read n) (read w ws) (h.leaves w ws) (many_leaves ends read h n))
-  where
-    go : (b : Bool) → IfOk (read w ws >>= others (many ends read n)) (Leaves (length (w ∷ ws)))
-        → IfOk (cond b (Ok ([], w ∷ ws)) (read w ws >>= others (many ends read n))) (Leaves (length (w ∷ ws)))
-    go true k = omega arith
-    go false k = k
+    let rest = many_leaves ends read h n in
+    let all = others_leave (length ws) (many ends read n) (read w ws) (h.leaves w ws) rest in
+    grind (arith, nat_tests)
 
 -- ---- one more, put to what is there
 
@@ -101,9 +88,8 @@ pub many_go_on : {A B : Type 0} (step : B → A → B) (b b' : B) (ends : List �
     → put_all step b (all_of ends read (w ∷ ws)) ≡ put_all step b' (all_of ends read rest)
 unfolding many
 many_go_on step b b' ends read w ws rest h going le one =
-    ap (λ t. put_all step b (cond t (Ok ([], w ∷ ws)) (read w ws >>= others (many ends read (length ws))))) going
-    ∙ one_put step b b' rest (many ends read (length ws)) (read w ws) one
-    ∙ ap (put_all step b') (many_enough ends read h (length ws) (length rest) rest le (omega arith))
+    let enough = many_enough ends read h (length ws) (length rest) rest le (omega arith) in
+    rw (going, ← enough) (one_put step b b' rest (many ends read (length ws)) (read w ws) one)
 
 pub many_fail : {A B : Type 0} (e : TextAnswer) (step : B → A → B) (b : B) (ends : List ℕ → Bool)
     (read : Reader A) (w : Word) (ws : List Word) → ends w.bytes ≡ false
@@ -134,8 +120,7 @@ fold-push xs (y ∷ ys) = fold-push (xs ++ y ∷ []) ys ∙ append_assoc xs (y �
 -- what is put behind nothing is what is read
 pub put_none : {A : Type 0} (read : Result (List A × List Word) TextFault)
     → put_all push [] read ≡ read
-put_none (Ok x) = ap (λ xs. Ok (xs, x.1)) (fold-push [] x.0)
-put_none (Err e) = refl
+put_none read = grind (arith, nat_tests, fold-push)
 
 -- ---- where nothing ends it
 
@@ -143,13 +128,7 @@ others_none : {A : Type 0} (most : ℕ) (f : List Word → Result (List A × Lis
     (first : Result (A × List Word) TextFault) → IfOk first (Leaves most)
     → ((ws : List Word) → length ws ≤ most → IfOk (f ws) (λ x. x.1 ≡ []))
     → IfOk (first >>= others f) (λ x. x.1 ≡ [])
-others_none most f (Err e) h all = tt
-others_none {A = A} most f (Ok x) h all = go (f x.1) (all x.1 h)
-  where
-    go : (rest : Result (List A × List Word) TextFault) → IfOk rest (λ y. y.1 ≡ [])
-        → IfOk (rest >>= with_first x.0) (λ y. y.1 ≡ [])
-    go (Ok y) k = k
-    go (Err e) k = tt
+others_none most f first h all = grind (arith, nat_tests)
 
 -- no word is left
 pub many_all : {A : Type 0} (ends : List ℕ → Bool) (read : Reader A) → Shrinks read

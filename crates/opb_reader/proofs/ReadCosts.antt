@@ -1,10 +1,9 @@
 -- What the problem of a text costs: what the text costs, constraint by constraint.
-use Rattle.opb_reader.proofs.Common.{nat_tests, ◌≡◌, Bool, true, false, not, ◌||◌, arith, refl, ◌∙◌, List, [], ◌∷◌, map, ℤ, pos, ◌+ℤ◌, neg_ℤ, int_lt, int_le, if◌then◌else◌, list_any, ints, if_so, Product, all_hold, sum_of, negated, fails, problem_cost, normal_form-cost, Operator, Listed, Opb, stands, is_met, is_broken, opb_cost, compared, constraint_of, problem_of, ReadingKeepsCosts}
+use Rattle.opb_reader.proofs.Common.{nat_tests, ◌≡◌, Bool, not, ◌||◌, arith, refl, ◌∙◌, List, [], ◌∷◌, map, ℤ, pos, ◌+ℤ◌, neg_ℤ, int_lt, int_le, if◌then◌else◌, list_any, ints, if_so, Product, all_hold, sum_of, negated, fails, problem_cost, normal_form-cost, Operator, Listed, Opb, stands, is_met, is_broken, opb_cost, compared, constraint_of, problem_of, ReadingKeepsCosts}
 use Rattle.base.specs.declared.costs.Cost.TheVariants.{Whole, Infinite}
 
 value-negated : (b : Bool) (c : ℤ) → if_so b (neg_ℤ c) ≡ neg_ℤ (if_so b c)
-value-negated true c = refl
-value-negated false c = refl
+value-negated b c = grind (arith, nat_tests, ints)
 
 sum_of-negated : (x : List Bool) (ts : List Product)
     → sum_of x (map negated ts) ≡ neg_ℤ (sum_of x ts)

@@ -1,7 +1,6 @@
 -- Sums: one more term is read, or it ends; and the objective, which is a sum and its `;`.
-use Rattle.opb_reader.proofs.Common.{nat_tests, arith, ◌≡◌, ℕ, ◌≤◌, Bool, true, false, List, [], ◌∷◌, length, Result, Ok, Err, refl, ap, TextFault, TextAnswer, Word, ◌>>=◌, Fails, fault, Product, ProblemContent, greatest_index, is_semicolon, term_at, sum_at, closed_at, objective_at, put, put_all, with_term, objective_read}
+use Rattle.opb_reader.proofs.Common.{nat_tests, arith, ◌≡◌, ℕ, ◌≤◌, Bool, true, false, List, [], ◌∷◌, length, Result, Ok, Err, refl, TextFault, TextAnswer, Word, ◌>>=◌, Fails, fault, Product, ProblemContent, greatest_index, is_semicolon, term_at, sum_at, closed_at, objective_at, put, put_all, with_term, objective_read}
 use Rattle.whole_text.specs.declared.faults.TextKind.TheVariants as kinds
-use Rattle.whole_text.specs.declared.faults.TextAnswer.TheVariants as answers
 use Rattle.opb_reader.proofs.Many.{two_parts, many_go_on, many_fail, many_stop, many_end}
 use Rattle.opb_reader.proofs.Shrinking.{term_shrinks}
 
@@ -16,8 +15,7 @@ term_goes_on limit step b ends end w ws rest t going le read =
 
 put_fails : {A B : Type 0} (e : TextAnswer) (step : B → A → B) (b : B)
     (read : Result (A × List Word) TextFault) → Fails e read → Fails e (put step b read)
-put_fails answers.NoMemory step b read h = tt
-put_fails (answers.Bad f) step b read h = ap (put step b) h
+put_fails e step b read h = grind (arith, nat_tests)
 
 pub term_fails : {B : Type 0} (limit : ℕ) (e : TextAnswer) (step : B → Product → B) (b : B)
     (ends : List ℕ → Bool) (end : ℕ) (w : Word) (ws : List Word) → ends w.bytes ≡ false

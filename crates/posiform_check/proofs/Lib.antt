@@ -1,13 +1,9 @@
 pub mod Common
-pub mod Energies
 pub mod Values
 pub mod LeastStates
 pub mod FirstDifferences
 pub mod Gathering
-pub mod Compared
-pub mod ReadValues
 pub mod ReadSteps
 pub mod KeptLines
 pub mod FirstFaults
 pub mod Sums
-pub mod SumLines

@@ -4,18 +4,13 @@ use Rattle.whole_text.specs.declared.faults.TextAnswer.TheVariants as answers
 
 -- ---- literals
 
-abbrev LiteralsRead : Type 0
-LiteralsRead = Result (List Literal × List Word) TextFault
-
-abbrev first_before : Literal → Result (List Literal) TextFault → Result (List Literal) TextFault
-first_before l read = read >>= λ ls. Ok (l ∷ ls)
-
-abbrev put_behind : List Literal → List Word → Result (List Literal) TextFault → LiteralsRead
+abbrev put_behind : List Literal → List Word → Result (List Literal) TextFault
+    → Result (List Literal × List Word) TextFault
 put_behind front rest read = read >>= λ ls. Ok (front ++ ls, rest)
 
 put_literal : (l : Literal) (front : List Literal) (rest : List Word)
-    (read : Result (List Literal) TextFault)
-    → put_behind (front ++ l ∷ []) rest read ≡ put_behind front rest (first_before l read)
+    (read : Result (List Literal) TextFault) → put_behind (front ++ l ∷ []) rest read
+    ≡ put_behind front rest (read >>= λ ls. Ok (l ∷ ls))
 put_literal l front rest read = grind (arith, nat_tests, append_assoc)
 
 pub literal_goes_on : (nodes line : ℕ) (front : List Literal) (w : Word) (ws : List Word)
@@ -43,16 +38,10 @@ literals_end nodes line front ws none = grind (arith, nat_tests, append-nil)
 
 -- ---- lines
 
-abbrev Part : Type 0
-Part = Line × List Word
-
-abbrev read_as : Part → Result Part TextFault
-read_as x = Ok x
-
 abbrev written_on : ℕ → ℤ → List Literal → Result Line TextFault
 written_on n c ls = Ok (written ls c n)
 
-abbrev put_line : ℕ → ℤ → List Literal × List Word → Result Part TextFault
+abbrev put_line : ℕ → ℤ → List Literal × List Word → Result (Line × List Word) TextFault
 put_line n c x = Ok (written x.0 c n, x.1)
 
 abbrev before : Result (List Line) TextFault → Line → Result (List Line) TextFault
@@ -65,7 +54,7 @@ put_all s read = read >>= λ ls. Ok (fold with_line s ls)
 one_goes_on : (s : CertificateContent) (n : ℕ) (rest rest' : List Word) (l : Line)
     (number : Result ℤ TextFault) (read : Result (List Literal) TextFault)
     (others : List Word → Result (List Line) TextFault)
-    → (number >>= λ c. put_behind [] rest read >>= put_line n c) ≡ Ok (l, rest')
+    → (number >>= λ c. (read >>= λ ls. Ok (ls, rest)) >>= put_line n c) ≡ Ok (l, rest')
     → put_all s ((number >>= λ c. read >>= written_on n c) >>= before (others rest))
     ≡ put_all (with_line s l) (others rest')
 one_goes_on s n rest rest' l number read others h = grind (arith, nat_tests, ints)
@@ -73,7 +62,7 @@ one_goes_on s n rest rest' l number read others h = grind (arith, nat_tests, int
 one_fails : (e : TextAnswer) (s : CertificateContent) (n : ℕ) (rest : List Word)
     (number : Result ℤ TextFault) (read : Result (List Literal) TextFault)
     (others : Result (List Line) TextFault)
-    → Fails e (number >>= λ c. put_behind [] rest read >>= put_line n c)
+    → Fails e (number >>= λ c. (read >>= λ ls. Ok (ls, rest)) >>= put_line n c)
     → Fails e (put_all s ((number >>= λ c. read >>= written_on n c) >>= before others))
 one_fails e s n rest number read others h = grind (arith, nat_tests, ints)
 
@@ -108,12 +97,9 @@ all_lines : (s : CertificateContent) (ls : List Line) → fold with_line s ls
 all_lines s [] = grind (arith, nat_tests, ints, append-nil)
 all_lines s (l ∷ ls) = grind (arith, nat_tests, ints, all_lines (with_line s l) ls, append_assoc)
 
-from_blank : (ls : List Line) → fold with_line blank ls ≡ content_of ls
-from_blank ls = grind (arith, nat_tests, all_lines)
-
 all_read : (read : Result (List Line) TextFault)
     → put_all blank read ≡ (read >>= λ ls. Ok (content_of ls))
-all_read read = grind (arith, nat_tests, from_blank)
+all_read read = grind (arith, nat_tests, ints, all_lines)
 
 pub lines_all : (nodes : ℕ) (ws : List Word) → lines_put nodes blank ws ≡ reading_of_words nodes ws
 unfolding reading_of_words

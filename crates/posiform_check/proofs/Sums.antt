@@ -1,5 +1,5 @@
 -- Forms that are gathered by adding to them.
-use Rattle.posiform_check.proofs.Common.{nat_tests, elements, ◌≡◌, ℕ, zero, suc, ◌+◌, ◌<◌, ◌≤◌, Bool, true, take, List, [], ◌∷◌, ◌++◌, map, length, ℤ, pos, ◌+ℤ◌, refl, ap, arith, All, slice_set, get_or, replicate, int_eq, is_eq, AllByRecursion, list_all, take_more, take_all, IsPermutation, ints, All-from_recursion, recursion_from_All, if_so, total_by-append, total_by-map, total_by-IsPermutation, Literal, Term, set_cmp, coefficient_of, node_set, AreSameForms, HasMore, HasNone, node_terms, pair_term, sum_term, sums_terms}
+use Rattle.posiform_check.proofs.Common.{nat_tests, elements, ◌≡◌, ℕ, zero, suc, ◌+◌, ◌<◌, ◌≤◌, Bool, true, take, List, [], ◌∷◌, ◌++◌, map, length, ℤ, pos, ◌+ℤ◌, refl, ap, arith, slice_set, get_or, replicate, int_eq, is_eq, list_all, take_more, take_all, IsPermutation, ints, if_so, total_by-append, total_by-map, total_by-IsPermutation, Literal, Term, set_cmp, coefficient_of, node_set, AreSameForms, HasMore, HasNone, node_terms, pair_term, sum_term, sums_terms, ◌∙◌, neg_ℤ, to_z, of_z, map-append, w128}
 use Rattle.posiform_check.specs.declared.set_sums.PairSum.{PairSum}
 use Rattle.posiform_check.specs.declared.set_sums.PairTerm.{PairTerm}
 
@@ -14,9 +14,10 @@ coefficients-append set ts us = total_by-append (given set) ts us
 pub nothing-given : (b : Bool) → if_so b (pos 0) ≡ pos 0
 nothing-given b = grind (arith, nat_tests)
 
--- one addition after another
-pub more_then : (a b c ts us : List Term) → HasMore a ts b → HasMore b us c → HasMore a (ts ++ us) c
-more_then a b c ts us h k set = omega (arith, ints, h set, k set, coefficients-append set ts us)
+-- the opposite of a number, as both are kept
+pub kept_opposite : (k z : ℤ) → to_z w128 (of_z w128 k) ≡ k → to_z w128 (of_z w128 z) ≡ z
+    → z ≡ neg_ℤ (to_z w128 (of_z w128 k)) → to_z w128 (of_z w128 z) ≡ neg_ℤ k
+kept_opposite k z own whole is = whole ∙ is ∙ ap neg_ℤ own
 
 -- ---- nodes
 
@@ -28,33 +29,23 @@ node_more set n zero (w ∷ ws) c new h e = grind (arith, nat_tests, ints, eleme
 node_more set n (suc i) (w ∷ ws) c new h e =
     grind (arith, nat_tests, ints, elements, node_more set (suc n) i ws c new (omega (arith, h)) e)
 
-zeros_tested : (ws : List ℤ) → list_all (λ w. int_eq w (pos 0)) ws ≡ true
-    → AllByRecursion (λ w. w ≡ pos 0) ws
-zeros_tested [] h = tt
-zeros_tested (w ∷ ws) h = grind (arith, nat_tests, ints, zeros_tested ws)
-
 zeros-replicate : (set : List Literal) (n count : ℕ)
     → coefficient_of set (node_terms n (replicate count (pos 0))) ≡ pos 0
 zeros-replicate set n zero = refl
 zeros-replicate set n (suc count) =
     grind (arith, nat_tests, elements, zeros-replicate set (suc n) count)
 
-zeros : (set : List Literal) (n : ℕ) (ws : List ℤ) → AllByRecursion (λ w. w ≡ pos 0) ws
-    → coefficient_of set (node_terms n ws) ≡ pos 0
+zeros : (set : List Literal) (n : ℕ) (ws : List ℤ)
+    → list_all (λ w. int_eq w (pos 0)) ws ≡ true → coefficient_of set (node_terms n ws) ≡ pos 0
 zeros set n [] h = refl
-zeros set n (w ∷ ws) h = grind (arith, nat_tests, ints, elements, zeros set (suc n) ws h.1)
-
-pub are_zeros : (set : List Literal) (ws : List ℤ) → All (λ w. w ≡ pos 0) ws
-    → coefficient_of set (node_terms 0 ws) ≡ pos 0
-are_zeros set ws h = zeros set 0 ws (recursion_from_All (λ w. w ≡ pos 0) ws h)
+zeros set n (w ∷ ws) h = grind (arith, nat_tests, ints, elements, zeros set (suc n) ws)
 
 -- ---- pairs
 
 pairs-append : (set : List Literal) (xs ys : List PairTerm)
     → coefficient_of set (map pair_term (xs ++ ys))
     ≡ coefficient_of set (map pair_term xs) +ℤ coefficient_of set (map pair_term ys)
-pairs-append set [] ys = omega (arith, ints)
-pairs-append set (x ∷ xs) ys = omega (arith, ints, pairs-append set xs ys)
+pairs-append set xs ys = rw map-append (coefficients-append set (map pair_term xs) (map pair_term ys))
 
 -- one listed term more comes to the next sum
 pub pairs-step : (ps : List PairTerm) (i : ℕ) (d : PairTerm) (s next : PairSum) → i < length ps
@@ -67,12 +58,6 @@ pairs-step ps i d s next h so_far more set =
 pub pairs-end : (ps : List PairTerm) (i : ℕ) (s : PairSum) → length ps ≤ i → s.sum ≡ pos 0
     → AreSameForms (map pair_term (take i ps)) (sum_term s ∷ []) → HasNone (map pair_term ps)
 pairs-end ps i s h nothing all set = grind (arith, nat_tests, take_all, nothing-given)
-
--- the default does not count
-pub same_default : (ws : List ℤ) (i : ℕ) (d e : ℤ) → i < length ws → get_or ws i d ≡ get_or ws i e
-same_default [] i d e h = absurd (omega (arith, h))
-same_default (w ∷ ws) zero d e h = refl
-same_default (w ∷ ws) (suc i) d e h = same_default ws i d e (omega (arith, h))
 
 pub pairs-permuted : (set : List Literal) (ps qs : List PairTerm) → IsPermutation ps qs
     → coefficient_of set (map pair_term qs) ≡ coefficient_of set (map pair_term ps)
@@ -124,21 +109,10 @@ pub sums_cancel : (constant : ℤ) (ws : List ℤ) (ps qs : List PairTerm) (all 
 sums_cancel constant ws ps qs all nothing tested moved none is set =
     let same = ap (λ c. given set ([], c)) nothing in
     let nothing_given = nothing-given (is_eq (set_cmp set [])) in
-    let are = are_zeros set ws (All-from_recursion (λ w. w ≡ pos 0) ws (zeros_tested ws tested)) in
+    let are = zeros set 0 ws tested in
     let pairs_permuted = pairs-permuted set ps qs moved in
     omega (arith, ints, sums_parts set constant ws ps, none set, ap (coefficient_of set) is)
 
 pub take_back : (a b : List Term) (k : List Literal) (w less : ℤ) → less +ℤ w ≡ pos 0
     → HasMore a ((k, less) ∷ []) b → HasMore b ((k, w) ∷ []) a
 take_back a b k w less h more set = grind (arith, nat_tests, ints)
-
--- two additions, and four
-pub two_more : (a b c : List Term) (t u : Term) → HasMore a (t ∷ []) b → HasMore b (u ∷ []) c
-    → HasMore a (t ∷ u ∷ []) c
-two_more a b c t u h k = more_then a b c (t ∷ []) (u ∷ []) h k
-
-pub four_more : (a b c d e : List Term) (t u v w : Term) → HasMore a (t ∷ []) b
-    → HasMore b (u ∷ []) c → HasMore c (v ∷ []) d → HasMore d (w ∷ []) e
-    → HasMore a (t ∷ u ∷ v ∷ w ∷ []) e
-four_more a b c d e t u v w h k l m =
-    more_then a c e (t ∷ u ∷ []) (v ∷ w ∷ []) (two_more a b c t u h k) (two_more c d e v w l m)

@@ -1,8 +1,7 @@
 -- Sums over terms of what is additive in the coefficient: a table of sums has that of the additions.
 --
 -- What terms give a set, multiplied out, is such a sum.
-use Rattle.quad_form.proofs.Common.{nat_tests, ◌≡◌, arith, sym, ap, refl, List, [], ◌∷◌, ℤ, pos, ◌+ℤ◌, match_ordering, Ordering, ints, Decides-int_eq, total_by, Literal, Term, set_cmp, in_front, with_addition, with_additions, same_set}
-use Rattle.std.specs.declared.cmp.Ordering.TheVariants.{Less, Equal, Greater}
+use Rattle.quad_form.proofs.Common.{nat_tests, ◌≡◌, arith, sym, ap, refl, List, [], ◌∷◌, ℤ, pos, ◌+ℤ◌, match_ordering, Ordering, ints, Decides-int_eq, total_by, Literal, Term, set_cmp, in_front, with_addition, with_additions, same_set, Less, Equal, Greater}
 
 -- ---- what is additive in the coefficient
 
@@ -25,8 +24,7 @@ additive-zero f plus ls =
 given-in_front : (f : Amount) → IsAdditive f → (ls : List Literal) (c : ℤ) (ts : List Term)
     → given f (in_front ls c ts) ≡ f ls c +ℤ given f ts
 given-in_front f plus ls c ts =
-    let zero = additive-zero f plus ls in
-    grind (arith, ints, Decides-int_eq c (pos 0), zero)
+    grind (arith, ints, Decides-int_eq c (pos 0), additive-zero f plus ls)
 
 given-with_addition : (f : Amount) → IsAdditive f → (ts : List Term) (ls : List Literal) (c : ℤ)
     → given f (with_addition ts ls c) ≡ given f ts +ℤ f ls c

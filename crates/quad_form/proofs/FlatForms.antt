@@ -1,10 +1,53 @@
+-- Sets of at most two variables in order are term sets.
+use Rattle.quad_form.proofs.Common.{ℕ, List, [], ◌∷◌, Literal, IsTermSet, IsTermSet-none, IsTermSet-one, IsTermSet-two, IsFlat, nat_tests, ints, ◌*◌, ◌≤◌, ℤ, unsigned_abs, length, arith, AllByRecursion, sum_by-append, count_by-le-length, Term, set_size, terms_total, terms_size, plain_terms, contributions, terms_total-cons, terms_size-cons, sets_sum, plain_terms-grow, elements, ◌≡◌, ◌≢◌, zero, suc, ◌+◌, ◌<◌, ◌^◌, Bool, pos, ◌+ℤ◌, ◌++◌, replicate, All, sum_by, fold, refl, sym, ◌∙◌, if◌then◌else◌, append_assoc, append-nil, slice_index_or, IsStrictlySortedBy, slice_set, int_eq, length-replicate, All-from_recursion, recursion_from_All, sum_by-cons, sum_by_push, size-plus, Entry, entry_cmp, entry_size, weight_total, with_additions, Ascends, AreTerms, TableContent, IsLow, table_size, terms_total-with_additions, sets_sum-cons, sets_sum-with_additions, OfSet, Under, QuadContent, node_entries, quad_total, quad_size, IsCoupler, IsQuad, pair_entry, with_term, zero_quad, quad_of, image, length-fold, length-image, Less}
+
+pub IsTermSet-flat : (width : ℕ) (ls : List Literal) → IsFlat width ls → IsTermSet width ls
+IsTermSet-flat width [] flat = IsTermSet-none width
+IsTermSet-flat width (l ∷ []) flat = IsTermSet-one width l flat.within
+IsTermSet-flat width (l ∷ k ∷ []) flat = IsTermSet-two width l k flat.2 flat.1.within
+IsTermSet-flat width (l ∷ k ∷ m ∷ ls) flat = absurd flat
+
+-- How much a term grows where it is multiplied out: its coefficient to at most 4 times as much, and
+-- what it adds to a form's size to at most twice the square of its degree.
+
+abbrev IsShort : Term → Type 0
+IsShort t = length t.0 ≤ 2
+
+-- what a set adds to the size of a quadratic form beside its nodes: 1 for a constant, 4 for a
+-- coupler
+abbrev pub form_size : List Literal → ℕ
+form_size [] = 1
+form_size (l ∷ []) = 0
+form_size (l ∷ k ∷ ls) = 4
+
+terms_total-plain_terms : (ls : List Literal) (c : ℤ) → length ls ≤ 2
+    → terms_total (plain_terms ls c) ≤ 4 * unsigned_abs c
+terms_total-plain_terms ls c short =
+    grind (arith, nat_tests, ints, count_by-le-length, plain_terms-grow)
+
+form_size-plain_terms : (ls : List Literal) (c : ℤ) → length ls ≤ 2
+    → sets_sum form_size (plain_terms ls c) ≤ 2 * set_size ls
+form_size-plain_terms (l ∷ k ∷ m ∷ ls) c short = absurd (omega arith)
+form_size-plain_terms ls c short = grind (arith, nat_tests, ints)
+
+pub terms_total-contributions : (ts : List Term) → AllByRecursion IsShort ts
+    → terms_total (contributions ts) ≤ 4 * terms_total ts
+terms_total-contributions [] low = omega arith
+terms_total-contributions (t ∷ ts) low =
+    simp (sum_by-append, terms_total-cons)
+    (omega (arith, terms_total-plain_terms t.0 t.1 low.0, terms_total-contributions ts low.1))
+
+pub form_size-contributions : (ts : List Term) → AllByRecursion IsShort ts
+    → sets_sum form_size (contributions ts) ≤ 2 * terms_size ts
+form_size-contributions [] low = omega arith
+form_size-contributions (t ∷ ts) low =
+    simp (sum_by-append, terms_size-cons)
+    (omega (arith, form_size-plain_terms t.0 t.1 low.0, form_size-contributions ts low.1))
+
 -- The quadratic form of a table over variables: what it keeps, and how large it is.
 --
 -- Each measure of a form grows, where a term is placed, by at most that of the term. The couplers
 -- are the entries of the pairs, in the order of the table.
-use Rattle.quad_form.proofs.Common.{nat_tests, ints, elements, ◌≡◌, ◌≢◌, ℕ, zero, suc, ◌+◌, ◌*◌, ◌<◌, ◌≤◌, ◌^◌, Bool, ℤ, pos, ◌+ℤ◌, unsigned_abs, List, [], ◌∷◌, ◌++◌, length, replicate, All, sum_by, fold, refl, sym, ◌∙◌, arith, if◌then◌else◌, append_assoc, append-nil, AllByRecursion, slice_index_or, IsStrictlySortedBy, slice_set, int_eq, length-replicate, All-from_recursion, recursion_from_All, sum_by-cons, sum_by-append, sum_by_push, size-plus, Entry, entry_cmp, entry_size, weight_total, Literal, Term, terms_total, with_additions, Ascends, AreTerms, TableContent, IsLow, table_size, contributions, terms_total-cons, terms_total-with_additions, sets_sum, sets_sum-cons, sets_sum-with_additions, OfSet, Under, QuadContent, node_entries, quad_total, quad_size, IsCoupler, IsQuad, pair_entry, with_term, zero_quad, quad_of, image, IsFlat, length-fold, length-image}
-use Rattle.std.specs.declared.cmp.Ordering.TheVariants.{Less}
-use Rattle.quad_form.proofs.FlatSums.{form_size, terms_total-contributions, form_size-contributions}
 
 -- ---- the sum of the sizes
 
@@ -74,8 +117,7 @@ nodes_size-le n (w ∷ ws) =
     let rest0 = nodes_size-le (suc n) ws in simp sum_by-cons (grind (arith, nat_tests, ints, node_size-le))
 
 rest_size-with_term : (q : QuadContent) (ls : List Literal) (c : ℤ) (used : ℕ)
-    → rest_size q ≤ used
-    → ((if int_eq q.constant (pos 0) then 0 else 1) ≤ 1)
+    → rest_size q ≤ used → ((if int_eq q.constant (pos 0) then 0 else 1) ≤ 1)
     → rest_size (with_term q (ls, c)) ≤ used + form_size ls
 rest_size-with_term q ls c used h one =
     grind (arith, nat_tests, ints, nonzero-le, sum_by_push, entry_size-le)
@@ -90,12 +132,11 @@ rest_size-fold q (t ∷ ts) =
 pub quad_size-image : (t : TableContent) → IsLow t → quad_size (image t) ≤ table_size t * 2
 quad_size-image t low =
     let q = image t in
-    let nodes = nodes_size-le 0 q.diagonal in
     let both = sum_by-append entry_size (node_entries 0 q.diagonal) q.couplers in
     let fold = rest_size-fold (zero_quad t.width) (with_additions [] (contributions t.terms)) in
     let sets = sets_sum-with_additions form_size (contributions t.terms) in
     let form = form_size-contributions t.terms (recursion_from_All _ _ low) in
-    omega (arith, length-image t, nodes, both, fold, sets, form)
+    omega (arith, length-image t, nodes_size-le 0 q.diagonal, both, fold, sets, form)
 
 -- ---- the couplers
 
@@ -109,23 +150,16 @@ pairs_of ((l ∷ k ∷ ls, c) ∷ ts) = pair_entry l k c ∷ pairs_of ts
 couplers-fold : (q : QuadContent) (ts : List Term)
     → (fold with_term q ts).couplers ≡ q.couplers ++ pairs_of ts
 couplers-fold q [] = sym (append-nil q.couplers)
-couplers-fold q (([], c) ∷ ts) = couplers-fold (with_term q ([], c)) ts
-couplers-fold q ((l ∷ [], c) ∷ ts) = couplers-fold (with_term q (l ∷ [], c)) ts
-couplers-fold q ((l ∷ k ∷ ls, c) ∷ ts) =
-    grind (arith, nat_tests, couplers-fold (with_term q (l ∷ k ∷ ls, c)) ts, append_assoc)
+couplers-fold q (t ∷ ts) =
+    grind (arith, nat_tests, couplers-fold (with_term q t) ts, append_assoc)
 
 -- the sets of two variables that are above a pair
 pairs_above : (width : ℕ) (l k : Literal) (c : ℤ) (ts : List Term) → IsFlat width (l ∷ k ∷ [])
     → AllByRecursion (OfSet (IsFlat width)) ts → Under (l ∷ k ∷ []) ts
     → AllByRecursion (λ e. entry_cmp (pair_entry l k c) e ≡ Less) (pairs_of ts)
 pairs_above width l k c [] pair flat under = tt
-pairs_above width l k c (([], d) ∷ ts) pair flat under =
-    pairs_above width l k c ts pair flat.1 under.1
-pairs_above width l k c ((m ∷ [], d) ∷ ts) pair flat under =
-    pairs_above width l k c ts pair flat.1 under.1
-pairs_above width l k c ((m ∷ n ∷ [], d) ∷ ts) pair flat under =
+pairs_above width l k c (t ∷ ts) pair flat under =
     grind (arith, nat_tests, ints, pairs_above width l k c ts pair flat.1 under.1)
-pairs_above width l k c ((m ∷ n ∷ o ∷ ls, d) ∷ ts) pair flat under = absurd flat.0
 
 pairs_ascend : (width : ℕ) (ts : List Term) → AllByRecursion (OfSet (IsFlat width)) ts → Ascends ts
     → IsStrictlySortedBy entry_cmp (pairs_of ts)
@@ -138,14 +172,10 @@ pairs_ascend width ((l ∷ k ∷ [], c) ∷ ts) flat ascends =
 pairs_ascend width ((l ∷ k ∷ m ∷ ls, c) ∷ ts) flat ascends = absurd flat.0
 
 pairs_couple : (width : ℕ) (ts : List Term) → AllByRecursion (OfSet (IsFlat width)) ts
-    → AllByRecursion (λ (t : Term). t.1 ≢ pos 0) ts
-    → AllByRecursion (IsCoupler width) (pairs_of ts)
+    → AllByRecursion (λ (t : Term). t.1 ≢ pos 0) ts → AllByRecursion (IsCoupler width) (pairs_of ts)
 pairs_couple width [] flat nonzero = tt
-pairs_couple width (([], c) ∷ ts) flat nonzero = pairs_couple width ts flat.1 nonzero.1
-pairs_couple width ((l ∷ [], c) ∷ ts) flat nonzero = pairs_couple width ts flat.1 nonzero.1
-pairs_couple width ((l ∷ k ∷ [], c) ∷ ts) flat nonzero =
+pairs_couple width (t ∷ ts) flat nonzero =
     grind (arith, nat_tests, pairs_couple width ts flat.1 nonzero.1)
-pairs_couple width ((l ∷ k ∷ m ∷ ls, c) ∷ ts) flat nonzero = absurd flat.0
 
 -- ---- what is kept
 

@@ -40,8 +40,7 @@ module _ (s k : SumsContent) (ls : List Literal) (z : ℤ) (set : IsTermSet (len
   held-more t c is low held =
       let one : List Term = (ls, z) ∷ [] in
       let shares = flat_map_more short_shares [] t.terms (ls, z) in
-      subst (λ w. AreSummed (with_appended t ls w) k) is
-      (record {
+      subst (λ w. AreSummed (with_appended t ls w) k) is (record {
         width = added.gain.width ∙ held.width;
         sets = All-push (λ (u : Term). IsTermSet t.width u.0) t.terms (ls, z) held.sets (rw held.width at set);
         low = All-push (λ (u : Term). length u.0 ≤ 2) t.terms (ls, z) held.low low;

@@ -2,8 +2,6 @@ pub mod Common
 pub mod NodeEntries
 pub mod NodeEnergies
 pub mod WrittenModels
-pub mod FlatSets
-pub mod FlatSums
 pub mod FlatForms
 pub mod UniqueForms
 pub mod Divisors

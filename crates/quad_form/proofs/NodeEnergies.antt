@@ -9,8 +9,7 @@ pub weights_more : (ws : List ℤ) (i : ℕ) (d : ℤ) → i < length ws
     → weight_total (node_entries 0 (take (i + 1) ws))
     ≡ weight_total (node_entries 0 (take i ws)) + unsigned_abs (get_or ws i d)
 weights_more ws i d h =
-    ap weight_total (node_entries_more ws i d h)
-    ∙ sum_by_push size (node_entries 0 (take i ws))
+    ap weight_total (node_entries_more ws i d h) ∙ sum_by_push size (node_entries 0 (take i ws))
     (record { first = i; second = i; weight = get_or ws i d })
 
 -- the weights of some nodes are within those of all

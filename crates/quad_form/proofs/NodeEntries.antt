@@ -1,11 +1,9 @@
 -- The entries of nodes that are numbered one after another, before couplers.
-use Rattle.quad_form.proofs.Common.{nat_tests, ints, ◌≡◌, ◌≢◌, ℕ, suc, ◌+◌, ◌<◌, ◌≤◌, true, ℤ, pos, List, [], ◌∷◌, ◌++◌, length, take, get_or, All, ap, ◌∙◌, arith, AllByRecursion, IsStrictlySortedBy, take_more, length-take, All-append, All-from_recursion, All-weaker, recursion_from_All, Entry, is_coupler, entry_cmp, has_node, IsPlaced, node_entries, IsCoupler}
-use Rattle.std.specs.declared.cmp.Ordering.TheVariants.{Less}
+use Rattle.quad_form.proofs.Common.{nat_tests, ints, ◌≡◌, ◌≢◌, ℕ, suc, ◌+◌, ◌<◌, ◌≤◌, true, ℤ, pos, List, [], ◌∷◌, ◌++◌, length, take, get_or, All, ap, ◌∙◌, arith, AllByRecursion, IsStrictlySortedBy, take_more, length-take, All-append, All-from_recursion, All-weaker, recursion_from_All, Entry, is_coupler, entry_cmp, has_node, IsPlaced, node_entries, IsCoupler, Less}
 
 -- ---- one more node
 
-node_entries_push : (n : ℕ) (ws : List ℤ) (w : ℤ)
-    → node_entries n (ws ++ w ∷ [])
+node_entries_push : (n : ℕ) (ws : List ℤ) (w : ℤ) → node_entries n (ws ++ w ∷ [])
     ≡ node_entries n ws ++ record { first = n + length ws; second = n + length ws; weight = w } ∷ []
 node_entries_push n [] w = grind (arith, nat_tests, ints)
 node_entries_push n (v ∷ ws) w = grind (arith, nat_tests, ints, node_entries_push (suc n) ws w)
@@ -16,8 +14,7 @@ pub node_entries_more : (ws : List ℤ) (i : ℕ) (d : ℤ) → i < length ws
     ≡ node_entries 0 (take i ws) ++ record { first = i; second = i; weight = get_or ws i d } ∷ []
 node_entries_more ws i d h =
     let size : 0 + length (take i ws) ≡ i = omega (arith, length-take i ws) in
-    ap (node_entries 0) (take_more ws i d h)
-    ∙ node_entries_push 0 (take i ws) (get_or ws i d)
+    ap (node_entries 0) (take_more ws i d h) ∙ node_entries_push 0 (take i ws) (get_or ws i d)
     ∙ ap (λ k. node_entries 0 (take i ws)
     ++ record { first = k; second = k; weight = get_or ws i d } ∷ []) size
 
@@ -102,6 +99,5 @@ nodes_nonzero n (w ∷ ws) = (λ is none. grind (arith, nat_tests), nodes_nonzer
 pub all_nonzero : (ws : List ℤ) (cs : List Entry) → All (IsCoupler (length ws)) cs
     → All (λ e. is_coupler e ≡ true → e.weight ≢ pos 0) (node_entries 0 ws ++ cs)
 all_nonzero ws cs h =
-    All-append IsNonzero (node_entries 0 ws) cs
-    (All-from_recursion _ _ (nodes_nonzero 0 ws))
+    All-append IsNonzero (node_entries 0 ws) cs (All-from_recursion _ _ (nodes_nonzero 0 ws))
     (All-weaker (IsCoupler (length ws)) IsNonzero (λ c coupler is. coupler.nonzero) cs h)

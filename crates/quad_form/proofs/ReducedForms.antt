@@ -2,8 +2,7 @@
 --
 -- What the weights keep is the same for bits and for spins, whose energies are both linear in the
 -- weights.
-use Rattle.quad_form.proofs.Common.{nat_tests, ◌≡◌, ℕ, ◌+◌, ◌*◌, ◌<◌, ◌≤◌, Bool, ℤ, pos, neg_ℤ, ◌+ℤ◌, ◌*ℤ◌, ◌≤ℤ◌, unsigned_abs, List, length, map, All, ap, ◌∙◌, subst, arith, ◌∣◌, mul-le-mul_right, ints, length-map, Form, total_by, Entry, Reduces, IsMultiple, bits_energy, weight_total, QuadContent, IsQuad, entries_of, node_entries, quad_total, form_of, unit_of, weights_of, counted_in, entry_in, quad_unit, reduced, IsReducedAsWritten}
-use Rattle.base.specs.declared.costs.Cost.TheVariants.{Whole}
+use Rattle.quad_form.proofs.Common.{nat_tests, ◌≡◌, ℕ, ◌+◌, ◌*◌, ◌<◌, ◌≤◌, Bool, ℤ, pos, neg_ℤ, ◌+ℤ◌, ◌*ℤ◌, ◌≤ℤ◌, unsigned_abs, List, length, map, All, ap, ◌∙◌, subst, arith, ◌∣◌, mul-le-mul_right, ints, length-map, Form, total_by, Entry, Reduces, IsMultiple, bits_energy, weight_total, QuadContent, IsQuad, entries_of, node_entries, quad_total, form_of, unit_of, weights_of, counted_in, entry_in, quad_unit, reduced, IsReducedAsWritten, Whole}
 use Rattle.quad_form.proofs.Divisors.{exact}
 use Rattle.quad_form.proofs.UnitEntries.{DividesEach, unit_in, unit_divides, one_le_unit, weights-entries, entries-in, total-in, energy-in, ordered-in, couplers-in, quotients_coprime, unit_of_zeros, each_of_rest}
 
@@ -87,12 +86,10 @@ energy_each f linear u e h =
     linear (pos u) (entry_in (pos u) e)
     ∙ ap (λ w. f (record e { weight = w })) (exact u e.weight h)
 
-forms_reduce : (f : List Bool → Entry → ℤ) → ((y : List Bool) → IsLinear (f y))
-    → (q : QuadContent)
+forms_reduce : (f : List Bool → Entry → ℤ) → ((y : List Bool) → IsLinear (f y)) → (q : QuadContent)
     → Reduces (form_by f q) (form_by f (reduced q)) (quad_unit q) (neg_ℤ q.constant)
 forms_reduce f linear q =
-    subst (λ u. Reduces (form_by f q) (form_by f (counted_form u q)) u (neg_ℤ q.constant))
-    (unit_is q) counted
+    rw (← unit_is q) counted
   where
     u : ℕ
     u = unit_number q
@@ -107,9 +104,7 @@ forms_reduce f linear q =
           let taken : sum ≡ (q.constant +ℤ sum) +ℤ neg_ℤ q.constant = omega (arith, ints) in
           ap (λ z. pos u *ℤ z) (none (total_by (f y) (entries_of (counted_form (pos u) q)))
           ∙ ap (total_by (f y)) (entries_counted (pos u) q))
-          ∙ energy-in (f y) u (entries_of q) (unit_divides (entries_of q))
-          (energy_each (f y) (linear y) u)
-          ∙ taken;
+          ∙ energy-in _ _ _ (unit_divides (entries_of q)) (energy_each (f y) (linear y) u) ∙ taken;
     }
 
 pub reduced_reduces : (q : QuadContent)

@@ -33,8 +33,7 @@ table-gives ls g ts plus same short =
     let us = with_additions [] ts in
     coefficient_of-with_additions ls (contributions us)
     ∙ total_by-flat_map (λ (t : Term). if_so (is_eq (set_cmp ls t.0)) t.1) (λ (t : Term). plain_terms t.0 t.1) us
-    ∙ over_short (given_to ls) g us same short
-    ∙ given-with_additions g plus ts
+    ∙ over_short (given_to ls) g us same short ∙ given-with_additions g plus ts
 
 -- ---- additions that sums hold
 
@@ -92,10 +91,8 @@ module _ (t : TableContent) (s : SumsContent) (fits : IsSums s) (held : AreSumme
   sums_are_image q quad same nodes summed =
       let wide : length s.weights ≡ length (image u).diagonal = held.width ∙ sym (length-image u) in
       let diagonal : q.diagonal ≡ (image u).diagonal =
-      nodes
-      ∙ same_lists s.weights (image u).diagonal wide (λ k d in'.
-      get_or_default s.weights k d (pos 0) in'
-      ∙ sym (weight k (subst (λ n. k < n) held.width in'))
+      nodes ∙ same_lists s.weights (image u).diagonal wide (λ k d in'.
+      get_or_default s.weights k d (pos 0) in' ∙ sym (weight k (subst (λ n. k < n) held.width in'))
       ∙ get_or_default (image u).diagonal k (pos 0) d (subst (λ n. k < n) wide in')) in
       let couplers : q.couplers ≡ (image u).couplers =
       same_couplers q (image u) quad kept (λ i j. summed.sums i j ∙ sym (pair i j)) in
@@ -134,7 +131,6 @@ IsQuad-sums s constant diagonal couplers fits same nodes summed =
 pub table_of-table : (t : TableContent) → IsTable t → table_of t ≡ t
 table_of-table t table =
     let same : with_additions [] t.terms ≡ t.terms =
-    same_tables t.width (with_additions [] t.terms) t.terms
-    (AreTerms-with_additions t.width t.terms table.terms.sets) table.terms
+    same_tables _ _ _ (AreTerms-with_additions t.width t.terms table.terms.sets) table.terms
     (λ ls. coefficient_of-with_additions ls t.terms) in
     λ k. record { width = t.width; terms = same k }

@@ -1,10 +1,7 @@
 -- A quadratic form is told by its constant, its weights of nodes and the sum that it has for each
 -- pair, and for terms over variables these are the sums of the coefficients of a set.
-use Rattle.quad_form.proofs.Common.{◌≡◌, ℕ, ◌*◌, ◌<◌, ◌≤◌, ◌^◌, false, ◌&&◌, eqb, ℤ, pos, ◌+ℤ◌, List, [], ◌∷◌, length, get_or, fold, sym, subst, ◌∙◌, arith, slice_set, AllByRecursion, slice_index_or, ordering_then, is_eq, Ordering, ints, nat_tests, get_or-set_same, get_or-set_other, All-weaker, recursion_from_All, if_so, total_by_push, Entry, Literal, Term, set_cmp, coefficient_of, with_additions, terms_total, TableContent, IsTable, IsLow, contributions, terms_total-with_additions, OfSet, AreTerms-with_additions, QuadContent, IsCoupler, IsQuad, with_term, image, IsFlat, length-with_term, flat_sets, flat_contributions, IsNonzero, weight_at, same_entries, ArePairs, rising_from_ordered}
-use Rattle.std.specs.declared.cmp.Ordering.TheVariants.{Less, Greater}
-use Rattle.quad_form.proofs.FlatForms.{IsQuad-of}
-use Rattle.quad_form.proofs.FlatSets.{IsTermSet-flat}
-use Rattle.quad_form.proofs.FlatSums.{terms_total-contributions}
+use Rattle.quad_form.proofs.Common.{◌≡◌, ℕ, ◌*◌, ◌<◌, ◌≤◌, ◌^◌, false, ◌&&◌, eqb, ℤ, pos, ◌+ℤ◌, List, [], ◌∷◌, length, get_or, fold, sym, subst, ◌∙◌, arith, slice_set, AllByRecursion, slice_index_or, ordering_then, is_eq, Ordering, ints, nat_tests, get_or-set_same, get_or-set_other, All-weaker, recursion_from_All, if_so, total_by_push, Entry, Literal, Term, set_cmp, coefficient_of, with_additions, terms_total, TableContent, IsTable, IsLow, contributions, terms_total-with_additions, OfSet, AreTerms-with_additions, QuadContent, IsCoupler, IsQuad, with_term, image, IsFlat, length-with_term, flat_sets, flat_contributions, IsNonzero, weight_at, same_entries, ArePairs, rising_from_ordered, Less, Greater}
+use Rattle.quad_form.proofs.FlatForms.{IsQuad-of, IsTermSet-flat, terms_total-contributions}
 
 -- ---- the sets of a constant, a node and a pair
 
@@ -16,9 +13,6 @@ then_less o = grind (arith, nat_tests)
 
 pub then_greater : (o : Ordering) → is_eq (ordering_then o Greater) ≡ false
 then_greater o = grind (arith, nat_tests)
-
-pub then_both : (o p : Ordering) → is_eq (ordering_then o p) ≡ (is_eq o && is_eq p)
-then_both o p = grind (arith, nat_tests)
 
 pub one_is : (i : ℕ) (l : Literal) → l.negated ≡ false
     → is_eq (set_cmp (node i ∷ []) (l ∷ [])) ≡ eqb i l.variable
@@ -36,10 +30,7 @@ AreFlat width ts = AllByRecursion (OfSet (IsFlat width)) ts
 pub constant-fold : (q : QuadContent) (ts : List Term)
     → (fold with_term q ts).constant ≡ q.constant +ℤ coefficient_of [] ts
 constant-fold q [] = omega (arith, ints)
-constant-fold q (([], c) ∷ ts) = omega (arith, ints, constant-fold (with_term q ([], c)) ts)
-constant-fold q ((l ∷ [], c) ∷ ts) = omega (arith, ints, constant-fold (with_term q (l ∷ [], c)) ts)
-constant-fold q ((l ∷ k ∷ ls, c) ∷ ts) =
-    omega (arith, ints, constant-fold (with_term q (l ∷ k ∷ ls, c)) ts)
+constant-fold q (t ∷ ts) = grind (arith, nat_tests, ints, constant-fold (with_term q t) ts)
 
 -- a node's weight grows by the coefficients of its own terms alone
 pub grown : (ws : List ℤ) (i n : ℕ) (c : ℤ) → n < length ws
@@ -53,18 +44,13 @@ node-with_term : (q : QuadContent) (i : ℕ) (ls : List Literal) (c : ℤ) → I
 node-with_term q i ls c flat = grind (arith, nat_tests, ints, one_is, grown, then_less)
 
 pub node-fold : (q : QuadContent) (width i : ℕ) (ts : List Term) → length q.diagonal ≡ width
-    → AreFlat width ts
-    → get_or (fold with_term q ts).diagonal i (pos 0)
+    → AreFlat width ts → get_or (fold with_term q ts).diagonal i (pos 0)
     ≡ get_or q.diagonal i (pos 0) +ℤ coefficient_of (node i ∷ []) ts
 node-fold q width i [] same flat = omega (arith, ints)
 node-fold q width i (t ∷ ts) same flat =
     let P : ℕ → Type 0 = λ n. IsFlat n t.0 in
-    omega (
-      arith,
-      ints,
-      node-fold (with_term q t) width i ts (length-with_term q t ∙ same) flat.1,
-      node-with_term q i t.0 t.1 (subst P (sym same) flat.0),
-    )
+    let rest = node-fold (with_term q t) width i ts (length-with_term q t ∙ same) flat.1 in
+    omega (arith, ints, node-with_term q i t.0 t.1 (subst P (sym same) flat.0))
 
 pair-with_term : (q : QuadContent) (i j width : ℕ) (ls : List Literal) (c : ℤ) → IsFlat width ls
     → weight_at i j (with_term q (ls, c)).couplers
@@ -77,12 +63,8 @@ pub pair-fold : (q : QuadContent) (i j width : ℕ) (ts : List Term) → AreFlat
     ≡ weight_at i j q.couplers +ℤ coefficient_of (node i ∷ node j ∷ []) ts
 pair-fold q i j width [] flat = omega (arith, ints)
 pair-fold q i j width (t ∷ ts) flat =
-    omega (
-      arith,
-      ints,
-      pair-fold (with_term q t) i j width ts flat.1,
-      pair-with_term q i j width t.0 t.1 flat.0,
-    )
+    let rest = pair-fold (with_term q t) i j width ts flat.1 in
+    omega (arith, ints, pair-with_term q i j width t.0 t.1 flat.0)
 
 -- ---- the image
 
@@ -97,8 +79,7 @@ nonzero_couplers n [] all = tt
 nonzero_couplers n (e ∷ es) all = (all.0.nonzero, nonzero_couplers n es all.1)
 
 pub same_couplers : (q r : QuadContent) → IsQuad q → IsQuad r
-    → ((i j : ℕ) → weight_at i j q.couplers ≡ weight_at i j r.couplers)
-    → q.couplers ≡ r.couplers
+    → ((i j : ℕ) → weight_at i j q.couplers ≡ weight_at i j r.couplers) → q.couplers ≡ r.couplers
 same_couplers q r a b same =
     let all = recursion_from_All _ _ a.couplers in
     let others = recursion_from_All _ _ b.couplers in

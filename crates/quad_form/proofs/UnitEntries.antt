@@ -1,6 +1,5 @@
 -- Entries whose weights are counted in a unit that divides them.
-use Rattle.quad_form.proofs.Common.{nat_tests, ◌≡◌, ◌≢◌, inl, inr, ℕ, suc, ◌+◌, ◌*◌, ◌<◌, ◌≤◌, ℤ, pos, ◌+ℤ◌, ◌*ℤ◌, unsigned_abs, List, [], ◌∷◌, ◌++◌, All, map, refl, sym, ap, ◌∙◌, subst, arith, ◌∣◌, AllByRecursion, sum_by, IsStrictlySortedBy, mul-le-mul_left, dvd-mul_right, mul-dvd-mul_left, ints, unsigned_abs-mul, map-append, sum_by-cons, sum_by-append, recursion_from_All, All-from_recursion, total_by, times-plus, Entry, IsMultiple, entry_cmp, weight_total, node_entries, IsCoupler, greatest_within, IsCommonDivisor, weight_of, weights_of, counted_in, entry_in}
-use Rattle.std.specs.declared.cmp.Ordering.TheVariants.{Less}
+use Rattle.quad_form.proofs.Common.{nat_tests, ◌≡◌, ◌≢◌, inl, inr, ℕ, suc, ◌+◌, ◌*◌, ◌<◌, ◌≤◌, ℤ, pos, ◌+ℤ◌, ◌*ℤ◌, unsigned_abs, List, [], ◌∷◌, ◌++◌, All, map, refl, sym, ap, ◌∙◌, subst, arith, ◌∣◌, AllByRecursion, sum_by, IsStrictlySortedBy, mul-le-mul_left, dvd-mul_right, mul-dvd-mul_left, ints, unsigned_abs-mul, map-append, sum_by-cons, sum_by-append, recursion_from_All, All-from_recursion, total_by, times-plus, Entry, IsMultiple, entry_cmp, weight_total, node_entries, IsCoupler, greatest_within, IsCommonDivisor, weight_of, weights_of, counted_in, entry_in, Less}
 use Rattle.quad_form.proofs.Divisors.{Divides, greatest_divides, one_le_greatest, greatest_above, none_or_within, unit_of_nothing, divisor_of_both, divisor_within, exact, size-exact}
 
 -- d divides the size of each entry's weight
@@ -33,8 +32,7 @@ sizes-entries (e ∷ es) = omega (arith, sizes-entries es, sum_by-cons)
 pub sizes_of_weights : (ws : List ℤ) (cs : List Entry)
     → sum_by unsigned_abs (weights_of ws cs) ≡ weight_total (node_entries 0 ws) + weight_total cs
 sizes_of_weights ws cs =
-    ap (sum_by unsigned_abs) (sym (weights-entries ws cs))
-    ∙ sizes-entries (node_entries 0 ws ++ cs)
+    ap (sum_by unsigned_abs) (sym (weights-entries ws cs)) ∙ sizes-entries (node_entries 0 ws ++ cs)
     ∙ sum_by-append (λ (e : Entry). unsigned_abs e.weight) (node_entries 0 ws) cs
 
 -- the divisor of all weights
@@ -66,8 +64,7 @@ pub total-in : (u : ℕ) (es : List Entry) → DividesEach u es
     → u * weight_total (map (entry_in (pos u)) es) ≡ weight_total es
 total-in u [] h = omega arith
 total-in u (e ∷ es) h =
-    let own = size-exact u e.weight h.0 in
-    simp sum_by-cons (omega (arith, own, total-in u es h.1))
+    simp sum_by-cons (omega (arith, size-exact u e.weight h.0, total-in u es h.1))
 
 -- an energy of entries is divided by the unit, where it is of each entry
 pub energy-in : (f : Entry → ℤ) (u : ℕ) (es : List Entry) → DividesEach u es
@@ -80,8 +77,7 @@ energy-in f u (e ∷ es) h of_each =
 
 -- ---- couplers
 
-before-in : (unit : ℤ) (e : Entry) (es : List Entry)
-    → AllByRecursion (λ f. entry_cmp e f ≡ Less) es
+before-in : (unit : ℤ) (e : Entry) (es : List Entry) → AllByRecursion (λ f. entry_cmp e f ≡ Less) es
     → AllByRecursion (λ f. entry_cmp (entry_in unit e) f ≡ Less) (map (entry_in unit) es)
 before-in unit e [] h = tt
 before-in unit e (f ∷ fs) h = (h.0, before-in unit e fs h.1)
@@ -133,8 +129,7 @@ product_divides : (u d : ℕ) (es : List Entry) → DividesEach u es
     → Divides (u * d) (map weight_of es)
 product_divides u d [] h all = tt
 product_divides u d (e ∷ es) h all =
-    let quotient = counted_in (pos u) e.weight in
-    let this = mul-dvd-mul_left d u (size-multiple d quotient all.0) in (
+    let this = mul-dvd-mul_left d u (size-multiple d (counted_in (pos u) e.weight) all.0) in (
       subst (λ n. u * d ∣ n) (size-exact u e.weight h.0) this,
       product_divides u d es h.1 all.1,
     )
@@ -148,8 +143,7 @@ zero_if_none u (e ∷ es) h one none =
     grind (arith, nat_tests, zero_if_none u es h.1 one (omega (arith, sum)))
 
 none_if_zero : (u : ℕ) (es : List Entry) → DividesEach u es
-    → AllByRecursion IsZero (map (entry_in (pos u)) es)
-    → sum_by unsigned_abs (map weight_of es) ≡ 0
+    → AllByRecursion IsZero (map (entry_in (pos u)) es) → sum_by unsigned_abs (map weight_of es) ≡ 0
 none_if_zero u [] h all = refl
 none_if_zero u (e ∷ es) h all =
     let none : unsigned_abs (counted_in (pos u) e.weight) ≡ 0 = ap unsigned_abs all.0 in
@@ -167,8 +161,7 @@ quotients_coprime es d more all =
     let divides = product_divides u d es (unit_divides es) (recursion_from_All _ _ all) in
     let two : 2 ≤ d = omega (arith, more) in
     let grown : u < u * d = omega (arith, mul-le-mul_left u two, one) in
-    All-from_recursion _ _
-    (elim (none_or_within (u * d) ws divides) [
+    All-from_recursion _ _ (elim (none_or_within (u * d) ws divides) [
       | inl none ↦ zero_if_none u es (unit_divides es) one none
       | inr low ↦
           let most = greatest_above (sum_by unsigned_abs ws) (u * d) ws (omega (arith, grown)) low divides in

@@ -1,7 +1,6 @@
 -- The model of a quadratic form: it is well formed, and has the form's energies but for the
 -- constant.
-use Rattle.quad_form.proofs.Common.{nat_tests, ◌≡◌, ℕ, ◌≤◌, ◌⊎◌, ℤ, pos, neg_ℤ, ◌+ℤ◌, ◌*ℤ◌, ◌≤ℤ◌, ◌<ℤ◌, Bool, List, length, take, refl, sym, ap, ◌∙◌, arith, ints, recursion_from_All, total_by, Figures, Form, figures_moved, Decoding, Relaxes, IsWellFormed, bits_energy, decoding_of, QuadContent, IsQuad, form_of, written_of, entries_of, RelaxesAsWritten}
-use Rattle.base.specs.declared.costs.Cost.TheVariants.{Whole}
+use Rattle.quad_form.proofs.Common.{nat_tests, ◌≡◌, ℕ, ◌≤◌, ◌⊎◌, ℤ, pos, neg_ℤ, ◌+ℤ◌, ◌*ℤ◌, ◌≤ℤ◌, ◌<ℤ◌, Bool, List, length, take, refl, sym, ap, ◌∙◌, arith, ints, recursion_from_All, total_by, Figures, Form, figures_moved, Decoding, Relaxes, IsWellFormed, bits_energy, QuadContent, IsQuad, form_of, written_of, entries_of, RelaxesAsWritten, Whole}
 use Rattle.quad_form.proofs.NodeEntries.{nodes_ordered, couplers_up, all_placed, has_each_node, all_nonzero}
 
 pub written_is_well_formed : (q : QuadContent) (variables : ℕ) (figures : Figures) (unit : ℤ)
@@ -79,10 +78,8 @@ moved_relaxes source bits sum energy c d e n unit counted same is p = record {
 
 pub written_relaxes : (source : Form) (q : QuadContent) (d : Decoding) (variables : ℕ)
     (figures : Figures) (unit : ℤ) → (unit ≡ pos 1) ⊎ (q.constant ≡ pos 0)
-    → ((y : List Bool) → d.decoded y ≡ take variables y)
-    → Relaxes source (form_of q) d unit figures
+    → ((y : List Bool) → d.decoded y ≡ take variables y) → Relaxes source (form_of q) d unit figures
     → RelaxesAsWritten source (written_of q variables figures unit)
 written_relaxes source q d variables n unit counted same p =
     let sum : List Bool → ℤ = λ y. total_by (bits_energy y) (entries_of q) in
-    moved_relaxes source (length q.diagonal) sum sum q.constant d
-    (decoding_of (written_of q variables n unit)) n unit counted same (λ y. refl) p
+    moved_relaxes _ _ _ _ _ _ _ _ _ counted same (λ y. refl) p

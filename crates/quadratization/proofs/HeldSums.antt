@@ -1,10 +1,136 @@
--- What is held of additions, and what long terms give beside it, are the sums of all parts.
-use Rattle.quadratization.proofs.Common.{pairs, all-append, nat_tests, ◌≡◌, inl, inr, ℕ, ◌+◌, ◌*◌, ◌<◌, ◌≤◌, ◌^◌, arith, refl, sym, subst, ap, ◌∙◌, List, [], ◌∷◌, ◌++◌, length, ℤ, pos, ◌+ℤ◌, unsigned_abs, All, AllByRecursion, flat_map, IsPermutation, sum_by-IsPermutation, ints, cases_lt, All-filter, All-map, All-weaker, recursion_from_All, total_by, total_by-append, total_by-IsPermutation, Entry, weight_total, Literal, Product, Term, IsTermSet, terms_total, with_additions, TableContent, AreAdditions, terms_total-with_additions, OfSet, All-with_additions, terms_total-map, new_nodes, IsPair, weight_for, weight_at, is_long, table_of, short_terms, long_additions, long_terms, share_at, short_couplers, short_shares, SumsContent, Gain, IsSums, size_of, widened, share_at-append, length-widened, value-widened, all_nodes, Place, places_in, term_places, all_places, place_couplers, all_shares, long_constant, product_term, terms_of, node_count, AreLong, couplers_of, IsSumOf, HeldContent, AreHeld, IsHeld, held_of, AreRows}
+-- Steps of making the form of additions: one addition more, and the rows from the first to the last.
+use Rattle.quadratization.proofs.Common.{nat_tests, ◌≡◌, ℕ, ◌<◌, true, false, arith, List, [], ◌∷◌, ◌++◌, append-nil, length, ℤ, pos, filter-append, Term, TableContent, is_low, QuadContent, short_terms, long_additions, all_nodes, couplers_of, IsSumOf, AreRows, ints, ◌+◌, ◌-◌, ◌≤◌, ◌^◌, refl, sym, subst, ap, ◌∙◌, map, unsigned_abs, All, Result, OnOk, OnErr, map-append, All-push, All-weaker, filter_passes, recursion_from_All, sum_by-filter_both, sum_by-append, sum_by-cons, le-leb, lt-leb, Literal, Product, products_total, terms_total, IsTermSet, with_appended, IsTermSet-wider, terms_total-map, filter-all, filter-none, SumsContent, is_long, product_term, short_part, AreHeld, IsHeld, held_of, pairs, all-append, inl, inr, ◌*◌, ◌+ℤ◌, AllByRecursion, flat_map, IsPermutation, sum_by-IsPermutation, cases_lt, All-filter, All-map, total_by, total_by-append, total_by-IsPermutation, Entry, weight_total, with_additions, AreAdditions, terms_total-with_additions, OfSet, All-with_additions, new_nodes, IsPair, weight_for, weight_at, table_of, long_terms, short_shares, Gain, IsSums, size_of, widened, share_at-append, length-widened, value-widened, Place, places_in, term_places, all_places, place_couplers, all_shares, long_constant, terms_of, node_count, AreLong, HeldContent, IsQuad, IsWithin}
+use Rattle.quad_form.specs.Sums.{AreSummed}
+use Rattle.quadratization.specs.Held.{sums_of}
 use Rattle.quadratization.proofs.LongPlaces.{differs}
 use Rattle.quadratization.proofs.SortedAdditions.{AreLong-table}
-use Rattle.quadratization.proofs.Gathering.{sum-of_rows}
-use Rattle.quadratization.proofs.PartSizes.{long_constants-size, AreLong as AreShort}
-use Rattle.quadratization.proofs.RowSums.{weight-below, weight-place_other}
+use Rattle.quadratization.proofs.GainedShares.{long_constants-size, AreShort}
+use Rattle.quadratization.proofs.RowForms.{weight-below, weight-place_other}
+use Rattle.quadratization.proofs.AtOnce.{image-quad, sum_is_image}
+
+-- ---- one addition more
+
+-- a short one is appended to the short ones
+pub short-more : (ts : List Term) (t : Term) → is_low t ≡ true
+    → (short_terms (ts ++ t ∷ []) ≡ short_terms ts ++ t ∷ [])
+    × (long_additions (ts ++ t ∷ []) ≡ long_additions ts)
+short-more ts t low = grind (arith, nat_tests, filter-append, append-nil)
+
+-- a long one to the long ones
+pub long-more : (ts : List Term) (t : Term) → is_low t ≡ false
+    → (short_terms (ts ++ t ∷ []) ≡ short_terms ts)
+    × (long_additions (ts ++ t ∷ []) ≡ long_additions ts ++ t ∷ [])
+long-more ts t high = grind (arith, nat_tests, filter-append, append-nil)
+
+-- Additions of which the sums of short terms and the long ones are held: one addition more, the short
+-- ones alone, and more nodes.
+
+-- ---- short and long additions
+
+short-twice : (ts : List Term) → short_terms (short_terms ts) ≡ short_terms ts
+short-twice ts = grind (arith, nat_tests, filter-all, recursion_from_All, filter_passes)
+
+long-short : (ts : List Term) → long_additions (short_terms ts) ≡ []
+long-short ts = grind (arith, nat_tests, filter-none, recursion_from_All, filter_passes)
+
+pub total-parts : (ts : List Term)
+    → terms_total (short_terms ts) + terms_total (long_additions ts) ≡ terms_total ts
+total-parts ts = sum_by-filter_both is_low is_long (λ t. refl) (λ (t : Term). unsigned_abs t.1) ts
+
+-- ---- what is held
+
+-- its sums of short terms
+same_sums : (s : SumsContent) (long : List Product) → sums_of (held_of s long) ≡ s
+same_sums s long =
+    let back : (s.total + products_total long) - products_total long ≡ s.total = omega arith in
+    λ k. record { total = back k; constant = s.constant; weights = s.weights; pairs = s.pairs }
+
+module _ (s : SumsContent) (long : List Product) where
+  pub sums-held : (t : TableContent) → AreHeld t (held_of s long) → AreSummed (short_part t) s
+  sums-held t held = subst (AreSummed (short_part t)) (same_sums s long) held.short
+
+  pub held-sums : (t : TableContent) → AreSummed (short_part t) s → map product_term long ≡ long_additions t.terms
+      → AreHeld t (held_of s long)
+  held-sums t summed longs = record {
+    total = omega (arith, terms_total-map, ap terms_total longs, total-parts);
+    short = subst (AreSummed (short_part t)) (sym (same_sums s long)) summed;
+    long = longs;
+  }
+
+-- ---- answers
+
+-- what follows from both answers of a call holds
+pub either : {T E P Q R : Type 0} (r : Result T E) → OnOk r P → OnErr r Q → (P → R) → (Q → R) → R
+either r p q f g = grind (arith, nat_tests)
+
+pub both_ok : {T E : Type 0} (P Q : Type 0) (r : Result T E) → OnOk r P → OnOk r Q → OnOk r (P × Q)
+both_ok P Q r p q = grind (arith, nat_tests)
+
+-- ---- one addition more
+
+pub products_more : (long : List Product) (ls : List Literal) (c : ℤ)
+    → products_total (long ++ record { literals = ls; coefficient = c } ∷ []) ≡ products_total long + unsigned_abs c
+products_more long ls c = grind (arith, nat_tests, ints, sum_by-append, sum_by-cons)
+
+module _ (s : SumsContent) (long : List Product) (ls : List Literal) (z : ℤ) where
+  -- a short one, where the code has the coefficient as z
+  pub held-short : (new : SumsContent) (t : TableContent) (c : ℤ) → z ≡ c → length ls ≤ 2 → AreHeld t (held_of s long)
+      → AreSummed (with_appended (short_part t) ls z) new → AreHeld (with_appended t ls c) (held_of new long)
+  held-short new t c is low held summed =
+      let more = short-more t.terms (ls, z) (le-leb (length ls) 2 low) in
+      rw (← is) (held-sums new long (with_appended t ls z)
+      (rw more.0 summed) (held.long ∙ sym more.1))
+
+  pub fits-short : (new : SumsContent) → IsHeld (held_of s long) → length new.weights ≡ length s.weights
+      → new.total ≡ s.total + unsigned_abs z → s.total + products_total long + unsigned_abs z ≤ 2 ^ 97
+      → IsHeld (held_of new long)
+  fits-short new fits width total low = record {
+    total = omega (arith, total, low);
+    long = fits.long;
+    sets = subst (λ n. All (λ (p : Product). IsTermSet n p.literals) long) (sym width) fits.sets;
+  }
+
+  -- a long one
+  pub held-long : (new : List Product) (t : TableContent) (c : ℤ) → z ≡ c → 2 < length ls → AreHeld t (held_of s long)
+      → new ≡ long ++ record { literals = ls; coefficient = z } ∷ [] → AreHeld (with_appended t ls c) (held_of s new)
+  held-long new t c is high held pushed =
+      let more = long-more t.terms (ls, z) (lt-leb (length ls) 2 high) in
+      rw (← is) (held-sums s new (with_appended t ls z) (rw more.0 (sums-held s long t held))
+      (ap (map product_term) pushed ∙ map-append product_term long _
+      ∙ ap (λ us. us ++ (ls, z) ∷ []) held.long ∙ sym more.1))
+
+  pub fits-long : (new : List Product) → IsHeld (held_of s long) → 2 < length ls → IsTermSet (length s.weights) ls
+      → s.total + products_total long + unsigned_abs z ≤ 2 ^ 97
+      → new ≡ long ++ record { literals = ls; coefficient = z } ∷ [] → IsHeld (held_of s new)
+  fits-long new fits high set low pushed =
+      let p : Product = record { literals = ls; coefficient = z } in
+      let n = length s.weights in
+      subst (λ ps. IsHeld (held_of s ps)) (sym pushed) (record {
+        total = omega (arith, low, products_more long ls z);
+        long = All-push (λ (q : Product). 3 ≤ length q.literals) long p fits.long (omega (arith, high));
+        sets = All-push (λ (q : Product). IsTermSet n q.literals) long p fits.sets set;
+      })
+
+-- ---- short additions alone, and more nodes
+
+module _ (s : SumsContent) (long : List Product) where
+  pub held-apart : (t : TableContent) (none : List Product) → none ≡ [] → AreHeld t (held_of s long)
+      → AreHeld (short_part t) (held_of s none)
+  held-apart t none is held =
+      grind (arith, nat_tests, held-sums, short-twice, sums-held, long-short)
+
+  pub fits-wider : (new : SumsContent) (nodes : ℕ) → length s.weights ≤ nodes → length new.weights ≡ nodes
+      → new.total ≡ s.total → IsHeld (held_of s long) → IsHeld (held_of new long)
+  fits-wider new nodes wider wide total fits =
+      record {
+        total = omega (arith, total, fits.total);
+        long = fits.long;
+        sets = subst (λ m. All (λ (p : Product). IsTermSet m p.literals) long) (sym wide)
+            (All-weaker _ _ (λ (p : Product) set. IsTermSet-wider _ nodes p.literals wider set) _
+            fits.sets);
+      }
+
+-- What is held of additions, and what long terms give beside it, are the sums of all parts.
 
 -- ---- what is held can be summed
 
@@ -132,23 +258,39 @@ module _ (t : TableContent) (h : HeldContent) (additions : AreAdditions t) (pair
       let outside = weight-places t.width i j places below past in
       simp total_by-append (omega (arith, ints, none, ap (weight_at i j) held.short.pairs, outside))
 
-  module _ (u : TableContent) (constant : ℤ) (weights : List ℤ) (couplers : List Entry) (most : ℕ) (same : u ≡ long_table t) where
-    pub sum-of_held : constant ≡ h.constant +ℤ total_by long_constant u.terms
-        → Gain (all_shares u.terms u.width) most (widened (node_count u) h.weights) weights
-        → AreRows (node_count u) u.width (h.pairs ++ flat_map place_couplers (all_places u.terms u.width)) couplers
-        → IsSumOf t (record { constant = constant; diagonal = weights; couplers = couplers })
-    sum-of_held sum gain rows =
-        let Rows : TableContent → List Entry → Type 0 =
-        λ v ps. AreRows (node_count v) v.width (ps ++ flat_map place_couplers (all_places v.terms v.width)) couplers in
-        let all_rows = subst (λ v. Rows v (flat_map short_couplers shorts)) same (subst (λ ps. Rows u ps) held.short.pairs rows) in
-        let all_gain = subst (λ (v : TableContent). Gain (all_shares v.terms v.width) most (widened (node_count v) h.weights) weights) same gain in
-        let sums = ap (λ (v : TableContent). total_by long_constant v.terms) same in
-        let wide = length-widened (all_nodes t) h.weights (omega (arith, held.short.width)) in
-        sum-of_rows t (record { constant = constant; diagonal = weights; couplers = couplers })
-        (omega (arith, ints, sum, held.short.constant, sums))
-        (all_gain.width ∙ wide)
-        (λ i in'.
-        all_gain.weights i
-        ∙ (λ k. (value-widened (all_nodes t) h.weights i ∙ held.short.weights i) k +ℤ share_at i (all_shares (long_terms t.terms) t.width))
-        ∙ sym (share_at-append i (flat_map short_shares shorts) (all_shares (long_terms t.terms) t.width)))
-        (rows-whole (all_nodes t) t.width (couplers_of t) couplers (omega arith) none-before all_rows)
+  pub sum-of_held : (constant : ℤ) (weights : List ℤ) (couplers : List Entry) (most : ℕ)
+      → constant ≡ h.constant +ℤ total_by long_constant (long_terms t.terms)
+      → Gain (all_shares (long_terms t.terms) t.width) most (widened (all_nodes t) h.weights) weights
+      → AreRows (all_nodes t) t.width (h.pairs ++ flat_map place_couplers places) couplers
+      → IsSumOf t (record { constant = constant; diagonal = weights; couplers = couplers })
+  sum-of_held constant weights couplers most sum gain rows =
+      let shares = all_shares (long_terms t.terms) t.width in
+      let wide = length-widened (all_nodes t) h.weights (omega (arith, held.short.width)) in
+      let whole = rows-whole (all_nodes t) t.width (couplers_of t) couplers (omega arith) none-before (rw held.short.pairs at rows) in
+      record {
+        constant = omega (arith, ints, sum, held.short.constant);
+        width = gain.width ∙ wide;
+        weights = λ i in'.
+            let old = value-widened (all_nodes t) h.weights i ∙ held.short.weights i in
+            omega (arith, ints, gain.weights i, old, share_at-append i (flat_map short_shares shorts) shares);
+        ordered = whole.ordered;
+        couplers = whole.couplers;
+        pairs = λ i j up in'. whole.sums i j (omega arith);
+      }
+
+-- What is made of additions that fit the fields of a form, and of those of a problem that is admitted.
+
+-- where the numbers of additions fit, so do the nodes of the long terms that are held
+pub nodes-held : (t : TableContent) (h : HeldContent) → IsWithin t → AreHeld t h
+    → node_count (table_of (terms_of (length h.weights) h.long)) < 2 ^ 32
+nodes-held t h within held = omega (arith, ap node_count (same_table t h held), within.narrow)
+
+-- the sums, where the code has others for the constant and the weights
+pub made_sums : (t : TableContent) (c z : ℤ) (ws ds : List ℤ) (es : List Entry) → z ≡ c → ds ≡ ws
+    → IsSumOf t (record { constant = c; diagonal = ws; couplers = es })
+    → IsSumOf t (record { constant = z; diagonal = ds; couplers = es })
+made_sums t c z ws ds es constant weights sums = grind (arith, nat_tests, ints)
+
+-- what has the sums is a quadratic form
+pub sums-quad : (t : TableContent) (q : QuadContent) → IsWithin t → IsSumOf t q → IsQuad q
+sums-quad t q within sums = subst IsQuad (sym (sum_is_image t q within sums)) (image-quad t within)

@@ -1,12 +1,27 @@
+-- What a term of at most two literals gives, where it stands for a part of a long one.
+use Rattle.quadratization.proofs.Common.{◌≡◌, ℕ, ◌&&◌, eqb, arith, [], ◌∷◌, ℤ, pos, ints, if_so, Literal, node, weight_for, signed, pair_coupler, share_at, short_constant-is, short_couplers-are, short_shares-are, cases_Bool, complements-cons, ◌⊎◌, inl, inr, zero, suc, ◌+◌, ◌-◌, ◌*◌, ◌≤◌, Bool, true, false, cond, int_lt, sym, ap, ◌∙◌, refl, List, ◌++◌, map, length, ◌+ℤ◌, ◌-ℤ◌, ◌*ℤ◌, neg_ℤ, if◌then◌else◌, flat_map, nat_tests, total_by, multiply_out, integers, times-plus, total_by-append, total_by-map, total_by-same, total_by-plus, total_by-if_so, total_by_push, Term, if_so-plus, with_each, each_with, pair_terms, factor, node_terms, nodes_for, positive_terms, negative_terms, new_terms, pairs, pairs_is, factor_cases, weight_at, sum_for, complements, pairs_among, node_coupler, node_couplers, place_couplers, literal_share, node_shares, term_shares, long_constant, places_in, term_places, Amount, given}
+use Rattle.quadratization.proofs.Apart.{share_of, sum_for-given}
+
+pub constant-two : (l k : Literal) (c : ℤ)
+    → share_of [] (l ∷ k ∷ []) c ≡ if_so (l.negated && k.negated) c
+constant-two l k c = short_constant-is (l ∷ k ∷ [], c) (omega arith)
+
+pub share-one : (i : ℕ) (l : Literal) (c : ℤ)
+    → share_of (node i ∷ []) (l ∷ []) c ≡ if_so (eqb i l.variable) (signed l c)
+share-one i l c = omega (arith, ints, short_shares-are i (l ∷ [], c) (omega arith))
+
+pub pair-one : (i j : ℕ) (l : Literal) (c : ℤ) → share_of (node i ∷ node j ∷ []) (l ∷ []) c ≡ pos 0
+pair-one i j l c = short_couplers-are i j (l ∷ [], c) (omega arith)
+
+pub pair-two : (i j : ℕ) (l k : Literal) (c : ℤ)
+    → share_of (node i ∷ node j ∷ []) (l ∷ k ∷ []) c ≡ weight_for i j (pair_coupler l c k)
+pair-two i j l k c = omega (arith, ints, short_couplers-are i j (l ∷ k ∷ [], c) (omega arith))
+
 -- What stands for a long term, multiplied out: its constant, what it adds to each weight, and its
 -- couplers.
 --
 -- With e complements, a pair of literals gives the constant where both are complements, and a
 -- literal's variable once for each other complement. A new node is paired with all literals.
-use Rattle.quadratization.proofs.Common.{cases_Bool, complements-cons, ◌≡◌, ◌⊎◌, inl, inr, ℕ, zero, suc, ◌+◌, ◌-◌, ◌*◌, ◌≤◌, Bool, true, false, ◌&&◌, cond, eqb, int_lt, arith, sym, ap, ◌∙◌, refl, List, [], ◌∷◌, ◌++◌, map, length, ℤ, pos, ◌+ℤ◌, ◌-ℤ◌, ◌*ℤ◌, neg_ℤ, if◌then◌else◌, flat_map, ints, nat_tests, total_by, if_so, multiply_out, integers, times-plus, total_by-append, total_by-map, total_by-same, total_by-plus, total_by-if_so, total_by_push, Literal, Term, if_so-plus, node, with_each, each_with, pair_terms, factor, node_terms, nodes_for, positive_terms, negative_terms, new_terms, pairs, pairs_is, factor_cases, weight_for, weight_at, signed, pair_coupler, share_at, sum_for, complements, pairs_among, node_coupler, node_couplers, place_couplers, literal_share, node_shares, term_shares, long_constant, places_in, term_places}
-use Rattle.quadratization.proofs.Additive.{Amount, given}
-use Rattle.quadratization.proofs.MultipliedOut.{share_of, sum_for-given}
-use Rattle.quadratization.proofs.TwoLiterals.{constant-two, share-one, pair-one, pair-two}
 
 -- ---- sums and counts
 
@@ -50,8 +65,7 @@ constant-pair_terms (l ∷ ls) c =
     let e = complements ls in
     let here = constant-with_each l c ls in
     let rest = constant-pair_terms ls c in
-    rw (complements-cons l ls)
-    (simp total_by-append (elim (cases_Bool l.negated) [
+    rw (complements-cons l ls) (simp total_by-append (elim (cases_Bool l.negated) [
       | inl is ↦
           let one : 1 + e ≡ suc e = omega arith in
           rw (is, one) (omega (arith, ints, rw is at here, rest, times-plus c (pos e) (pos (pairs e))))
@@ -76,8 +90,7 @@ pairs_among-is (suc n) = grind (arith, nat_tests, pairs, pairs_is)
 
 -- ---- the weights of nodes
 
-share-pair : (i : ℕ) (l k : Literal) (c : ℤ)
-    → share_of (node i ∷ []) (l ∷ k ∷ []) c
+share-pair : (i : ℕ) (l k : Literal) (c : ℤ) → share_of (node i ∷ []) (l ∷ k ∷ []) c
     ≡ if_so k.negated (if_so (eqb i l.variable) (signed l c))
     +ℤ if_so l.negated (if_so (eqb i k.variable) (signed k c))
 share-pair i l k c = grind (arith, nat_tests, ints)
@@ -233,9 +246,8 @@ places-positive : (i j d : ℕ) (c : ℤ) (n : ℕ) (ls : List Literal) → int_
     +ℤ total_by (nodes_weight i j d c n (nodes_for d)) ls
 places-positive i j d c n [] sign = refl
 places-positive i j d c n (l ∷ ls) sign =
-    let rest = places-positive i j d c n ls sign in
     let here = couplers-with_each i j l c ls in
-    simp (sign, total_by-append) (omega (arith, ints, rest, here))
+    simp (sign, total_by-append) (omega (arith, ints, places-positive i j d c n ls sign, here))
 
 -- those of a negative one each literal with its node
 places-negative : (i j d : ℕ) (c : ℤ) (n : ℕ) (ls : List Literal) → int_lt c (pos 0) ≡ true
@@ -247,14 +259,12 @@ places-negative i j d c n (l ∷ ls) sign =
 
 -- ---- what stands for a long term
 
-new_terms-long : (t : Term) (n : ℕ) → 3 ≤ length t.0
-    → new_terms t n
+new_terms-long : (t : Term) (n : ℕ) → 3 ≤ length t.0 → new_terms t n
     ≡ (if int_lt t.1 (pos 0) then negative_terms t.0 t.1 n else positive_terms t.0 t.1 n)
 new_terms-long t n long = grind (arith, nat_tests)
 
 given-long : (ls : List Literal) (t : Term) (n : ℕ) → 3 ≤ length t.0
-    → sum_for ls (new_terms t n)
-    ≡ given (share_of ls)
+    → sum_for ls (new_terms t n) ≡ given (share_of ls)
     (if int_lt t.1 (pos 0) then negative_terms t.0 t.1 n else positive_terms t.0 t.1 n)
 given-long ls t n long = grind (arith, nat_tests, sum_for-given, given, share_of, new_terms-long)
 
@@ -274,13 +284,11 @@ pub shares_close : (t : Term) (n i : ℕ) → 3 ≤ length t.0
 shares_close t n i long =
     let d = length t.0 in
     let e = complements t.0 in
-    let negative = share-negative_terms i t.0 t.1 n (omega (arith, long)) in
     let pair = share-pair_terms i t.0 t.1 in
     let closed = amounts-closed i e t.1 t.0 (omega arith) in
     let nodes = share-node_terms i t.0 t.1 n (nodes_for d) in
-    rw (given-long (node i ∷ []) t n long)
-    (elim (cases_Bool (int_lt t.1 (pos 0))) [
-      | inl sign ↦ rw sign negative
+    rw (given-long (node i ∷ []) t n long) (elim (cases_Bool (int_lt t.1 (pos 0))) [
+      | inl sign ↦ rw sign (share-negative_terms i t.0 t.1 n (omega (arith, long)))
       | inr sign ↦ rw sign (simp total_by-append (omega (arith, ints, pair, closed, nodes)))
     ])
 
@@ -289,8 +297,7 @@ pub couplers_close : (t : Term) (n i j : ℕ) → 3 ≤ length t.0
     ≡ weight_at i j (flat_map place_couplers (term_places t n))
 couplers_close t n i j long =
     let d = length t.0 in
-    rw (given-long (node i ∷ node j ∷ []) t n long)
-    (elim (cases_Bool (int_lt t.1 (pos 0))) [
+    rw (given-long (node i ∷ node j ∷ []) t n long) (elim (cases_Bool (int_lt t.1 (pos 0))) [
       | inl sign ↦
           let one = pair-one i j (node n) (neg_ℤ (t.1 *ℤ pos (d - 1))) in
           rw sign (omega (arith, ints, one, couplers-each_with i j n t.1 t.0, places-negative i j d t.1 n t.0 sign))

@@ -2,11 +2,13 @@
 --
 -- Two lists have the same terms where each number of a term has the same sum over both. So filters
 -- and maps of the one and of the other have the same terms too.
-use Rattle.rosenberg_layer.proofs.Common.{nat_tests, ◌≡◌, ◌≢◌, ℕ, suc, ◌+◌, ◌≤◌, Bool, true, false, not, ◌||◌, cond, arith, refl, sym, ap, ◌∙◌, subst, List, [], ◌∷◌, ◌++◌, map, ℤ, pos, negsuc, ◌+ℤ◌, neg_ℤ, Some, None, ◌^◌, sum_by, unsigned_abs, Decides, AllByRecursion, filter, IsPermutation, IsStrictlySortedBy, int_eq, is_lt, match_ordering, Ordering, Decides-int_eq, ints, append-nil, All-from_recursion, recursion_from_All, filter-append, All-permutation, sum_by-IsPermutation, sum_by-append, sum_by-cons, total_by, Literal, Term, set_cmp, in_front, terms_total, with_addition, with_additions, Ascends, IsTermSet, TableContent, IsTable, OfSet, same_set, with_additions-append, node, Pair, is_long, new_term, tie_terms, with_pair, front_pair, next_pair, found_in, pair_differs, new_terms-sets, begins, first_begins, front_term, is_short, pair_cmp, pair_of, Begin, Follow, IsStep, weights, weight_of, AllLong, AreParts, NoneLong}
-use Rattle.std.specs.declared.cmp.Ordering.TheVariants.{Less, Equal, Greater}
-use Rattle.rosenberg_layer.proofs.PairTerms.{begins-is, new_terms-split, AsBegins, NoneBegin}
-use Rattle.rosenberg_layer.proofs.GoBack.{all-append, all-left, all-right, back_left, can_go_back, CanGoBack}
-use Rattle.rosenberg_layer.proofs.Parts.{all-filtered, filter-all, filter-none, filter-yes, long-is, long-sets, parts-start, parts-step, short-none_long, wider-all, IsSortedStep}
+use Rattle.rosenberg_layer.proofs.Common.{all-filtered, nat_tests, ◌≡◌, ◌≢◌, ℕ, ◌+◌, ◌≤◌, ◌||◌, Bool, true, false, cond, arith, refl, sym, ap, ◌∙◌, subst, List, [], ◌∷◌, ◌++◌, map, ℤ, Some, None, ◌^◌, sum_by, unsigned_abs, AllByRecursion, filter, IsPermutation, IsStrictlySortedBy, is_lt, Ordering, ints, append-nil, All-filter, All-from_recursion, recursion_from_All, filter-append, map-append, All-permutation, sum_by-IsPermutation, sum_by-append, sum_by-cons, total_by, total_by_is, total_by-append, Literal, Term, terms_total, coefficient_of-with_additions, Ascends, IsTermSet, TableContent, IsTable, OfSet, IsNonzero, node, Pair, is_long, has_pair, new_term, tie_terms, replaced, pair_total, with_pair, front_pair, next_pair, new_terms-sets, pair_differs, IsPair, IsSound-with_pair, tie_terms-sets, pair_of_set, begins, front_term, is_short, pair_cmp, pair_of, Begin, Follow, IsStep, weights, weight_of, AllLong, AreParts, IsTermSet-wider, long_after, all-weaker}
+use borrow.Author.Differences.{up, down}
+use Rattle.std.specs.declared.cmp.Ordering.TheVariants.{Less}
+use Rattle.rosenberg_layer.proofs.Growth.{weights-append, weights-new_terms, weights-tie_terms}
+use Rattle.rosenberg_layer.proofs.PairTerms.{all-have, begins-is, new_terms-split, none-later}
+use Rattle.rosenberg_layer.proofs.GoBack.{all-append, all-left, all-right, is_plain, nonzero-new, sum-different, Different-ascends, Different-filter, Different-new}
+use Rattle.rosenberg_layer.proofs.Parts.{filter-all, filter-ascends, filter-both, filter-none, filter-yes, given, long-replaced, new_terms-alike, new_terms-low, pair_total-long, parts-start, short-none_long, total-new, totals-both, weights-both}
 use Rattle.rosenberg_layer.proofs.PairOrder.{all-follow}
 
 -- ---- lists with the same terms
@@ -39,11 +41,6 @@ same-map : (g : Term → Term) (ts us : List Term) → SameTerms ts us
     → SameTerms (map g ts) (map g us)
 same-map g ts us same = λ f. sum_by-map f g ts ∙ same (λ t. f (g t)) ∙ sym (sum_by-map f g us)
 
-same-append : (ts us vs ws : List Term) → SameTerms ts us → SameTerms vs ws
-    → SameTerms (ts ++ vs) (us ++ ws)
-same-append ts us vs ws one two = λ f.
-    omega (arith, one f, two f, sum_by-append f ts vs, sum_by-append f us ws)
-
 -- a test that all terms of the one pass, all terms of the other pass
 abbrev failed : (Term → Bool) → List Term → ℕ
 failed test ts = sum_by (λ t. cond (test t) 0 1) ts
@@ -65,153 +62,50 @@ all-same : (test : Term → Bool) (ts us : List Term) → SameTerms ts us
 all-same test ts us same all =
     all-passed test ts (same (λ t. cond (test t) 0 1) ∙ none-failed test us all)
 
--- sums of whole numbers
-abbrev up : ℤ → ℕ
-up (pos n) = n
-up (negsuc n) = 0
-
-abbrev down : ℤ → ℕ
-down (pos n) = 0
-down (negsuc n) = suc n
-
-up-down : (z : ℤ) → z ≡ pos (up z) +ℤ neg_ℤ (pos (down z))
-up-down (pos n) = omega (arith, ints)
-up-down (negsuc n) = omega (arith, ints)
-
--- a total is what is above 0 less what is below
-total_by-parts : (g : Term → ℤ) (ts : List Term)
-    → total_by g ts
-    ≡ pos (sum_by (λ t. up (g t)) ts) +ℤ neg_ℤ (pos (sum_by (λ t. down (g t)) ts))
-total_by-parts g [] = omega (arith, ints)
-total_by-parts g (t ∷ ts) = omega (arith, ints, total_by-parts g ts, up-down, sum_by-cons)
-
 -- terms in another order have the same total
 same-total : (g : Term → ℤ) (ts us : List Term) → SameTerms ts us → total_by g ts ≡ total_by g us
-same-total g ts us same = grind (arith, nat_tests, ints, total_by-parts)
+same-total g ts us same =
+    omega (arith, ints, total_by_is g ts, total_by_is g us, same (λ t. up (g t)), same (λ t. down (g t)))
 
--- ---- additions of sets that are not there
-
-sum-fresh : (f : Term → ℕ) (ts : List Term) (ls : List Literal) (c : ℤ) → c ≢ pos 0
-    → AllByRecursion (λ t. t.0 ≢ ls) ts → sum_by f (with_addition ts ls c) ≡ f (ls, c) + sum_by f ts
-sum-fresh f ts ls c nonzero fresh = go ts fresh
-  where
-    first : (us : List Term) → sum_by f (in_front ls c us) ≡ f (ls, c) + sum_by f us
-    first us = by_test (int_eq c (pos 0)) (Decides-int_eq c (pos 0))
-      where
-        by_test : (zero : Bool) → Decides zero (c ≡ pos 0)
-            → sum_by f (cond zero us ((ls, c) ∷ us)) ≡ f (ls, c) + sum_by f us
-        by_test true d = absurd (nonzero (d.0 refl))
-        by_test false d = sum_by-cons f (ls, c) us
-
-    go : (us : List Term) → AllByRecursion (λ t. t.0 ≢ ls) us
-        → sum_by f (with_addition us ls c) ≡ f (ls, c) + sum_by f us
-    go [] all = first []
-    go (u ∷ us) all = by_order (set_cmp ls u.0) refl (go us all.1)
-      where
-        by_order : (o : Ordering) → set_cmp ls u.0 ≡ o
-            → sum_by f (with_addition us ls c) ≡ f (ls, c) + sum_by f us
-            → sum_by f
-            (match_ordering o (in_front ls c (u ∷ us)) (in_front u.0 (u.1 +ℤ c) us)
-            (u ∷ with_addition us ls c))
-            ≡ f (ls, c) + sum_by f (u ∷ us)
-        by_order Less e rest = first (u ∷ us)
-        by_order Equal e rest = absurd (all.0 (sym (same_set ls u.0 e)))
-        by_order Greater e rest = omega (arith, rest, sum_by-cons)
-
--- the terms that go back
-sum-back : (f : Term → ℕ) (w : Literal) (rest ts : List Term) → CanGoBack w rest ts
-    → sum_by f (with_additions rest (filter is_long (map (front_term w) ts)))
-    ≡ sum_by f rest + sum_by f (filter is_long (map (front_term w) ts))
-sum-back f w rest [] back = omega arith
-sum-back f w rest (t ∷ ts) back =
-    let new = front_term w t in
-    let first = filter is_long (new ∷ []) in
-    let more = sum-back f w (with_additions rest first) ts (back_left w rest _ t (t ∷ ts) ts refl refl back) in
-    let one = sum-fresh f rest new.0 t.1 back.nonzero.0
-    (recursion_from_All (λ (u : Term). u.0 ≢ new.0) rest back.fresh.0) in
-    grind (arith, nat_tests, sum_by-cons, with_additions-append, more)
-
--- ---- terms in order, of which those that begin with the first pair are taken
-
--- no term that follows the pair begins with it
-none-begins : (a : Pair) (ts : List Term) → Follow a ts → NoneBegin a ts
-none-begins a [] follow = tt
-none-begins a (t ∷ ts) follow = grind (arith, nat_tests, none-begins a ts follow.1)
-
-abbrev with_it : Pair → Term → Bool
-with_it a t = begins a t.0
-
-abbrev without_it : Pair → Term → Bool
-without_it a t = not (begins a t.0)
-
--- it begins with the pair or follows it
-abbrev is_from : Pair → Term → Bool
-is_from a t = begins a t.0 || is_lt (pair_cmp a (pair_of t.0))
-
-from-begin : (a : Pair) (ts : List Term) → Begin a ts
-    → AllByRecursion (λ t. is_from a t ≡ true) ts
-from-begin a [] begin = tt
-from-begin a (t ∷ ts) begin = grind (arith, nat_tests, from-begin a ts begin.1)
-
-from-follow : (a : Pair) (ts : List Term) → Follow a ts
-    → AllByRecursion (λ t. is_from a t ≡ true) ts
-from-follow a [] follow = tt
-from-follow a (t ∷ ts) follow = grind (arith, nat_tests, from-follow a ts follow.1)
-
-is-less : (o : Ordering) → is_lt o ≡ true → o ≡ Less
-is-less o e = grind (arith, nat_tests)
-
-not-all : (a : Pair) (ts : List Term) → NoneBegin a ts
-    → AllByRecursion (λ t. without_it a t ≡ true) ts
-not-all a [] none = tt
-not-all a (t ∷ ts) none = (ap not none.0, not-all a ts none.1)
-
-not-none : (a : Pair) (ts : List Term) → AllByRecursion (λ t. without_it a t ≡ true) ts
-    → NoneBegin a ts
-not-none a [] all = tt
-not-none a (t ∷ ts) all = grind (arith, nat_tests, not-none a ts all.1)
-
-begin-none : (a : Pair) (ts : List Term) → Begin a ts
-    → AllByRecursion (λ t. without_it a t ≡ false) ts
-begin-none a [] begin = tt
-begin-none a (t ∷ ts) begin = (ap not begin.0, begin-none a ts begin.1)
-
--- those that begin with it stand first
-split-sorted : (a : Pair) (ts : List Term) → Ascends ts → AllLong ts
-    → AllByRecursion (λ t. is_from a t ≡ true) ts
-    → filter (with_it a) ts ++ filter (without_it a) ts ≡ ts
-unfolding IsStrictlySortedBy
-split-sorted a [] ascends long from = refl
-split-sorted a (t ∷ ts) ascends long from =
-    let rest = split-sorted a ts ascends.1 long.1 from.1 in
-    let less =
-    λ (e : is_lt (pair_cmp a (pair_of t.0)) ≡ true). none-begins a ts
-    (all-follow a t ts ascends.0 long (is-less _ e)) in
-    grind (arith, nat_tests, filter-none (with_it a) ts, filter-all (without_it a) ts, not-all a ts)
-
-front-begins : (a : Pair) (ts us : List Term) → ts ≢ [] → Begin a ts
-    → front_pair (ts ++ us) ≡ Some a
-front-begins a [] us some begin = absurd (some refl)
-front-begins a (t ∷ ts) us some begin =
-    ap (λ ls. front_pair ((ls, t.1) ∷ ts ++ us)) (begins-is a.0 a.1 t.0 begin.0).1
-
-first-other : (a : Pair) (ts : List Term) → NoneBegin a ts → first_begins a ts ≡ false
-first-other a ts none = grind (arith, nat_tests)
-
-not-empty-same : (ts us : List Term) → SameTerms ts us → us ≢ [] → ts ≢ []
-not-empty-same ts [] same some e = some refl
-not-empty-same ts (u ∷ us) same some e =
-    let one = same (λ t. 1) in
-    absurd (omega (arith, one, ap (sum_by (λ (t : Term). 1)) e, sum_by-cons (λ (t : Term). 1) u us))
-
-as-begins : (a : Pair) (ts : List Term) → AllLong ts → Begin a ts → AllByRecursion (AsBegins a) ts
-as-begins a [] long begin = tt
-as-begins a (t ∷ ts) long begin = grind (arith, nat_tests, as-begins a ts long.1 begin.1)
+-- no terms are the same as none
+pub none-same : (ts us : List Term) → SameTerms ts us → us ≡ [] → ts ≡ []
+none-same [] us same e = refl
+none-same (t ∷ ts) us same e =
+    let one = same (λ u. 1) in
+    absurd (omega (arith, one, ap (sum_by (λ (u : Term). 1)) e, sum_by-cons (λ (u : Term). 1) t ts))
 
 moved-all : (P : Term → Type 0) (ts us : List Term) → IsPermutation ts us → AllByRecursion P ts
     → AllByRecursion P us
 moved-all P ts us moved all =
     recursion_from_All P us (All-permutation P ts us moved (All-from_recursion P ts all))
+
+-- ---- terms in order, of which some begin with the pair, and the others come after it
+
+-- no term that follows the pair begins with it
+none-begins : (a : Pair) (ts : List Term) → Follow a ts
+    → AllByRecursion (λ t. begins a t.0 ≡ false) ts
+none-begins a [] follow = tt
+none-begins a (t ∷ ts) follow = grind (arith, nat_tests, none-begins a ts follow.1)
+
+-- it begins with the pair or follows it
+abbrev is_from : Pair → Term → Bool
+is_from a t = begins a t.0 || is_lt (pair_cmp a (pair_of t.0))
+
+is-less : (o : Ordering) → is_lt o ≡ true → o ≡ Less
+is-less o e = grind (arith, nat_tests)
+
+-- the first begins with it, since all come after the first
+first-is : (a : Pair) (ts : List Term) → Ascends ts → AllLong ts
+    → AllByRecursion (λ t. is_from a t ≡ true) ts → filter (λ t. begins a t.0) ts ≢ []
+    → front_pair ts ≡ Some a
+unfolding IsStrictlySortedBy
+first-is a [] ascends long from some = absurd (some refl)
+first-is a (t ∷ ts) ascends long from some =
+    let own = begins-is a.0 a.1 t.0 in
+    let less =
+    λ (e : is_lt (pair_cmp a (pair_of t.0)) ≡ true). filter-none (λ u. begins a u.0) ts
+    (none-begins a ts (all-follow a t ts ascends.0 long (is-less _ e))) in
+    grind (arith, nat_tests)
 
 -- ---- the parts of a table, of which those of degree 3 or more stand in no order
 
@@ -220,30 +114,108 @@ pub record AreHeld (t : TableContent) (adds bag : List Term) (bound : ℕ) : Typ
   pub same : SameTerms (filter is_long t.terms) bag
   pub sets : AllByRecursion (OfSet (IsTermSet t.width)) bag
 
--- additions in another order
-parts-alike : (t : TableContent) (adds adds' long : List Term) (bound : ℕ)
-    → AreParts t adds long bound → SameTerms adds adds'
-    → AllByRecursion (OfSet (IsTermSet t.width)) adds' → AreParts t adds' long bound
-parts-alike t adds adds' long bound parts same sets = record {
-  sound = parts.sound;
-  sums = λ ls.
-      parts.sums ls
-      ∙ same-total _ (adds ++ long) (adds' ++ long)
-      (same-append adds adds' long long same (λ f. refl));
-  low =
-      short-none_long adds'
-      (all-same is_short adds' adds (λ f. sym (same f)) (none_long-short adds parts.low));
-  high = parts.high;
-  ordered = parts.ordered;
-  nonzero = parts.nonzero;
-  sets = sets;
-  small = let old = parts.small in omega (arith, old, same weight_of);
-  total = parts.total;
-}
+-- the terms with the pair become those at the front, of which those of lower degree are added
+parts-step : (t : TableContent) (a : Pair) (adds adds' front rest : List Term) (m bound : ℕ)
+    → AreParts t adds (filter is_long t.terms) bound → IsPair t.width a
+    → SameTerms (map (new_term a (node t.width)) (filter is_long t.terms)) (front ++ rest)
+    → AllByRecursion (OfSet (IsTermSet (t.width + 1))) front → pair_total a t.terms ≡ m
+    → SameTerms (filter is_long (with_pair a t).terms) (rest ++ filter is_long front)
+    → IsPermutation ((adds ++ filter is_short front) ++ tie_terms a (node t.width) m) adds'
+    → AreParts (with_pair a t) adds' (filter is_long (with_pair a t).terms) bound
+parts-step t a adds adds' front rest m bound parts ok new sets weight long moved =
+    let w = node t.width in
+    let high = filter is_long t.terms in
+    let after = filter is_long (with_pair a t).terms in
+    let up = filter is_long front in
+    let down = filter is_short front in
+    let ties = tie_terms a w m in
+    let sound = IsSound-with_pair t a ok parts.sound in
+    let wide : Term → Type 0 = OfSet (IsTermSet (t.width + 1)) in
+    let low : Term → Type 0 = λ u. is_long u ≡ false in
+    let all = same-moved ((adds ++ down) ++ ties) adds' moved in
+    record {
+      sound = sound;
+      sums = λ ls.
+          let f = given ls in
+          omega (
+            arith,
+            ints,
+            coefficient_of-with_additions ls (replaced a w t.terms),
+            total_by-append f (map (new_term a w) t.terms) (tie_terms a w (pair_total a t.terms)),
+            ap (λ k. total_by f (tie_terms a w k)) weight,
+            new_terms-alike a w t.terms (adds ++ high) parts.sums ls,
+            ap (total_by f) (map-append (new_term a w) adds high),
+            total_by-append f (map (new_term a w) adds) (map (new_term a w) high),
+            ap (total_by f) (new_terms-low a w adds parts.low),
+            same-total f (map (new_term a w) high) (front ++ rest) new,
+            total_by-append f front rest,
+            filter-both f front,
+            total_by-append f adds' after,
+            same-total f ((adds ++ down) ++ ties) adds' all,
+            total_by-append f (adds ++ down) ties,
+            total_by-append f adds down,
+            same-total f after (rest ++ up) long,
+            total_by-append f rest up,
+          );
+      low =
+          moved-all low ((adds ++ down) ++ ties) adds' moved
+          (all-append low (adds ++ down) ties
+          (all-append low adds down parts.low (short-none_long down (filter-yes is_short front)))
+          (refl, (refl, (refl, (refl, tt)))));
+      high = filter-yes is_long (with_pair a t).terms;
+      ordered = filter-ascends is_long (with_pair a t).terms sound.ordered;
+      nonzero = All-filter is_long IsNonzero (with_pair a t).terms sound.nonzero;
+      sets =
+          moved-all wide ((adds ++ down) ++ ties) adds' moved
+          (all-append wide (adds ++ down) ties
+          (all-append wide adds down (all-weaker (OfSet (IsTermSet t.width)) wide (λ u set. IsTermSet-wider t.width (t.width + 1) u.0 (omega arith) set)
+          adds parts.sets) (all-filtered wide is_short front sets))
+          (tie_terms-sets t.width a m ok));
+      small =
+          omega (
+            arith,
+            parts.small,
+            all weight_of,
+            weights-append (adds ++ down) ties,
+            weights-append adds down,
+            weights-tie_terms a w m,
+            long weight_of,
+            weights-append rest up,
+            new weight_of,
+            weights-append front rest,
+            weights-both front,
+            weights-new_terms a w high (pair_differs t.width a ok),
+            pair_total-long a t.terms,
+            weight,
+          );
+      total =
+          let size : Term → ℕ = λ u. unsigned_abs u.1 in
+          omega (
+            arith,
+            parts.total,
+            long size,
+            sum_by-append size rest up,
+            new size,
+            sum_by-append size front rest,
+            totals-both front,
+            total-new a w high,
+          );
+    }
+
+-- the pair of a step is of two variables of the terms
+pub step-pair : (n : ℕ) (pair : Pair) (w : Literal) (long low long' low' : List Term) (m : ℕ)
+    → IsStep pair w long low long' low' m → AllByRecursion (OfSet (IsTermSet n)) long
+    → IsPair n pair
+step-pair n pair w long low long' low' m step sets =
+    go step.touched step.rest step.taken.some step.taken.begin
+    (moved-all (OfSet (IsTermSet n)) long (step.touched ++ step.rest) step.taken.whole sets)
   where
-    none_long-short : (ts : List Term) → NoneLong ts → AllByRecursion (λ t. is_short t ≡ true) ts
-    none_long-short [] none = tt
-    none_long-short (u ∷ us) none = (ap not none.0, none_long-short us none.1)
+    go : (touched rest : List Term) → touched ≢ [] → Begin pair touched
+        → AllByRecursion (OfSet (IsTermSet n)) (touched ++ rest) → IsPair n pair
+    go [] rest some begin inside = absurd (some refl)
+    go (t ∷ touched) rest some begin inside =
+        let own = begins-is pair.0 pair.1 t.0 begin.0 in
+        pair_of_set n pair.0 pair.1 own.0 t.0 own.1 inside.0
 
 pub held-step : (t : TableContent) (a : Pair) (adds adds' low bag low' bag' : List Term) (m bound : ℕ)
     → AreHeld t adds bag bound → AllLong bag → (step : IsStep a (node t.width) bag low bag' low' m)
@@ -256,136 +228,84 @@ held-step t a adds adds' low bag low' bag' m bound held long step moved =
     let sorted = filter is_long t.terms in
     let touched = step.touched in
     let rest = step.rest in
+    let all = touched ++ rest in
+    let front = map (front_term w) touched in
+    let up = filter is_long front in
     let parts : AreParts t adds sorted bound = held.parts in
-    let both : SameTerms sorted (touched ++ rest) =
-    λ f. held.same f ∙ same-moved bag (touched ++ rest) step.taken.whole f in
-    let from : AllByRecursion (λ u. is_from a u ≡ true) sorted =
-    all-same (is_from a) sorted (touched ++ rest) both
+    let begin = step.taken.begin in
+    let same : SameTerms sorted all = λ f. held.same f ∙ same-moved bag all step.taken.whole f in
+    let sets : AllByRecursion (OfSet (IsTermSet n)) all =
+    moved-all (OfSet (IsTermSet n)) bag all step.taken.whole held.sets in
+    let high : AllLong all = moved-all (λ u. is_long u ≡ true) bag all step.taken.whole long in
+    let high-rest = all-right (λ u. is_long u ≡ true) touched rest high in
+    let ok : IsPair n a = step-pair n a w bag low bag' low' m step held.sets in
+    -- which terms have the pair
+    let have = all-have a touched (all-left (λ u. is_long u ≡ true) touched rest high) begin in
+    let none = none-later n a rest ok.order (all-right (OfSet (IsTermSet n)) touched rest sets) step.taken.others in
+    let plain =
+    all-same (is_plain a) sorted all same
+    (all-append (λ u. is_plain a u ≡ true) touched rest
+    (all-weaker (λ u. begins a u.0 ≡ true) (λ u. is_plain a u ≡ true) (λ u h. grind (arith, nat_tests)) touched begin)
+    (all-weaker (λ u. has_pair a u ≡ false) (λ u. is_plain a u ≡ true) (λ u h. grind (arith, nat_tests)) rest none)) in
+    let from =
+    all-same (is_from a) sorted all same
     (all-append (λ u. is_from a u ≡ true) touched rest
-    (from-begin a touched step.taken.begin) (from-follow a rest step.taken.others)) in
-    let none : NoneBegin a rest = none-begins a rest step.taken.others in
-    let first = filter (with_it a) sorted in
-    let others = filter (without_it a) sorted in
-    let whole : first ++ others ≡ sorted = split-sorted a sorted parts.ordered parts.high from in
-    let same_first : SameTerms first touched =
-    subst (SameTerms first)
-    (filter-append (with_it a) touched rest
-    ∙ (λ i. filter-all (with_it a) touched step.taken.begin i ++ filter-none (with_it a) rest none i)
-    ∙ append-nil touched)
-    (same-filter (with_it a) sorted (touched ++ rest) both) in
-    let same_others : SameTerms others rest =
-    subst (SameTerms others)
-    (filter-append (without_it a) touched rest
-    ∙ (λ i. filter-none (without_it a) touched (begin-none a touched step.taken.begin) i
-    ++ filter-all (without_it a) rest (not-all a rest none) i))
-    (same-filter (without_it a) sorted (touched ++ rest) both) in
-    let begin : Begin a first = filter-yes (with_it a) sorted in
-    let e : next_pair t.terms ≡ Some a =
-    ap front_pair (sym whole)
-    ∙ front-begins a first others (not-empty-same first touched same_first step.taken.some) begin in
-    let up_first = filter is_long (map (front_term w) first) in
-    let up_touched = filter is_long (map (front_term w) touched) in
-    let down_first = filter is_short (map (front_term w) first) in
-    let down_touched = filter is_short (map (front_term w) touched) in
-    let same_front = same-map (front_term w) first touched same_first in
-    let low_new : List Term = (adds ++ down_first) ++ tie_terms a w (terms_total first) in
-    let long_new = with_additions others up_first in
-    let sorted_step : IsSortedStep a w sorted adds long_new low_new =
-    record {
-      touched = first;
-      rest = others;
-      whole = whole;
-      begin = begin;
-      others = first-other a others (not-none a others (filter-yes (without_it a) sorted));
-      put_back = refl;
-      put_down = refl;
-    } in
-    let next = parts-step t a [] adds sorted low_new long_new bound parts e sorted_step in
-    let table = long-is (with_pair a t) low_new long_new bound next in
-    let back : CanGoBack w others first =
-    can_go_back n a first others sorted whole (long-sets t adds sorted bound parts)
-    parts.nonzero begin in
-    let same-new : SameTerms (filter is_long (with_pair a t).terms) bag' =
-    λ f.
-    ap (sum_by f) table
-    ∙ omega (
-      arith,
-      sum-back f w others first back,
-      same_others f,
-      same-filter is_long (map (front_term w) first) (map (front_term w) touched) same_front f,
-      sum_by-append f rest up_touched,
-      same-moved (rest ++ up_touched) bag' step.put_back f,
-    ) in
-    -- the sets
-    let all_sets : AllByRecursion (OfSet (IsTermSet n)) (touched ++ rest) =
-    moved-all (OfSet (IsTermSet n)) bag (touched ++ rest) step.taken.whole held.sets in
-    let all_long : AllLong (touched ++ rest) =
-    moved-all (λ u. is_long u ≡ true) bag (touched ++ rest) step.taken.whole long in
-    let touched_sets = all-left (OfSet (IsTermSet n)) touched rest all_sets in
-    let front_sets : AllByRecursion (OfSet (IsTermSet (n + 1))) (map (front_term w) touched) =
-    let pair = (found_in t a parts.sound e).is_pair in
-    let facts =
-    as-begins a touched (all-left (λ u. is_long u ≡ true) touched rest all_long) step.taken.begin in
-    let none = append-nil touched in
-    let split =
-    sym (ap (map (new_term a w)) none)
-    ∙ new_terms-split n a w touched [] (subst (AllByRecursion (AsBegins a)) (sym none) facts)
-    (subst (AllByRecursion (OfSet (IsTermSet n))) (sym none) touched_sets) step.taken.begin tt
-    ∙ append-nil (map (front_term w) touched) in
-    subst (AllByRecursion (OfSet (IsTermSet (n + 1)))) split
-    (new_terms-sets n a touched (pair_differs n a pair) touched_sets) in
-    let sets-new : AllByRecursion (OfSet (IsTermSet (n + 1))) bag' =
-    moved-all (OfSet (IsTermSet (n + 1))) (rest ++ up_touched) bag' step.put_back
-    (all-append (OfSet (IsTermSet (n + 1))) rest up_touched
-    (wider-all n rest (all-right (OfSet (IsTermSet n)) touched rest all_sets))
-    (all-filtered (OfSet (IsTermSet (n + 1))) is_long (map (front_term w) touched) front_sets)) in
-    -- the additions
-    let ties = tie_terms a w m in
-    let low_is : low_new ≡ (adds ++ down_first) ++ ties =
-    ap (λ k. (adds ++ down_first) ++ tie_terms a w k)
-    (same_first (λ u. unsigned_abs u.1) ∙ sym step.weight) in
-    let same_low : SameTerms low_new adds' =
-    λ f.
-    ap (sum_by f) low_is
-    ∙ same-append (adds ++ down_first) (adds ++ down_touched) ties ties
-    (same-append adds adds down_first down_touched (λ g. refl)
-    (same-filter is_short (map (front_term w) first) (map (front_term w) touched) same_front))
-    (λ g. refl) f
-    ∙ same-moved ((adds ++ down_touched) ++ ties) adds' moved f in
-    let low_sets : AllByRecursion (OfSet (IsTermSet (n + 1))) adds' =
+    (all-weaker (λ u. begins a u.0 ≡ true) (λ u. is_from a u ≡ true) (λ u h. grind (arith, nat_tests)) touched begin)
+    (all-weaker (λ u. pair_cmp a (pair_of u.0) ≡ Less) (λ u. is_from a u ≡ true) (λ u h. grind (arith, nat_tests)) rest
+    step.taken.others)) in
+    let taken : (test : Term → Bool) → AllByRecursion (λ u. test u ≡ true) touched
+    → AllByRecursion (λ u. test u ≡ false) rest → SameTerms (filter test sorted) touched =
+    λ test yes no f. same-filter test sorted all same f
+    ∙ ap (sum_by f) (filter-append test touched rest
+    ∙ (λ i. filter-all test touched yes i ++ filter-none test rest no i) ∙ append-nil touched) in
+    let first =
+    first-is a sorted parts.ordered parts.high from
+    (λ e. step.taken.some (none-same touched _ (λ f. sym (taken (λ u. begins a u.0) begin
+    (none-begins a rest step.taken.others) f)) e)) in
+    let weight =
+    pair_total-long a t.terms ∙ taken (has_pair a) have none (λ u. unsigned_abs u.1) ∙ sym step.weight in
+    -- what they become
+    let split : map (new_term a w) all ≡ front ++ rest = new_terms-split n a w touched rest sets have begin none in
+    let new : SameTerms (map (new_term a w) sorted) (front ++ rest) =
+    λ f. same-map (new_term a w) sorted all same f ∙ ap (sum_by f) split in
     let wide = OfSet (IsTermSet (n + 1)) in
-    let split = subst (AllByRecursion wide) low_is next.sets in
-    moved-all wide ((adds ++ down_touched) ++ ties) adds' moved
-    (all-append wide (adds ++ down_touched) ties
-    (all-append wide adds down_touched
-    (all-left wide adds down_first (all-left wide (adds ++ down_first) ties split))
-    (all-filtered wide is_short (map (front_term w) touched) front_sets))
-    (all-right wide (adds ++ down_first) ties split)) in
-    let parts-new : AreParts (with_pair a t) adds' (filter is_long (with_pair a t).terms) bound =
-    subst (λ us. AreParts (with_pair a t) adds' us bound) (sym table)
-    (parts-alike (with_pair a t) low_new adds' long_new bound next same_low low_sets) in (
+    let new-sets : AllByRecursion wide (front ++ rest) =
+    subst (AllByRecursion wide) split (new_terms-sets n a all (pair_differs n a ok) sets) in
+    let front-sets = all-left wide front rest new-sets in
+    let sorted-sets = all-filtered _ is_long t.terms (recursion_from_All _ t.terms parts.sound.sets) in
+    let different =
+    Different-filter is_long _ (Different-new n a sorted sorted-sets plain (Different-ascends sorted parts.ordered)) in
+    let some =
+    all-filtered IsNonzero is_long _
+    (nonzero-new a w sorted (recursion_from_All IsNonzero sorted parts.nonzero)) in
+    let after : SameTerms (filter is_long (with_pair a t).terms) (rest ++ up) =
+    λ f.
+    omega (
+      arith,
+      ap (sum_by f) (long-replaced t a),
+      sum-different f (long_after a w sorted) different some,
+      same-filter is_long (map (new_term a w) sorted) (front ++ rest) new f,
+      ap (sum_by f) (filter-append is_long front rest),
+      sum_by-append f up (filter is_long rest),
+      ap (sum_by f) (filter-all is_long rest high-rest),
+      sum_by-append f rest up,
+    ) in (
       record {
-        parts = parts-new;
-        same = same-new;
-        sets = sets-new;
+        parts = parts-step t a adds adds' front rest m bound parts ok new front-sets weight after moved;
+        same = λ f. after f ∙ same-moved (rest ++ up) bag' step.put_back f;
+        sets =
+            moved-all wide (rest ++ up) bag' step.put_back
+            (all-append wide rest up (all-right wide front rest new-sets) (all-filtered wide is_long front front-sets));
       },
-      e,
+      first,
     )
 
--- ---- what a step asks of the terms that are taken and put back
-
 -- ---- the start of a run
-
-empty-same : (ts : List Term) → SameTerms ts [] → ts ≡ []
-empty-same [] same = refl
-empty-same (t ∷ ts) same =
-    let one = same (λ u. 1) in absurd (omega (arith, one, sum_by-cons (λ (u : Term). 1) t ts))
 
 pub none-next : (t : TableContent) (adds bag : List Term) (bound : ℕ) → AreHeld t adds bag bound
     → bag ≡ [] → next_pair t.terms ≡ None
 none-next t adds bag bound held none =
-    ap front_pair
-    (empty-same (filter is_long t.terms) (λ f. held.same f ∙ ap (sum_by f) none))
+    ap front_pair (none-same (filter is_long t.terms) bag held.same none)
 
 pub held-small : (t : TableContent) (adds bag : List Term) (bound : ℕ) → AreHeld t adds bag bound
     → terms_total bag ≤ 2 ^ 124

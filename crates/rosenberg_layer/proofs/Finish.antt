@@ -1,9 +1,9 @@
 -- The end of the run: the additions of lower degree give the image, and the pairs are those of the
 -- image.
-use Rattle.rosenberg_layer.proofs.Common.{nat_tests, ◌≡◌, ℕ, zero, suc, ◌+◌, ◌*◌, ◌^◌, ◌≤◌, arith, sym, ◌∙◌, List, [], length, All-from_recursion, recursion_from_All, Term, terms_total, with_additions, IsTermSet, AreAdditions, TableContent, OfSet, run, excess, image, pairs_of, IsSound, weights, AreParts}
+use Rattle.rosenberg_layer.proofs.Common.{nat_tests, ◌≡◌, ℕ, zero, suc, ◌+◌, ◌*◌, ◌^◌, ◌≤◌, arith, sym, ◌∙◌, append-nil, List, [], length, All-from_recursion, recursion_from_All, Term, terms_total, with_additions, IsTermSet, AreAdditions, TableContent, OfSet, run, excess, image, pairs_of, IsSound, weights, AreParts}
 use Rattle.rosenberg_layer.proofs.Ends.{short-none, IsLow-image}
 use Rattle.rosenberg_layer.proofs.Growth.{total-weights, weights-table}
-use Rattle.rosenberg_layer.proofs.Parts.{long-is, low-is}
+use Rattle.rosenberg_layer.proofs.Parts.{long-is, with_additions-itself, with_additions-alike}
 use Rattle.rosenberg_layer.proofs.Turns.{width-pairs, pairs-enough}
 
 -- a turn adds at most one node
@@ -12,16 +12,13 @@ width-le zero t = omega arith
 width-le (suc k) t = grind (arith, nat_tests, width-le k)
 
 -- no term of degree 3 or more is left
-none-left : (t : TableContent) (adds long : List Term) (bound : ℕ) → IsSound t
-    → AreParts (image t) adds long bound → long ≡ []
-none-left t adds long bound sound parts =
-    let low = recursion_from_All (λ (u : Term). length u.0 ≤ 2) (image t).terms (IsLow-image t sound) in
-    cc (long-is (image t) adds long bound parts, short-none (image t).terms low)
-
 image-is : (t : TableContent) (adds long : List Term) (bound : ℕ) → IsSound t
     → AreParts (image t) adds long bound → (image t).terms ≡ with_additions [] adds
 image-is t adds long bound sound parts =
-    low-is (image t) adds bound (rw (none-left t adds long bound sound parts) at parts)
+    let low = recursion_from_All (λ (u : Term). length u.0 ≤ 2) (image t).terms (IsLow-image t sound) in
+    let none : long ≡ [] = cc (long-is (image t) adds long bound parts, short-none (image t).terms low) in
+    sym (with_additions-itself (image t).terms parts.sound.ordered parts.sound.nonzero)
+    ∙ with_additions-alike (image t).terms adds (λ ls. rw (none, append-nil) at (parts.sums ls))
 
 -- the additions give the image
 pub made-image : (t made : TableContent) (adds long : List Term) (width k count bound : ℕ) → IsSound t

@@ -4,7 +4,7 @@
 -- takes 8 * m from the terms that it touches, and the tie weighs 8 * m. For the size a term of degree
 -- 3 or more weighs 14 * (d - 2) + 4: a substitution takes at least 14, and the tie and the node count
 -- 14.
-use Rattle.rosenberg_layer.proofs.Common.{◌≡◌, ℕ, zero, suc, ◌+◌, ◌-◌, ◌*◌, ◌^◌, ◌≤◌, Bool, true, false, cond, leb, arith, refl, ap, ◌∙◌, List, [], ◌∷◌, ◌++◌, map, length, Option, Some, None, ℤ, ◌+ℤ◌, unsigned_abs, AllByRecursion, match_ordering, Ordering, mul-le-mul_left, mul-le-mul_right, pow-succ', pow-zero, nat_tests, recursion_from_All, sum_by-cons, sum_by-append, size-plus, Literal, Term, set_cmp, set_size, terms_total, terms_size, in_front, with_addition, with_additions, IsTermSet, TableContent, table_size, sets_sum, sets_sum-cons, sets_sum-with_additions, terms_total-cons, same_set, node, Pair, has_pair, new_term, pair_total, tie_terms, replaced, with_pair, next_pair, with_next, run, image, rest_of, Differ, pair_total-cons, IsSound, IsSound-substituted, found_in, pair_differs, times_of, weight_of, weights}
+use Rattle.rosenberg_layer.proofs.Common.{◌≡◌, ℕ, zero, suc, ◌+◌, ◌-◌, ◌*◌, ◌^◌, ◌≤◌, cond, leb, arith, refl, ap, ◌∙◌, List, [], ◌∷◌, ◌++◌, map, length, Option, Some, None, ℤ, ◌+ℤ◌, unsigned_abs, AllByRecursion, match_ordering, Ordering, mul-le-mul_left, mul-le-mul_right, pow-succ', pow-zero, nat_tests, recursion_from_All, sum_by-cons, sum_by-append, size-plus, Literal, Term, set_cmp, set_size, terms_total, terms_size, in_front, with_addition, with_additions, IsTermSet, TableContent, table_size, sets_sum, sets_sum-cons, sets_sum-with_additions, terms_total-cons, same_set, node, Pair, has_pair, new_term, pair_total, tie_terms, replaced, with_pair, next_pair, with_next, run, image, rest_of, Differ, pair_total-cons, IsSound, IsSound-substituted, found_in, pair_differs, times_of, weight_of, weights, all-weaker}
 use Rattle.std.specs.declared.cmp.Ordering.TheVariants.{Less, Equal, Greater}
 use Rattle.rosenberg_layer.proofs.Falls.{Falls, sum-falls, has_pair-long, degree-falls}
 use Rattle.rosenberg_layer.proofs.Ends.{IsLow-image}
@@ -51,18 +51,10 @@ weights-with_additions ts = omega (arith, weights-more [] ts)
 one-weight : (pair : Pair) (w : Literal) (t : Term) → Differ pair
     → weight_of (new_term pair w t) + 8 * cond (has_pair pair t) (unsigned_abs t.1) 0 ≤ weight_of t
 one-weight pair w t differ =
-    go (has_pair pair t) (has_pair-long pair t) (degree-falls pair w t differ)
-  where
-    go : (b : Bool) → (b ≡ true → 3 ≤ length t.0)
-        → (b ≡ true → length (rest_of pair t.0 ++ w ∷ []) + 1 ≤ length t.0)
-        → weight_of (cond b (rest_of pair t.0 ++ w ∷ [], t.1) t) + 8 * cond b (unsigned_abs t.1) 0
-        ≤ weight_of t
-    go true high shorter =
-        let h = high refl in
-        let s = shorter refl in
-        let less : times_of (rest_of pair t.0 ++ w ∷ []) + 8 ≤ times_of t.0 = omega arith in
-        omega (arith, mul-le-mul_left (unsigned_abs t.1) less)
-    go false high shorter = omega arith
+    let high = has_pair-long pair t in
+    let shorter = degree-falls pair w t differ in
+    let less = λ (h : times_of (rest_of pair t.0 ++ w ∷ []) + 8 ≤ times_of t.0). mul-le-mul_left (unsigned_abs t.1) h in
+    grind (arith, nat_tests)
 
 pub weights-new_terms : (pair : Pair) (w : Literal) (ts : List Term) → Differ pair
     → weights (map (new_term pair w) ts) + 8 * pair_total pair ts ≤ weights ts
@@ -109,15 +101,12 @@ weights-total (t ∷ ts) short =
     let most : times_of t.0 ≤ 2 ^ 15 = omega arith in
     grind (arith, nat_tests, weights-total ts short.1, mul-le-mul_left, terms_total-cons, weights-cons)
 
-short_sets : (width : ℕ) (ts : List Term) → AllByRecursion (λ (t : Term). IsTermSet width t.0) ts
-    → AllByRecursion IsShort ts
-short_sets width [] sets = tt
-short_sets width (t ∷ ts) sets = (sets.0.short, short_sets width ts sets.1)
-
 -- all weights fit
 pub weights-table : (t : TableContent) → IsSound t → weights t.terms ≤ terms_total t.terms * 2 ^ 15
 weights-table t sound =
-    weights-total t.terms (short_sets t.width t.terms (recursion_from_All _ _ sound.sets))
+    weights-total t.terms
+    (all-weaker (λ (u : Term). IsTermSet t.width u.0) IsShort (λ u set. set.short) t.terms
+    (recursion_from_All _ _ sound.sets))
 
 pub total-image : (t : TableContent) → IsSound t
     → terms_total (image t).terms + 1 ≤ (terms_total t.terms + 1) * 2 ^ 15
@@ -196,13 +185,7 @@ rooms-low : (ts : List Term) → AllByRecursion (λ (t : Term). length t.0 ≤ 2
     → sets_sum room ts ≡ terms_size ts
 rooms-low [] low = refl
 rooms-low (t ∷ ts) low =
-    omega (
-      arith,
-      room-low t.0 low.0,
-      rooms-low ts low.1,
-      sets_sum-cons room t ts,
-      sets_sum-cons set_size t ts,
-    )
+    omega (arith, room-low t.0 low.0, rooms-low ts low.1, sets_sum-cons room t ts, sets_sum-cons set_size t ts)
 
 pub size-image : (t : TableContent) → IsSound t → table_size (image t) ≤ table_size t * 2 ^ 2
 size-image t sound =

@@ -1,28 +1,6 @@
 -- The terms of degree 3 or more of a table, after each turn of a run.
-use Rattle.rosenberg_layer.proofs.Common.{nat_tests, ◌≡◌, ℕ, ◌+◌, ◌≤◌, ◌^◌, Bool, true, arith, refl, ap, ◌∙◌, List, [], ◌∷◌, ◌++◌, map, Some, unsigned_abs, All, filter, AllByRecursion, append-nil, append_assoc, All-filter, filter-append, recursion_from_All, Literal, Term, terms_total, with_additions, IsTermSet, TableContent, coefficient_of-with_additions, terms_total-append, terms_total-cons, OfSet, IsNonzero, Ascends-with_additions, nonzero-with_additions, same_terms, Pair, node, is_long, new_term, front_pair, substituted, with_pair, after_turn, long_after, long_part, found, new_terms-sets, pair_differs, IsPair}
-use Rattle.rosenberg_layer.proofs.Parts.{coefficient-long, filter-all, filter-ascends}
-use Rattle.rosenberg_layer.proofs.PartlyTerms.{sum-filter_le}
-
--- the long terms of sums are the sums of the long additions
-pub filter-sums : (us : List Term)
-    → filter is_long (with_additions [] us) ≡ with_additions [] (filter is_long us)
-filter-sums us =
-    let all = with_additions [] us in
-    let long = filter is_long us in
-    same_terms (filter is_long all) (with_additions [] long)
-    (filter-ascends is_long all (Ascends-with_additions us)) (Ascends-with_additions long)
-    (All-filter is_long IsNonzero all (nonzero-with_additions us)) (nonzero-with_additions long)
-    (λ ls. simp (coefficient-long, coefficient_of-with_additions) refl)
-
-long-again : (pair : Pair) (w : Literal) (ts : List Term)
-    → long_after pair w ts ≡ long_after pair w (filter is_long ts)
-long-again pair w [] = refl
-long-again pair w (t ∷ ts) = grind (arith, nat_tests, long-again pair w ts)
-
-long-replaced : (t : TableContent) (pair : Pair)
-    → filter is_long (with_pair pair t).terms
-    ≡ with_additions [] (long_after pair (node t.width) (filter is_long t.terms))
-long-replaced t pair = grind (arith, nat_tests, filter-sums, filter-append, append-nil, long-again)
+use Rattle.rosenberg_layer.proofs.Common.{nat_tests, ◌≡◌, ℕ, ◌+◌, ◌≤◌, ◌^◌, Bool, true, arith, ap, ◌∙◌, List, [], ◌∷◌, ◌++◌, map, Some, unsigned_abs, All, filter, AllByRecursion, append_assoc, filter-append, recursion_from_All, Literal, Term, terms_total, IsTermSet, TableContent, terms_total-append, terms_total-cons, OfSet, Pair, node, is_long, new_term, front_pair, substituted, after_turn, long_part, found, new_terms-sets, pair_differs, IsPair, term_after, Option, None, refl}
+use Rattle.rosenberg_layer.proofs.Parts.{filter-all, long-replaced}
 
 -- a turn on the long terms alone gives those of the next table
 pub long-turn : (t : TableContent)
@@ -52,14 +30,6 @@ pub passed_more : {X : Type 0} (test : X → Bool) (now next : List X) (x : X) (
 passed_more test now next x left rest whole e added so_far =
     grind (arith, nat_tests, append_assoc, filter-append)
 
--- .. and what becomes of terms
-pub after_more : (pair : Pair) (w : Literal) (now next : List Term) (t : Term) (left rest whole : List Term)
-    → left ≡ t ∷ rest → next ≡ now ++ long_after pair w (t ∷ []) → now ++ long_after pair w left ≡ whole
-    → next ++ long_after pair w rest ≡ whole
-after_more pair w now next t left rest whole e added so_far =
-    passed_more is_long now next (new_term pair w t) (map (new_term pair w) left) (map (new_term pair w) rest)
-    whole (ap (map (new_term pair w)) e) added so_far
-
 -- the sizes of the coefficients fit
 pub total_more : (now next more : List Term) (t : Term) (left rest : List Term) → left ≡ t ∷ rest
     → next ≡ now ++ more → terms_total more ≤ unsigned_abs t.1
@@ -67,11 +37,13 @@ pub total_more : (now next more : List Term) (t : Term) (left rest : List Term) 
 total_more now next more t left rest e added few so_far =
     grind (arith, nat_tests, terms_total-cons, terms_total-append)
 
-pub total-long : (t : Term) → terms_total (filter is_long (t ∷ [])) ≤ unsigned_abs t.1
-total-long t =
-    omega (arith, sum-filter_le is_long (λ u. unsigned_abs u.1) (t ∷ []), terms_total-cons t [])
-
 -- what becomes of a term counts no more than it did
-pub total-after : (pair : Pair) (w : Literal) (t : Term)
-    → terms_total (long_after pair w (t ∷ [])) ≤ unsigned_abs t.1
-total-after pair w t = grind (arith, nat_tests)
+pub total-after : (o : Option Pair) (w : Literal) (t : Term)
+    → terms_total (filter is_long (term_after o w t ∷ [])) ≤ unsigned_abs t.1
+total-after None w t = grind (arith, nat_tests)
+total-after (Some pair) w t = grind (arith, nat_tests)
+
+-- nothing becomes of terms where there is no pair
+pub none-after : (w : Literal) (ts : List Term) → map (term_after None w) ts ≡ ts
+none-after w [] = refl
+none-after w (t ∷ ts) = ap (λ us. t ∷ us) (none-after w ts)

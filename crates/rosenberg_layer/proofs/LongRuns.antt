@@ -1,36 +1,14 @@
 -- Runs on the terms of degree 3 or more alone: they are the same for each table with these terms.
-use Rattle.rosenberg_layer.proofs.Common.{nat_tests, ◌≡◌, ◌≢◌, ℕ, pos, ◌+◌, ◌*◌, ◌≤◌, ◌<◌, ◌^◌, Bool, true, false, cond, arith, refl, ap, List, [], ◌∷◌, ◌++◌, length, unsigned_abs, All, Some, None, Option, IfOk, Result, Ok, Err, filter, append_assoc, length-append, length-filter_both, All-filter, All-from_recursion, filter-append, recursion_from_All, Literal, Term, terms_size, IsTermSet, IsTable, TableContent, table_size, terms_size-cons, OfSet, excess, is_long, Pair, run, is_short, weights, IsTurn}
-use Rattle.rosenberg_layer.proofs.Bags.{held-start}
+use Rattle.rosenberg_layer.proofs.Common.{nat_tests, ◌≡◌, ◌≢◌, ℕ, pos, ◌+◌, ◌*◌, ◌≤◌, ◌<◌, ◌^◌, true, arith, refl, ap, List, [], ◌∷◌, length, unsigned_abs, All, Some, None, Option, filter, length-append, length-filter_both, All-filter, All-from_recursion, recursion_from_All, Literal, Term, terms_size, IsTermSet, IsTable, TableContent, table_size, terms_size-cons, OfSet, excess, is_long, Pair, is_short, IsTurn}
 use Rattle.rosenberg_layer.proofs.Parts.{filter-all, filter-ascends, filter-yes}
 use Rattle.rosenberg_layer.proofs.PartlyTerms.{sum-filter_le}
 use Rattle.rosenberg_layer.proofs.PutBack.{three-long}
-use Rattle.rosenberg_layer.proofs.Turns.{excess-one, excess-size, run-start, width-pairs, IsRun}
+use Rattle.rosenberg_layer.proofs.Turns.{excess-one, excess-size}
 
 -- the terms of degree 3 or more alone are a table
-pub alone : (width : ℕ) (long : List Term) → All (λ t. is_long t ≡ true) long
+pub alone : (long : List Term) → All (λ t. is_long t ≡ true) long
     → filter is_long long ≡ long
-alone width long all = filter-all is_long long (recursion_from_All (λ t. is_long t ≡ true) long all)
-
-pub run_begins : (t : TableContent) (width : ℕ) (bag low : List Term) (pairs : List Pair) (ms : List ℕ)
-    → IsTable t → bag ≡ filter is_long t.terms → low ≡ [] → pairs ≡ [] → ms ≡ []
-    → IsRun t 0 width (filter is_short t.terms) low bag pairs ms (weights t.terms)
-run_begins t width bag low pairs ms table e no_low no_pairs no_ms =
-    run-start t width (filter is_short t.terms) low pairs bag ms (weights t.terms)
-    (held-start t bag table e) no_low no_pairs no_ms
-
--- the number of the next node
-pub run_width : (t : TableContent) (k width : ℕ) (base low long : List Term) (pairs : List Pair)
-    (ms : List ℕ) (bound : ℕ) → IsRun t k width base low long pairs ms bound → t.width ≡ width
-    → width + length pairs ≡ (run k t).width
-run_width t k width base low long pairs ms bound so_far same =
-    omega (arith, width-pairs k t, ap length so_far.pairs_are, same)
-
--- with the next one added, the others make up the rest
-pub long_added : (now next : List Term) (t : Term) (left rest whole : List Term) → left ≡ t ∷ rest
-    → next ≡ now ++ filter is_long (t ∷ []) → now ++ filter is_long left ≡ whole
-    → next ++ filter is_long rest ≡ whole
-long_added now next t left rest whole e added so_far =
-    grind (arith, nat_tests, append_assoc, filter-append)
+alone long all = filter-all is_long long (recursion_from_All (λ t. is_long t ≡ true) long all)
 
 -- the literals of a set fit
 pub set_narrow : (width : ℕ) (ls : List Literal) → IsTermSet width ls → width ≤ 2 ^ 31
@@ -41,17 +19,11 @@ set_narrow width ls set narrow = let within = set.set.within in grind (arith, na
 pub table_long : (t : TableContent) (width : ℕ) (long : List Term) → IsTable t → width ≡ t.width
     → long ≡ filter is_long t.terms → IsTable (record { width = width; terms = long })
 table_long t width long table same e =
-    rw (same, e)
-    (record {
-      terms = record {
-        ordered = filter-ascends is_long t.terms table.terms.ordered;
-        sets = All-filter is_long (OfSet (IsTermSet t.width)) t.terms table.terms.sets;
-        nonzero = All-filter is_long (λ (u : Term). u.1 ≢ pos 0) t.terms table.terms.nonzero;
-      };
-      small =
-          let small = table.small in
-          omega (arith, small, sum-filter_le is_long (λ u. unsigned_abs u.1) t.terms);
-    })
+    let up = filter-ascends is_long t.terms table.terms.ordered in
+    let sets = All-filter is_long (OfSet (IsTermSet t.width)) t.terms table.terms.sets in
+    let some = All-filter is_long (λ (u : Term). u.1 ≢ pos 0) t.terms table.terms.nonzero in
+    let small = sum-filter_le is_long (λ u. unsigned_abs u.1) t.terms in
+    grind (arith, nat_tests)
 
 -- .. all of them
 pub all_long : (ts long : List Term) → long ≡ filter is_long ts → All (λ t. is_long t ≡ true) long
@@ -65,12 +37,8 @@ nodes-narrow t turns size few = omega (arith, size, few, excess-size t.terms)
 -- a long term counts one at least
 long-few : (ts : List Term) → length (filter is_long ts) ≤ terms_size ts
 long-few [] = omega arith
-long-few (t ∷ ts) = go (is_long t) refl (long-few ts)
-  where
-    go : (b : Bool) → is_long t ≡ b → length (filter is_long ts) ≤ terms_size ts
-        → length (cond b (t ∷ filter is_long ts) (filter is_long ts)) ≤ terms_size (t ∷ ts)
-    go false e rest = omega (arith, rest, terms_size-cons t ts)
-    go true e rest = omega (arith, rest, terms_size-cons t ts, excess-one t.0, three-long t e)
+long-few (t ∷ ts) =
+    grind (arith, nat_tests, long-few ts, terms_size-cons t ts, excess-one t.0, three-long t)
 
 -- the long terms of a table have numbers of 32 bits
 pub terms-narrow : (t : TableContent) (long : List Term) → table_size t * 2 ^ 2 ≤ 2 ^ 32
@@ -90,8 +58,3 @@ pub fewer : (ts long : List Term) (n : ℕ) → long ≡ filter is_long ts → n
     → n ≤ length ts
 fewer ts long n e few =
     omega (arith, few, ap length e, length-filter_both is_long is_short (λ t. refl) ts)
-
-pub if_ok_weaker : {T E : Type 0} (P Q : T → Type 0) → ((x : T) → P x → Q x) → (r : Result T E)
-    → IfOk r P → IfOk r Q
-if_ok_weaker P Q more (Ok x) p = more x p
-if_ok_weaker P Q more (Err e) p = tt

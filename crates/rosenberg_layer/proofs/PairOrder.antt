@@ -1,6 +1,6 @@
 -- The order of pairs, and the pairs that terms in order begin with.
-use Rattle.rosenberg_layer.proofs.Common.{◌≡◌, ◌⊎◌, ◌≤◌, true, arith, ap, List, [], ◌∷◌, length, IsTotalOrder, on_total, then_total, nat_tests, tied_itself, Literal, literal_total, Term, set_cmp, Under, Pair, is_long, begins, pair_cmp, pair_of, Follow, AllLong}
-use Rattle.std.specs.declared.cmp.Ordering.TheVariants.{Less, Equal}
+use Rattle.rosenberg_layer.proofs.Common.{◌≡◌, ◌⊎◌, ◌≤◌, true, arith, ap, List, [], ◌∷◌, length, IsTotalOrder, on_total, then_total, nat_tests, Literal, literal_total, Term, set_cmp, Under, Pair, is_long, begins, pair_cmp, pair_of, Follow, AllLong}
+use Rattle.std.specs.declared.cmp.Ordering.TheVariants.{Less}
 use Rattle.rosenberg_layer.proofs.PairTerms.{begins-is}
 
 -- ---- the order of pairs
@@ -8,12 +8,6 @@ use Rattle.rosenberg_layer.proofs.PairTerms.{begins-is}
 pub pair_total : IsTotalOrder pair_cmp
 pair_total =
     then_total (on_total (λ (p : Pair). p.0) literal_total) (on_total (λ (p : Pair). p.1) literal_total)
-
-pub same_pair : (a b : Pair) → pair_cmp a b ≡ Equal → a ≡ b
-same_pair a b e = grind (arith, nat_tests)
-
-pub pair_itself : (a : Pair) → pair_cmp a a ≡ Equal
-pair_itself a = tied_itself pair_total a
 
 -- the other pair is this one, or comes after it
 abbrev pub From : Pair → Pair → Type 0

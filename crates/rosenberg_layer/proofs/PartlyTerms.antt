@@ -1,6 +1,6 @@
 -- One substitution, term by term in the order of a list: those that begin with the first pair are
 -- replaced where they stand.
-use Rattle.rosenberg_layer.proofs.Common.{nat_tests, ◌≡◌, ◌≢◌, ◌⊎◌, inl, inr, ℕ, zero, suc, ◌+◌, ◌*◌, ◌<◌, ◌≤◌, ◌^◌, Bool, true, false, not, cond, arith, refl, sym, ap, ◌∙◌, subst, List, [], ◌∷◌, ◌++◌, length, map, get_or, set, take, drop, pos, unsigned_abs, None, AllByRecursion, filter, sum_by, IsPermutation, IsStrictlySortedBy, ordering_then, append_assoc, append-nil, map-append, take_all, drop_all, length-append, length-map, length-take-le, length-drop, get_or-append_right, get_or-drop, set-get_or, get_or_default, map_over_more, filter_more, filter-append, recursion_from_All, IsPermutation-refl, IsPermutation-cons, IsPermutation-trans, IsPermutation-middle, IsPermutation-filter_both, sum_by-append, sum_by-cons, Literal, literal_cmp, code_of, literal_of, Term, terms_total, IsTermSet, node, Pair, is_long, begins, front_term, is_short, pair_of, Begin, Follow, IsStep, code_at, term_at, first_pair, is_touched, key_of, turned, AreWaiting, ArePartly}
+use Rattle.rosenberg_layer.proofs.Common.{nat_tests, ◌≡◌, ◌≢◌, ◌⊎◌, inl, inr, ℕ, zero, suc, ◌+◌, ◌*◌, ◌<◌, ◌≤◌, ◌^◌, Bool, true, false, not, cond, arith, refl, sym, ap, ◌∙◌, subst, List, [], ◌∷◌, ◌++◌, length, map, get_or, set, take, drop, pos, unsigned_abs, None, AllByRecursion, filter, sum_by, IsPermutation, IsStrictlySortedBy, ordering_then, append_assoc, append-nil, map-append, take_all, drop_all, length-append, length-map, length-take-le, length-drop, get_or-append_right, get_or-drop, set-get_or, get_or_default, map_over_more, filter_more, filter-append, recursion_from_All, IsPermutation-refl, IsPermutation-cons, IsPermutation-trans, IsPermutation-middle, IsPermutation-filter_both, sum_by-append, sum_by-cons, Literal, literal_cmp, code_of, literal_of, Term, terms_total, IsTermSet, node, Pair, is_long, begins, front_term, is_short, pair_of, Follow, IsStep, code_at, term_at, first_pair, is_touched, key_of, turned, AreWaiting, ArePartly}
 use Rattle.std.specs.declared.cmp.Ordering.TheVariants.{Less}
 use Rattle.rosenberg_layer.proofs.Parts.{filter-yes}
 use Rattle.rosenberg_layer.proofs.RingTerms.{literal_of-code_of}
@@ -197,9 +197,6 @@ partly_touch a w start now now' low low' low'' m m' i partly within touched new 
 
 -- ---- the whole substitution
 
-touched-all : (a : Pair) (ts : List Term) → Begin a (filter (λ t. begins a t.0) ts)
-touched-all a ts = filter-yes (λ t. begins a t.0) ts
-
 -- where a term has the pair, and each term of degree 3 or more begins with it or follows it
 pub whole_step : (a : Pair) (w : Literal) (start now low low' : List Term) (m t : ℕ)
     → ArePartly a w start now low low' m (length start) → t < length start
@@ -221,7 +218,7 @@ whole_step a w start now low low' m t partly within first from =
             IsPermutation-filter_both (λ u. begins a u.0) (λ u. not (begins a u.0)) (λ u. refl)
             (filter is_long start);
         some = λ none. some-touched a start t within first (sym taken ∙ none);
-        begin = touched-all a (filter is_long start);
+        begin = filter-yes (λ u. begins a u.0) (filter is_long start);
         others = all-follow_rest a start from;
       };
       put_back = rw (end, taken) (all_back a w start);
@@ -277,10 +274,6 @@ pub sum-filter_le : (test : Term → Bool) (f : Term → ℕ) (ts : List Term)
 sum-filter_le test f [] = omega arith
 sum-filter_le test f (t ∷ ts) = grind (arith, nat_tests, sum-filter_le test f ts, sum_by-cons)
 
-filter-both_tests : (a : Pair) (n : ℕ) (ts : List Term)
-    → filter (is_touched a) (take n ts) ≡ filter (λ t. begins a t.0) (filter is_long (take n ts))
-filter-both_tests a n ts = sym (filter-touched a (take n ts))
-
 filter-take_le : (f : Term → ℕ) (n : ℕ) (ts : List Term)
     → sum_by f (filter is_long (take n ts)) ≤ sum_by f (filter is_long ts)
 filter-take_le f zero ts = omega arith
@@ -290,7 +283,10 @@ filter-take_le f (suc n) (t ∷ ts) = grind (arith, nat_tests, filter-take_le f 
 pub partly_small : (a : Pair) (w : Literal) (start now low low' : List Term) (m i bound : ℕ)
     → ArePartly a w start now low low' m i → terms_total (filter is_long start) ≤ bound → m ≤ bound
 partly_small a w start now low low' m i bound partly small =
-    grind (arith, nat_tests, filter-both_tests, sum-filter_le, filter-take_le)
+    let size : Term → ℕ = λ t. unsigned_abs t.1 in
+    let most = sum-filter_le (λ t. begins a t.0) size (filter is_long (take i start)) in
+    let same = ap terms_total (filter-touched a (take i start)) in
+    omega (arith, partly.weight, same, most, filter-take_le size i start, small)
 
 -- each term of degree 3 or more begins with a literal that has a list
 pub codes_within : (n : ℕ) (ts : List Term) → AllByRecursion (λ t. IsTermSet n t.0) ts

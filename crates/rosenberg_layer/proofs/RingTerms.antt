@@ -1,6 +1,6 @@
 -- Terms of degree 3 or more as they are kept: the term at a place, one more term, and a term whose
 -- first two literals are replaced.
-use Rattle.rosenberg_layer.proofs.Common.{nat_tests, elements, ◌≡◌, ℕ, zero, suc, ◌+◌, ◌*◌, ◌/◌, ◌%◌, ◌<◌, ◌≤◌, List, [], ◌∷◌, ◌++◌, length, map, get_or, set, take, drop, refl, sym, ap, ◌∙◌, arith, ℤ, pos, ◌==◌, AllZip, append_assoc, append-nil, map-append, drop-map, length-map, length-set, length-append, length-drop, length-take-le, get_or-drop, set-append_left, drop-append-le, drop-set-lt, drop-drop, take_more_set, Literal, code_of, literal_of, Term, node, front_term, pair_of, literals_left, terms_in, term_at, code_at, HasTwo}
+use Rattle.rosenberg_layer.proofs.Common.{nat_tests, elements, ◌≡◌, ℕ, zero, suc, ◌+◌, ◌*◌, ◌/◌, ◌%◌, ◌<◌, ◌≤◌, List, [], ◌∷◌, ◌++◌, length, map, get_or, set, take, drop, refl, sym, ap, ◌∙◌, arith, ℤ, pos, ◌==◌, AllZip, AllZip-long, append_assoc, append-nil, map-append, drop-map, length-map, length-set, length-append, length-drop, length-take-le, get_or-drop, set-append_left, drop-append-le, drop-set-lt, drop-drop, take_more_set, Literal, code_of, literal_of, Term, node, front_term, pair_of, literals_left, terms_in, term_at, code_at, HasTwo}
 
 -- ---- codes
 
@@ -77,13 +77,6 @@ length-terms (r ∷ rs) (j ∷ js) [] two same = absurd (omega (arith, same))
 length-terms (r ∷ rs) (j ∷ js) (c ∷ cs) two same =
     ap suc (length-terms rs js cs two.1 (omega (arith, same)))
 
-pub length-rings : (rings : List (List ℕ)) (turns : List ℕ) → AllZip HasTwo rings turns
-    → length rings ≡ length turns
-length-rings [] [] two = refl
-length-rings [] (j ∷ js) two = absurd two
-length-rings (r ∷ rs) [] two = absurd two
-length-rings (r ∷ rs) (j ∷ js) two = ap suc (length-rings rs js two.1)
-
 pub two-at : (rings : List (List ℕ)) (turns : List ℕ) (i : ℕ) → AllZip HasTwo rings turns
     → i < length turns → HasTwo (get_or rings i []) (get_or turns i 0)
 two-at [] [] i two within = absurd (omega (arith, within))
@@ -150,7 +143,6 @@ pub record IsKept (rings : List (List ℕ)) (turns : List ℕ) (cs : List ℤ) (
     : Type 0 where
   pub rings_within : i < length rings
   pub turns_within : i < length turns
-  pub cs_within : i < length cs
   pub two : HasTwo (get_or rings i []) (get_or turns i 0)
   pub term : term_at ts i ≡ (literals_left (get_or rings i []) (get_or turns i 0), get_or cs i (pos 0))
   pub degree : length (term_at ts i).0 + get_or turns i 0 ≡ length (get_or rings i [])
@@ -164,9 +156,8 @@ kept_at rings turns cs ts i two same is within =
     let own = two-at rings turns i two inside in
     let at = rw is at (terms-at rings turns cs i two same inside) in
     record {
-      rings_within = omega (arith, inside, length-rings rings turns two);
+      rings_within = omega (arith, inside, AllZip-long HasTwo rings turns two);
       turns_within = inside;
-      cs_within = omega (arith, inside, same);
       two = own;
       term = at;
       degree = rw at (degree-left (get_or rings i []) (get_or turns i 0) own.0);

@@ -1,8 +1,7 @@
 -- The turns of a run, one after another.
-use Rattle.rosenberg_layer.proofs.Common.{nat_tests, ◌≡◌, ℕ, zero, suc, ◌+◌, ◌-◌, ◌≤◌, arith, refl, sym, ap, ◌∙◌, subst, List, [], ◌∷◌, ◌++◌, length, map, Option, Some, None, filter, IsPermutation, mul-le-mul_left, append_assoc, append-nil, length-append, length-map, length-filter_both, IsPermutation-append_left, IsPermutation-append_right, IsPermutation-append_comm, length_permutation, sum_by-cons, Literal, Term, set_size, terms_size, TableContent, terms_size-cons, node, Pair, next_pair, tie_terms, with_next, is_long, substituted, run, excess, next_before, pairs_of, front_term, is_short, IsStep, ties_of, AllLong, IsTurn, width-run-le, ◌≢◌, AllByRecursion, All-permutation, All-from_recursion, recursion_from_All, IsTermSet, IsPair, Begin, pair_of_set}
+use Rattle.rosenberg_layer.proofs.Common.{weights, IsTable, nat_tests, ◌≡◌, ℕ, zero, suc, ◌+◌, ◌-◌, ◌≤◌, arith, refl, sym, ap, ◌∙◌, subst, List, [], ◌∷◌, ◌++◌, length, map, Option, Some, None, filter, IsPermutation, mul-le-mul_left, append_assoc, append-nil, length-append, length-map, length-filter_both, IsPermutation-append_left, IsPermutation-append_right, IsPermutation-append_comm, length_permutation, sum_by-cons, Literal, Term, set_size, terms_size, TableContent, terms_size-cons, node, Pair, next_pair, tie_terms, with_next, is_long, substituted, run, excess, next_before, pairs_of, front_term, is_short, IsStep, ties_of, AllLong, IsTurn, width-run-le}
 use Rattle.rosenberg_layer.proofs.Growth.{square_is}
-use Rattle.rosenberg_layer.proofs.PairTerms.{begins-is}
-use Rattle.rosenberg_layer.proofs.Bags.{held-step, none-next, AreHeld}
+use Rattle.rosenberg_layer.proofs.Bags.{held-start, held-step, none-next, AreHeld}
 
 -- ---- the measure fits
 
@@ -64,55 +63,59 @@ adds-moved base low old down ties =
 
 -- ---- one more turn
 
--- the parts before and after a turn
-pub record IsRun (t : TableContent) (k start : ℕ) (base low long : List Term) (pairs : List Pair)
-    (ms : List ℕ) (bound : ℕ) : Type 0 where
-  pub held : AreHeld (run k t) (base ++ (low ++ ties_of start pairs ms)) long bound
+-- the parts before and after a turn, of a table whose nodes are numbered below a width
+pub record IsRun (t : TableContent) (k width : ℕ) (low long : List Term) (pairs : List Pair) (ms : List ℕ)
+    : Type 0 where
+  pub held : AreHeld (run k t) (filter is_short t.terms ++ (low ++ ties_of width pairs ms)) long (weights t.terms)
   pub pairs_are : pairs ≡ pairs_of k t
   pub each : length ms ≡ length pairs
 
-pub run-start : (t : TableContent) (start : ℕ) (base low : List Term) (pairs : List Pair)
-    (long : List Term) (ms : List ℕ) (bound : ℕ) → AreHeld t base long bound → low ≡ [] → pairs ≡ []
-    → ms ≡ [] → IsRun t 0 start base low long pairs ms bound
-run-start t start base low pairs long ms bound held no_low no_pairs no_ms = record {
+pub run-start : (t : TableContent) (width : ℕ) (low long : List Term) (pairs : List Pair) (ms : List ℕ)
+    → IsTable t → long ≡ filter is_long t.terms → low ≡ [] → pairs ≡ [] → ms ≡ []
+    → IsRun t 0 width low long pairs ms
+run-start t width low long pairs ms table e no_low no_pairs no_ms = record {
   held =
-      subst (λ us. AreHeld t us long bound)
-      (sym (append-nil base)
-      ∙ (λ i. base ++ (sym no_low i ++ ties_of start (sym no_pairs i) (sym no_ms i))))
-      held;
+      subst (λ us. AreHeld t us long (weights t.terms))
+      (sym (append-nil (filter is_short t.terms))
+      ∙ (λ i. filter is_short t.terms ++ (sym no_low i ++ ties_of width (sym no_pairs i) (sym no_ms i))))
+      (held-start t long table e);
   pairs_are = no_pairs;
   each = ap length no_ms ∙ sym (ap length no_pairs);
 }
 
-pub turn-run : (t : TableContent) (k start n : ℕ) (base low low' long long' : List Term)
-    (pairs pairs' : List Pair) (ms ms' : List ℕ) (bound : ℕ) (o : Option Pair)
-    → IsRun t k start base low long pairs ms bound → AllLong long → n ≡ (run k t).width
-    → n ≡ start + length pairs → IsTurn o n long low pairs ms long' low' pairs' ms'
-    → IsRun t (k + 1) start base low' long' pairs' ms' bound
-turn-run t k start n base low low' long long' pairs pairs' ms ms' bound None so_far high number at turned =
-    let now = run k t in
-    let adds = base ++ (low ++ ties_of start pairs ms) in
-    let next = none-next now adds long bound so_far.held turned.0 in
+-- the number of the next node
+pub run-width : (t : TableContent) (k width : ℕ) (low long : List Term) (pairs : List Pair) (ms : List ℕ)
+    → IsRun t k width low long pairs ms → t.width ≡ width → width + length pairs ≡ (run k t).width
+run-width t k width low long pairs ms so_far same =
+    omega (arith, width-pairs k t, ap length so_far.pairs_are, same)
+
+pub turn-run : (t : TableContent) (k width : ℕ) (low low' long long' : List Term)
+    (pairs pairs' : List Pair) (ms ms' : List ℕ) (o : Option Pair)
+    → IsRun t k width low long pairs ms → AllLong long → t.width ≡ width
+    → IsTurn o (width + length pairs) long low pairs ms long' low' pairs' ms'
+    → IsRun t (k + 1) width low' long' pairs' ms'
+turn-run t k width low low' long long' pairs pairs' ms ms' None so_far high same turned =
+    let next = none-next (run k t) _ long _ so_far.held turned.0 in
     grind (arith, nat_tests, run-next, append-nil, pairs-next)
-turn-run t k start n base low low' long long' pairs pairs' ms ms' bound (Some pair) so_far high
-    number at turned =
+turn-run t k width low low' long long' pairs pairs' ms ms' (Some pair) so_far high same turned =
     let now = run k t in
+    let base = filter is_short t.terms in
     let m = turned.0 in
     let w = node now.width in
-    let old = ties_of start pairs ms in
+    let old = ties_of width pairs ms in
+    let number = run-width t k width low long pairs ms so_far same in
     let step = subst (λ j. IsStep pair (node j) long low long' low' m) number turned.1 in
     let down = filter is_short (map (front_term w) step.touched) in
-    let place : now.width ≡ start + length pairs = sym number ∙ at in
-    let last = ties-last start pairs ms pair m so_far.each in
+    let last = ties-last width pairs ms pair m so_far.each in
     let new_pairs = turned.2 in
     let new_ms = turned.3 in
-    let ties : ties_of start pairs' ms' ≡ old ++ tie_terms pair w m = cc in
+    let ties : ties_of width pairs' ms' ≡ old ++ tie_terms pair w m = cc in
     let moved : IsPermutation (((base ++ (low ++ old)) ++ down) ++ tie_terms pair w m)
-    (base ++ (low' ++ ties_of start pairs' ms')) =
+    (base ++ (low' ++ ties_of width pairs' ms')) =
     rw (step.put_down, ties) (adds-moved base low old down (tie_terms pair w m)) in
     let after =
-    held-step now pair (base ++ (low ++ old)) (base ++ (low' ++ ties_of start pairs' ms')) low long low' long'
-    m bound so_far.held high step moved in
+    held-step now pair (base ++ (low ++ old)) (base ++ (low' ++ ties_of width pairs' ms')) low long low' long'
+    m (weights t.terms) so_far.held high step moved in
     let next = run-next k t in
     let more = pairs-next k t in
     let is = after.1 in
@@ -122,7 +125,7 @@ turn-run t k start n base low low' long long' pairs pairs' ms ms' bound (Some pa
     let each = so_far.each in
     record {
       held =
-          subst (λ u. AreHeld u (base ++ (low' ++ ties_of start pairs' ms')) long' bound)
+          subst (λ u. AreHeld u (base ++ (low' ++ ties_of width pairs' ms')) long' (weights t.terms))
           (sym (next ∙ ap (λ x. with_next x now) is)) after.0;
       pairs_are = cc;
       each = grind (arith, nat_tests, length-append);
@@ -153,21 +156,3 @@ turn-few (Some pair) n most low low' long long' pairs pairs' ms ms' few turned =
 pub pairs-enough : (k : ℕ) (t : TableContent) → pairs_of (length (pairs_of k t)) t ≡ pairs_of k t
 pairs-enough zero t = refl
 pairs-enough (suc k) t = grind (arith, nat_tests, pairs-enough k)
-
--- ---- the pair of a step
-
--- it is of two variables of the terms
-pub step-pair : (n : ℕ) (pair : Pair) (w : Literal) (long low long' low' : List Term) (m : ℕ)
-    → IsStep pair w long low long' low' m → AllByRecursion (λ (t : Term). IsTermSet n t.0) long
-    → IsPair n pair
-step-pair n pair w long low long' low' m step sets =
-    let S : Term → Type 0 = λ t. IsTermSet n t.0 in
-    let all = All-permutation S long (step.touched ++ step.rest) step.taken.whole (All-from_recursion S long sets) in
-    go step.touched step.rest step.taken.some step.taken.begin (recursion_from_All S _ all)
-  where
-    go : (touched rest : List Term) → touched ≢ [] → Begin pair touched
-        → AllByRecursion (λ (t : Term). IsTermSet n t.0) (touched ++ rest) → IsPair n pair
-    go [] rest some begin inside = absurd (some refl)
-    go (t ∷ touched) rest some begin inside =
-        let own = begins-is pair.0 pair.1 t.0 begin.0 in
-        pair_of_set n pair.0 pair.1 own.0 t.0 own.1 inside.0

@@ -1,6 +1,6 @@
 -- A substitution under way: the terms of the first pair are replaced in their order, and no other
 -- terms begin with it.
-use Rattle.rosenberg_layer.proofs.Common.{nat_tests, ◌≡◌, ℕ, ◌+◌, ◌*◌, ◌-◌, ◌/◌, ◌%◌, ◌<◌, ◌≤◌, ◌^◌, true, false, ◌&&◌, arith, refl, ap, ◌∙◌, subst, List, [], ◌∷◌, ◌++◌, length, set, unsigned_abs, Contains, AllByRecursion, filter, and_parts, length-set, code_of, Term, IsTermSet, node, Pair, is_long, begins, front_term, is_short, pair_of, IsStep, code_at, term_at, is_touched, key_of, lists_with, AreWaiting, ArePartly, IsBeyond}
+use Rattle.rosenberg_layer.proofs.Common.{code_of, nat_tests, ◌≡◌, ℕ, ◌+◌, ◌*◌, ◌-◌, ◌/◌, ◌%◌, ◌<◌, ◌≤◌, ◌^◌, true, false, ◌&&◌, arith, refl, ap, ◌∙◌, subst, List, [], ◌∷◌, ◌++◌, length, set, unsigned_abs, Contains, AllByRecursion, filter, and_parts, length-set, Term, IsTermSet, node, Pair, is_long, begins, front_term, is_short, pair_of, IsStep, code_at, term_at, is_touched, key_of, lists_with, AreWaiting, ArePartly, IsBeyond}
 use Rattle.rosenberg_layer.proofs.PartlyTerms.{code-later, code-same, least, long_at, pair-first, pair-second, partly_at, partly_skip, partly_start, partly_touch, whole_step}
 use Rattle.rosenberg_layer.proofs.PutBack.{three-long}
 use Rattle.rosenberg_layer.proofs.PairOrder.{begins-pair, pair-begins, two-long}

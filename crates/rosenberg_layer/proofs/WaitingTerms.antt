@@ -346,11 +346,10 @@ pub wait_skipped : (ts : List Term) (lists : List (List ℕ)) (cursor : ℕ) (ke
     → AreWaiting ts (length ts) lists cursor keys → length ts ≤ 2 ^ 32 → cursor < length lists
     → list_at lists cursor ≡ [] → AreWaiting ts (length ts) lists (cursor + 1) keys
 wait_skipped ts lists cursor keys none wait narrow within empty =
-    let S = AreWaiting ts (length ts) lists in
     let same : lists ≡ set lists cursor [] =
     sym (set-get_or lists cursor []) ∙ ap (λ xs. set lists cursor xs) empty in
-    subst (S (cursor + 1)) (sym none)
-    (wait_collected ts lists lists cursor [] [] (subst (S cursor) none wait) narrow within
+    rw none
+    (wait_collected ts lists lists cursor [] [] (rw none at wait) narrow within
     (ap (map (key_of ts)) (sym empty)) (IsPermutation-refl [])
     (λ i j d up within. absurd (omega arith)) same)
 

@@ -10,6 +10,11 @@ use Rattle.rosenberg_layer.specs.Rosenberg.{Pair, node, is_long, new_term}
 abbrev pub long_part : TableContent → TableContent
 long_part t = record t { terms = filter is_long t.terms }
 
+-- what becomes of a term when a node stands for a pair, if there is one
+abbrev pub term_after : Option Pair → Literal → Term → Term
+term_after None w t = t
+term_after (Some pair) w t = new_term pair w t
+
 -- what becomes of terms when a node stands for a pair, where that is of degree 3 or more
 abbrev pub long_after : Pair → Literal → List Term → List Term
 long_after pair w ts = filter is_long (map (new_term pair w) ts)

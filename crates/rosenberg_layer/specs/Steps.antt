@@ -19,11 +19,6 @@ abbrev pub begins : Pair → List Literal → Bool
 begins pair (p ∷ q ∷ ls) = is_literal pair.0 p && is_literal pair.1 q
 begins pair _ = false
 
--- the first of the terms begins with the pair
-abbrev pub first_begins : Pair → List Term → Bool
-first_begins pair [] = false
-first_begins pair (t ∷ ts) = begins pair t.0
-
 -- a term of degree at most 2
 abbrev pub is_short : Term → Bool
 is_short t = not (is_long t)

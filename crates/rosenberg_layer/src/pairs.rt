@@ -5,12 +5,12 @@
 //! all terms of degree 3 or more.
 //!
 //! They are for tables of 2^31 nodes or more, which no run of the program has.
-ghost use Rattle.std.specs.Prelude.{◌≡◌, ◌+◌, ◌<◌, ◌≤◌, ◌^◌, ◌++◌, ◌∷◌, ◌&&◌, [], true, All, IfOk, OnOk, Some, unsigned_abs, length};
+ghost use Rattle.std.specs.Prelude.{◌≡◌, ◌+◌, ◌<◌, ◌≤◌, ◌^◌, ◌++◌, ◌∷◌, ◌&&◌, [], true, All, IfOk, OnOk, Some, unsigned_abs, length, map};
 ghost use Rattle.std.specs.List.{filter};
 ghost use Rattle.term_table.specs.Terms.{terms_total, with_additions, IsTermSet};
 ghost use Rattle.term_table.specs.Tables.{kept_at_once, with_more, IsTable};
-ghost use Rattle.rosenberg_layer.specs.Rosenberg.{front_pair, has_literal, is_long, new_term, next_before, node, pairs_of, run, without};
-ghost use Rattle.rosenberg_layer.specs.LongParts.{after_turn, long_after, long_part};
+ghost use Rattle.rosenberg_layer.specs.Rosenberg.{front_pair, has_literal, is_long, next_before, node, pairs_of, run, without};
+ghost use Rattle.rosenberg_layer.specs.LongParts.{after_turn, long_part, term_after};
 
 use crate::gather::node;
 use crate::run::{Substitutions, long_terms, run_of_long};
@@ -86,27 +86,53 @@ fn gather_long(
     Ok(())
 }
 
-/// Gathers what becomes of a term of degree 3 or more where a node stands for a pair, unless that is
-/// of lower degree.
-fn gather_replaced(
+/// Gathers what becomes of a term where a node stands for a pair, unless that is of degree 2 or less.
+fn gather_after(
     alloc: Global,
     terms: &mut GatheredTerms,
     literals: &[Literal],
     coefficient: i128,
-    pair: (Literal, Literal),
+    pair: Option<(Literal, Literal)>,
     node: Literal,
 ) -> Result<(), NoMemory>
-    requires long { is_long (literals.now, coefficient) ≡ true }
-    requires set { IsTermSet terms.old.width (new_term pair node (literals.now, coefficient)).0 }
+    requires set { IsTermSet terms.old.width (term_after pair node (literals.now, coefficient)).0 }
     requires small { terms_total terms.old.terms + unsigned_abs coefficient ≤ 2 ^ 124 }
-    ensures { OnOk result (terms.new
-        ≡ with_more terms.old (long_after pair node ((literals.now, coefficient) ∷ []))) }
+    ensures { OnOk result (terms.new ≡ with_more terms.old
+        (filter is_long (term_after pair node (literals.now, coefficient) ∷ []))) }
 {
-    if has_literal(literals, pair.0) && has_literal(literals, pair.1) {
-        let set = with_node(alloc, literals, pair, node)?;
-        return gather_long(terms, &set, coefficient);
+    if literals.len() < 3 {
+        return Ok(());
+    }
+    if let Some(pair) = pair {
+        if has_literal(literals, pair.0) && has_literal(literals, pair.1) {
+            let set = with_node(alloc, literals, pair, node)?;
+            return gather_long(terms, &set, coefficient);
+        }
     }
     gather_long(terms, literals, coefficient)
+}
+
+/// The terms of degree 3 or more of a table, of a width, once a node stands for a pair.
+fn after(
+    alloc: Global,
+    table: &Table,
+    width: usize,
+    pair: Option<(Literal, Literal)>,
+    node: Literal,
+) -> Result<Table, NoMemory>
+    requires { IsTable table.now.content
+        → All (λ t. IsTermSet width (term_after pair node t).0) table.now.content.terms }
+    ensures after { IfOk result (λ next. next ≡ kept_at_once (record {
+      width = width;
+      terms = with_additions [] (filter is_long (map (term_after pair node) table.now.content.terms));
+    })) }
+    ensures kept { IsTable table.now.content }
+{
+    let mut terms = GatheredTerms::new(alloc, width);
+    for (literals, coefficient) in table.terms() {
+        gather_after(alloc, &mut terms, literals, coefficient, pair, node)?;
+    }
+    Ok(terms.into_table())
 }
 
 /// The terms of degree 3 or more once a node of the next number stands for their first pair.
@@ -123,23 +149,15 @@ fn replaced(
     ensures { IfOk result (λ next.
         next ≡ kept_at_once (after_turn (Some pair) long.now.content)) }
 {
-    let mut terms = GatheredTerms::new(alloc, number + 1);
-    for (literals, coefficient) in long.terms() {
-        gather_replaced(alloc, &mut terms, literals, coefficient, pair, node(number))?;
-    }
-    Ok(terms.into_table())
+    after(alloc, long, number + 1, Some(pair), node(number))
 }
 
 /// The terms of degree 3 or more of a table.
-fn long_part(alloc: Global, table: &Table) -> Result<Table, NoMemory>
-    ensures long { IfOk result (λ long. long ≡ kept_at_once (long_part table.now.content)) }
-    ensures kept { IsTable table.now.content }
+fn long_part(alloc: Global, table: &Table, width: usize) -> Result<Table, NoMemory>
+    requires { width ≡ table.now.content.width }
+    ensures { IfOk result (λ long. long ≡ kept_at_once (long_part table.now.content)) }
 {
-    let mut terms = GatheredTerms::as_wide_as(alloc, table);
-    for (literals, coefficient) in table.terms() {
-        gather_long(&mut terms, literals, coefficient)?;
-    }
-    Ok(terms.into_table())
+    after(alloc, table, width, None, node(0))
 }
 
 /// The first two literals of the first term.
@@ -187,7 +205,7 @@ pub fn wide_pairs(
     requires narrow { (run turns table.now.content).width < 2 ^ 64 }
     ensures { IfOk result (λ pairs. pairs.items ≡ pairs_of turns table.now.content) }
 {
-    let mut long = long_part(alloc, table)?;
+    let mut long = long_part(alloc, table, width)?;
     let mut pairs = Vec::new(alloc);
     for _done in 0..turns {
         turn(alloc, &mut long, &mut pairs, width)?;

@@ -12,15 +12,15 @@ pub use Rattle.literal_lists.specs.Literals.{all_hold, literal_cmp, literal_set,
 pub use Rattle.term_table.specs.Terms.{Term, set_cmp, set_size, terms_cost, terms_total, terms_size, coefficient_of, in_front, with_addition, with_additions, IsTermSet, Ascends, AreTerms}
 pub use Rattle.term_table.specs.Tables.{TableContent, with_appended, kept_in, with_added, with_all, IsTable, IsKept, AreAdditions, with_more, KeptTable, IsLow}
 pub use Rattle.term_table.specs.Rooms.{Fills, HasRoomFor}
-pub use Rattle.std.proofs.lemmas.List.Elements.{All-push, All-nil, All-cons, All-head, All-tail, All-append, All-from_recursion, recursion_from_All, All-get_or, All-weaker, All-same, All-more}
+pub use Rattle.std.proofs.lemmas.List.Elements.{All-push, All-nil, All-cons, All-head, All-tail, All-append, All-from_recursion, recursion_from_All, All-take, All-get_or, All-weaker, All-same, All-more}
 pub use Rattle.term_table.specs.Runs.{Run, merged_terms, settled, with_entry, one_run, entries, sum_over, merged, settled_with, settled_back, is_empty, AreRuns}
 pub use Rattle.std.specs.List.{AllByRecursion, list_any, swap}
 pub use Rattle.std.specs.List.Sorted.{IsPermutation, IsSortedBy}
 unfoldable pub use Rattle.std.specs.List.Sorted.{IsStrictlySortedBy}
 pub use Rattle.std.specs.Map.{keys_of}
-pub use Rattle.std.proofs.lemmas.List.{take-map, take_more, length-append, drop_more, drop_all, get_or_default, length-drop, take_all, get_or-drop, reverse-reverse, reverse-append, length-reverse, take-append-le, get_or_append_left, get_or_push, length_push, at_drop_more, drop-set-lt, get_or-set_same, take-set-le, take_rest}
+pub use Rattle.std.proofs.lemmas.List.{take-map, take_more, length-take-le, get_or-take, take-take, length-append, drop_more, drop_all, get_or_default, length-drop, take_all, get_or-drop, reverse-reverse, reverse-append, take-append-le, get_or_append_left, get_or_push, length_push, at_drop_more, drop-set-lt, get_or-set_same, take-set-le, take_rest}
 pub use Rattle.std.specs.Prelude.{if◌then◌else◌, ⊤, replicate, fold, Any}
-pub use Rattle.term_table.specs.Newest.{AreOrdered, SmallSums, Halve, Each, AreSettling}
+pub use Rattle.term_table.specs.Newest.{AreOrdered, AreSettling}
 pub use Rattle.term_table.specs.Rests.{without, NotBelow, Begins, IsLeast, AreRests, rests_of, head_of, lesser_of, least_in, first_weight}
 pub use Rattle.literal_lists.proofs.LiteralSets.{literal_set-ascending, literal_set-less, literal_set-equal, literal_set-greater, Rises, literal_set-ascends, All-literal_set, literal_total, no_clash}
 pub use Rattle.term_table.specs.Products.{union, scaled, product_terms, pairs_with, pair_products, HasPrefix, union_terms, products_with, IsFactor, pairs_of}

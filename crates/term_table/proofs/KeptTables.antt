@@ -2,7 +2,8 @@
 use Rattle.term_table.proofs.Common.{nat_tests, ints, ◌≡◌, ◌+◌, ◌≤◌, ◌^◌, ℕ, ℤ, List, [], ◌∷◌, ◌++◌, ap, arith, unsigned_abs, All, Result, Ok, Err, OnOk, OnErr, All-push, Literal, Term, with_additions, terms_total, IsTermSet, Run, merged_terms, settled, with_entry, one_run, TableContent, kept_in, with_added, with_all, with_appended, IsTable, IsKept, AreAdditions}
 use Rattle.term_table.proofs.Additions.{terms_total-with_addition, terms_total-append, terms_total-cons, terms_total-more, terms_total-with_additions}
 use Rattle.term_table.proofs.KeptTerms.{OfSet, AreTerms-with_additions}
-use Rattle.term_table.proofs.Runs.{AreRuns-one_run, AreRuns-settled, AreRuns-with_entry, AreTerms-merged, merged_terms-one_run, merged_terms-with_entry, merged_terms-with_sums}
+use Rattle.term_table.proofs.SettlingRuns.{AreRuns-settled, AreRuns-with_entry}
+use Rattle.term_table.proofs.Runs.{AreRuns-one_run, AreTerms-merged, merged_terms-one_run, merged_terms-with_entry, merged_terms-with_sums}
 
 -- a table's runs make a table
 pub IsTable-kept : (width : ℕ) (runs : List Run) → IsKept width runs
@@ -36,8 +37,7 @@ IsKept-with_sums width runs ts kept sets small = record {
 pub IsKept-by_result : {E : Type 0} (r : Result (Unit {0}) E) (width : ℕ) (runs new next : List Run)
     → IsKept width runs → IsKept width next → OnOk r (new ≡ next) → OnErr r (new ≡ runs)
     → IsKept width new
-IsKept-by_result (Ok u) width runs new next before after done same = rw done after
-IsKept-by_result (Err u) width runs new next before after done same = rw same before
+IsKept-by_result r width runs new next before after done same = grind (arith, nat_tests)
 
 -- what contracts see after it
 pub content-by_result : {E : Type 0} (r : Result (Unit {0}) E) (width : ℕ) (runs new : List Run)
@@ -67,21 +67,17 @@ pub AreAdditions-by_result : {E : Type 0} (r : Result (Unit {0}) E) (t : TableCo
     → terms_total t.terms + unsigned_abs c ≤ 2 ^ 124
     → OnOk r (terms ≡ t.terms ++ (ls, c) ∷ []) → OnErr r (terms ≡ t.terms)
     → AreAdditions (record { width = t.width; terms = terms })
-AreAdditions-by_result (Ok u) t ls c terms all set small done same =
-    rw done (AreAdditions-with_appended t ls c all set small)
-AreAdditions-by_result (Err u) t ls c terms all set small done same = rw same all
+AreAdditions-by_result r t ls c terms all set small done same =
+    let more = AreAdditions-with_appended t ls c all set small in grind (arith, nat_tests, ints)
 
 -- the table of sums has one run
 pub IsKept-with_additions : (t : TableContent) → AreAdditions t
     → IsKept t.width (one_run (with_additions [] t.terms))
 IsKept-with_additions t all =
     let terms = AreTerms-with_additions t.width t.terms all.sets in
-    let total : terms_total (with_additions [] t.terms) ≤ 2 ^ 124 =
-    omega (arith, terms_total-with_additions t.terms, all.small) in
-    record {
-      runs = AreRuns-one_run t.width (with_additions [] t.terms) terms total;
-      small = rw (merged_terms-one_run t.width (with_additions [] t.terms) terms) total;
-    }
+    let total = terms_total-with_additions t.terms in
+    let runs = AreRuns-one_run t.width (with_additions [] t.terms) terms in
+    grind (arith, nat_tests, merged_terms-one_run t.width (with_additions [] t.terms) terms)
 
 -- what contracts see of it
 pub listed-with_additions : (t : TableContent) → AreAdditions t

@@ -58,9 +58,8 @@ sum_over-without ks ls (r ∷ rs) all not =
 
 rests_taken : (P : Run → Type 0) (rs : List Run) (k : ℕ) → AllByRecursion P rs
     → AllByRecursion P (take k rs)
-rests_taken P [] zero all = tt
+rests_taken P rs zero all = tt
 rests_taken P [] (suc k) all = tt
-rests_taken P (r ∷ rs) zero all = tt
 rests_taken P (r ∷ rs) (suc k) all = (all.0, rests_taken P rs k all.1)
 
 pub AreRests-without : (ls : List Literal) (rs : List Run) → AreRests rs → IsLeast ls rs

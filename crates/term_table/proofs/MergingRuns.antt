@@ -18,22 +18,6 @@ front-append ls c ts = grind (arith, nat_tests, ints)
 front-some : (t : Term) (ts : List Term) → IsNonzero t → in_front t.0 t.1 ts ≡ t ∷ ts
 front-some t ts some = grind (arith, nat_tests)
 
--- ---- one addition, by the order of its set and the first one
-
-module _ (t : Term) (ts : List Term) (ls : List Literal) (c : ℤ) where
-  added_at : (o : Ordering) → set_cmp ls t.0 ≡ o → with_addition (t ∷ ts) ls c
-      ≡ match_ordering o (in_front ls c (t ∷ ts)) (in_front t.0 (t.1 +ℤ c) ts) (t ∷ with_addition ts ls c)
-  added_at o e = ap (λ o. match_ordering o (in_front ls c (t ∷ ts)) (in_front t.0 (t.1 +ℤ c) ts) (t ∷ with_addition ts ls c)) e
-
-  added_less : set_cmp ls t.0 ≡ Less → with_addition (t ∷ ts) ls c ≡ in_front ls c (t ∷ ts)
-  added_less e = added_at Less e
-
-  added_equal : set_cmp ls t.0 ≡ Equal → with_addition (t ∷ ts) ls c ≡ in_front t.0 (t.1 +ℤ c) ts
-  added_equal e = added_at Equal e
-
-  added_greater : set_cmp ls t.0 ≡ Greater → with_addition (t ∷ ts) ls c ≡ t ∷ with_addition ts ls c
-  added_greater e = added_at Greater e
-
 -- ---- two runs, by the order of their first sets
 
 -- a term that lies below all that is added stays in front
@@ -41,7 +25,9 @@ merged-under : (t : Term) (ts us : List Term) → Under t.0 us
     → with_additions (t ∷ ts) us ≡ t ∷ with_additions ts us
 merged-under t ts [] under = refl
 merged-under t ts (u ∷ us) under =
-    grind (arith, nat_tests, merged-under t (with_addition ts u.0 u.1) us under.1, added_greater, less_back)
+    let more = merged-under t (with_addition ts u.0 u.1) us under.1 in
+    let back = less_back t.0 u.0 under.0 in
+    grind (arith, nat_tests)
 
 front-under : (ls : List Literal) (c : ℤ) (ts us : List Term) → Under ls us
     → with_additions (in_front ls c ts) us ≡ in_front ls c (with_additions ts us)
@@ -53,6 +39,11 @@ pub merged-less : (t : Term) (ts : List Term) (u : Term) (us : List Term) → As
 unfolding IsStrictlySortedBy
 merged-less t ts u us up some e =
     grind (arith, nat_tests, merged-under t ts (u ∷ us) (e, Under-further t.0 u.0 us e up.0), front-some t)
+
+added_equal : (t : Term) (ts : List Term) (ls : List Literal) (c : ℤ) → set_cmp ls t.0 ≡ Equal
+    → with_addition (t ∷ ts) ls c ≡ in_front t.0 (t.1 +ℤ c) ts
+added_equal t ts ls c e =
+    ap (λ o. match_ordering o (in_front ls c (t ∷ ts)) (in_front t.0 (t.1 +ℤ c) ts) (t ∷ with_addition ts ls c)) e
 
 pub merged-equal : (t : Term) (ts : List Term) (u : Term) (us : List Term) → Ascends (u ∷ us)
     → set_cmp t.0 u.0 ≡ Equal
@@ -69,16 +60,17 @@ pub merged-greater : (t : Term) (ts : List Term) (u : Term) (us : List Term) →
     → merged (t ∷ ts) (u ∷ us) ≡ in_front u.0 u.1 [] ++ merged (t ∷ ts) us
 unfolding IsStrictlySortedBy
 merged-greater t ts u us up e =
-    grind (arith, nat_tests, added_less, greater_back, front-under, front-append)
+    let back = greater_back t.0 u.0 e in
+    grind (arith, nat_tests, front-under, front-append)
 
 -- a run alone is its own merging
 pub merged-none : (us : List Term) → Ascends us → All IsNonzero us → merged [] us ≡ us
 unfolding IsStrictlySortedBy
 merged-none [] up some = refl
 merged-none (u ∷ us) up some =
-    ap (λ (table : List Term). with_additions table us)
-    (front-some u [] (All-head IsNonzero u us some)) ∙ merged-under u [] us up.0
-    ∙ ap (λ (ts : List Term). u ∷ ts) (merged-none us up.1 (All-tail IsNonzero u us some))
+    let first = front-some u [] (All-head IsNonzero u us some) in
+    let rest = merged-none us up.1 (All-tail IsNonzero u us some) in
+    grind (arith, nat_tests, merged-under u [] us up.0)
 
 -- ---- the loop
 
@@ -102,15 +94,12 @@ module _ (now new ts us all : List Term) (i j : ℕ) (d : Term) (p : i < length 
       → MergedRuns now (drop i ts) (drop j us) all → MergedRuns new (drop (i + 1) ts) (drop j us) all
   less_at e pushed before =
       let m = rw (drop_more ts i d p, drop_more us j d q) at before in
-      rw (drop_more us j d q) (record {
-        whole =
-            appended_more now new (in_front (get_or ts i d).0 (get_or ts i d).1 []) _ _ all pushed
-            (merged-less (get_or ts i d) (drop (i + 1) ts) (get_or us j d) (drop (j + 1) us) m.right_up (All-head IsNonzero (get_or ts i d) (drop (i + 1) ts) m.left_some) e) m.whole;
-        left_up = tail_up (get_or ts i d) (drop (i + 1) ts) m.left_up;
-        right_up = m.right_up;
-        left_some = All-tail IsNonzero (get_or ts i d) (drop (i + 1) ts) m.left_some;
-        right_some = m.right_some;
-      })
+      let some = All-head IsNonzero (get_or ts i d) (drop (i + 1) ts) m.left_some in
+      let step =
+      merged-less (get_or ts i d) (drop (i + 1) ts) (get_or us j d) (drop (j + 1) us) m.right_up some e in
+      let up = tail_up (get_or ts i d) (drop (i + 1) ts) m.left_up in
+      let rest = All-tail IsNonzero (get_or ts i d) (drop (i + 1) ts) m.left_some in
+      grind (arith, nat_tests, append_assoc, drop_more us j d q)
 
   pub equal_at : set_cmp (get_or ts i d).0 (get_or us j d).0 ≡ Equal
       → new ≡ now ++ in_front (get_or ts i d).0 ((get_or ts i d).1 +ℤ (get_or us j d).1) []
@@ -118,30 +107,22 @@ module _ (now new ts us all : List Term) (i j : ℕ) (d : Term) (p : i < length 
       → MergedRuns new (drop (i + 1) ts) (drop (j + 1) us) all
   equal_at e pushed before =
       let m = rw (drop_more ts i d p, drop_more us j d q) at before in
-      record {
-        whole =
-            appended_more now new (in_front (get_or ts i d).0 ((get_or ts i d).1 +ℤ (get_or us j d).1) []) _ _ all pushed
-            (merged-equal (get_or ts i d) (drop (i + 1) ts) (get_or us j d) (drop (j + 1) us) m.right_up e) m.whole;
-        left_up = tail_up (get_or ts i d) (drop (i + 1) ts) m.left_up;
-        right_up = tail_up (get_or us j d) (drop (j + 1) us) m.right_up;
-        left_some = All-tail IsNonzero (get_or ts i d) (drop (i + 1) ts) m.left_some;
-        right_some = All-tail IsNonzero (get_or us j d) (drop (j + 1) us) m.right_some;
-      }
+      let step = merged-equal (get_or ts i d) (drop (i + 1) ts) (get_or us j d) (drop (j + 1) us) m.right_up e in
+      let up = tail_up (get_or ts i d) (drop (i + 1) ts) m.left_up in
+      let up' = tail_up (get_or us j d) (drop (j + 1) us) m.right_up in
+      let rest = All-tail IsNonzero (get_or ts i d) (drop (i + 1) ts) m.left_some in
+      let rest' = All-tail IsNonzero (get_or us j d) (drop (j + 1) us) m.right_some in
+      grind (arith, nat_tests, append_assoc)
 
   pub greater_at : set_cmp (get_or ts i d).0 (get_or us j d).0 ≡ Greater
       → new ≡ now ++ in_front (get_or us j d).0 (get_or us j d).1 []
       → MergedRuns now (drop i ts) (drop j us) all → MergedRuns new (drop i ts) (drop (j + 1) us) all
   greater_at e pushed before =
       let m = rw (drop_more ts i d p, drop_more us j d q) at before in
-      rw (drop_more ts i d p) (record {
-        whole =
-            appended_more now new (in_front (get_or us j d).0 (get_or us j d).1 []) _ _ all pushed
-            (merged-greater (get_or ts i d) (drop (i + 1) ts) (get_or us j d) (drop (j + 1) us) m.right_up e) m.whole;
-        left_up = m.left_up;
-        right_up = tail_up (get_or us j d) (drop (j + 1) us) m.right_up;
-        left_some = m.left_some;
-        right_some = All-tail IsNonzero (get_or us j d) (drop (j + 1) us) m.right_some;
-      })
+      let step = merged-greater (get_or ts i d) (drop (i + 1) ts) (get_or us j d) (drop (j + 1) us) m.right_up e in
+      let up = tail_up (get_or us j d) (drop (j + 1) us) m.right_up in
+      let rest = All-tail IsNonzero (get_or us j d) (drop (j + 1) us) m.right_some in
+      grind (arith, nat_tests, append_assoc, drop_more ts i d p)
 
 -- the rests, one after the other, where one of them is none
 pub runs_all : (now new ts us all : List Term) (i j : ℕ) → ((length ts ≤ i) ⊎ (length us ≤ j)) → new

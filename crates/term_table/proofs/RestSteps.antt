@@ -170,9 +170,3 @@ pub step_sum : (ls : List Literal) (rests : List Run) (k : ℕ) → k < length r
 step_sum ls rests k in' kept least =
     total_by_more (coefficient_of ls) rests k [] in' ∙ ap (λ c. sum_over ls (take k rests) +ℤ c)
     (sym (weight_is ls (get_or rests k []) (ordered_at rests k kept.ordered) (below_at ls rests k least.below)))
-
-pub step_small : (ls : List Literal) (rests : List Run) (k : ℕ) → k < length rests → AreRests rests
-    → IsLeast ls rests
-    → unsigned_abs (sum_over ls (take k rests) +ℤ first_weight ls (get_or rests k [])) ≤ 2 ^ 124
-step_small ls rests k in' kept least =
-    rw (sym (step_sum ls rests k in' kept least)) (kept.small ls (k + 1))

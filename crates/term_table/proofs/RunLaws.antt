@@ -1,9 +1,8 @@
 -- The laws of merging and settling, on lists with the oldest run first.
-use Rattle.term_table.proofs.Common.{nat_tests, ◌≡◌, ◌*◌, ◌≤◌, ◌^◌, arith, ap, subst, ◌∙◌, refl, List, [], ◌∷◌, ◌++◌, length, reverse, unsigned_abs, All, AllByRecursion, is_eq, reverse-reverse, Term, set_cmp, Run, settled_with, settled_back, settled, SmallSums, AreOrdered, MergingSums, MergingKeepsTerms, SettlingDrops, SettlingMerges, SettlingStays, SettlingEnds, EntriesAreSmall}
+use Rattle.term_table.proofs.Common.{nat_tests, ◌≡◌, ◌*◌, ◌≤◌, arith, ap, ◌∙◌, refl, List, [], ◌∷◌, ◌++◌, length, reverse, is_eq, reverse-reverse, set_cmp, Run, settled_with, settled_back, settled, MergingSums, MergingKeepsTerms, SettlingDrops, SettlingMerges, SettlingStays, SettlingEnds}
 use Rattle.term_table.proofs.Additions.{weight-with_additions}
 use Rattle.term_table.proofs.KeptTerms.{AreTerms-more}
-use Rattle.term_table.proofs.Runs.{ordered_each, reverse_more, reverse_push, settled_is, back_each, SmallSums-turned, Each-turned}
-use Rattle.term_table.proofs.SettlingRuns.{settled_long, entries_small}
+use Rattle.term_table.proofs.Runs.{reverse_more, reverse_push, settled_is}
 
 pub merging_sums : MergingSums
 merging_sums ls older newer = weight-with_additions (λ ks. is_eq (set_cmp ls ks)) older newer
@@ -24,8 +23,7 @@ settled_two : (runs : List Run) (before last : Run) → settled ((runs ++ before
 settled_two runs before last = grind (arith, nat_tests, settled_is, reverse_push)
 
 pub settling_merges : SettlingMerges
-settling_merges runs before last long =
-    grind (arith, nat_tests, settled_two, settled_long, settled_is)
+settling_merges runs before last long = grind (arith, nat_tests, settled_two, settled_is)
 
 settled_short : (last before : Run) (older : List Run) → 1 ≤ length last
     → 2 * length last ≤ length before → settled_with last (before ∷ older) ≡ last ∷ before ∷ older
@@ -41,17 +39,3 @@ settling_stays runs before last some short =
 pub settling_ends : SettlingEnds
 settling_ends [] some = absurd (omega arith)
 settling_ends (t ∷ ts) some = refl
-
--- the sums over the runs up to an entry's, and over those before it, are at most 2^124
-pub entries_of_runs : EntriesAreSmall
-entries_of_runs width runs kept =
-    subst (All AreSmall) (reverse-reverse runs) (back_each AreSmall (reverse runs)
-    (each (reverse runs) (ordered_each width (reverse runs) (Each-turned width runs kept))
-    (SmallSums-turned width runs kept)))
-  where
-    AreSmall : Run → Type 0
-    AreSmall run = All (λ (t : Term). unsigned_abs t.1 ≤ 2 ^ 125) run
-
-    each : (rs : List Run) → AreOrdered rs → SmallSums rs → AllByRecursion AreSmall rs
-    each [] ordered small = tt
-    each (r ∷ rs) ordered small = (entries_small r rs ordered.0.0 small, each rs ordered.1 small.1)

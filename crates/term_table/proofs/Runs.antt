@@ -1,7 +1,7 @@
--- Runs that are listed the newest first: what their sums are, and what settling keeps of them.
-use Rattle.term_table.proofs.Common.{set, add-one, nat_tests, ◌≡◌, ℕ, zero, suc, ◌+◌, ◌*◌, ◌<◌, ◌≤◌, ◌^◌, Bool, true, false, cond, arith, sym, ap, subst, ◌∙◌, refl, List, [], ◌∷◌, ◌++◌, length, get_or, take, reverse, ℤ, pos, ◌+ℤ◌, unsigned_abs, All, inl, inr, AllByRecursion, int_eq, is_eq, ints, cases_lt, take_more, reverse-append, length-reverse, take-append-le, take_all, get_or_append_left, get_or_push, length_push, append-nil, All-nil, All-cons, All-push, All-append, All-get_or, All-head, recursion_from_All, if_so, total_by-append, total_by-flat_map, size-plus, Literal, Term, set_cmp, terms_total, coefficient_of, with_addition, with_additions, AreTerms, IsTermSet, Run, entries, merged_terms, sum_over, merged, is_empty, settled_with, settled_back, settled, with_entry, one_run, AreRuns, AreRests, SmallSums, Halve, Each, AreOrdered}
+-- Runs: what their sums are, that settling keeps them, and what a table keeps of its runs.
+use Rattle.term_table.proofs.Common.{nat_tests, ◌≡◌, ℕ, ◌+◌, ◌*◌, ◌<◌, ◌≤◌, ◌^◌, true, arith, sym, ap, ◌∙◌, refl, List, [], ◌∷◌, ◌++◌, length, get_or, take, reverse, ℤ, pos, ◌+ℤ◌, unsigned_abs, All, inl, inr, AllByRecursion, is_eq, ints, cases_lt, reverse-append, take-append-le, take_all, get_or_append_left, get_or_push, length_push, append-nil, All-nil, All-push, All-append, All-head, recursion_from_All, if_so, total_by-append, total_by-flat_map, size-plus, Literal, Term, set_cmp, terms_total, coefficient_of, with_addition, with_additions, AreTerms, IsTermSet, Run, entries, merged_terms, sum_over, merged, is_empty, settled_with, settled_back, settled, with_entry, one_run, AreRuns, AreRests, AreOrdered, All-take, length-take-le, get_or-take, take-take}
 use Rattle.term_table.proofs.Additions.{weight-with_additions, coefficient_of-with_additions, terms_total-cons}
-use Rattle.term_table.proofs.KeptTerms.{OfSet, AreTerms-nil, AreTerms-with_addition, AreTerms-more, AreTerms-with_additions, Ascends-with_additions, Ascends-more, nonzero-with_additions, nonzero-more}
+use Rattle.term_table.proofs.KeptTerms.{OfSet, AreTerms-with_additions, Ascends-with_additions, Ascends-more, nonzero-with_additions, nonzero-more}
 use Rattle.term_table.proofs.UniqueTerms.{same_terms}
 use Rattle.term_table.proofs.MergingRuns.{merged-none}
 
@@ -62,121 +62,7 @@ pub settled_is : (runs : List Run) (entry : Run)
     → settled (runs ++ entry ∷ []) ≡ reverse (settled_with entry (reverse runs))
 settled_is runs entry = ap (λ rs. reverse (settled_back rs)) (reverse_push runs entry)
 
--- ---- what is kept, of runs that are listed the newest first
-
-pub Halve-tail : (r : Run) (rs : List Run) → Halve (r ∷ rs) → Halve rs
-Halve-tail r [] h = tt
-Halve-tail r (s ∷ rs) h = h.2
-
-some_of : (r : Run) → is_empty r ≡ false → 1 ≤ length r
-some_of [] e = absurd cc
-some_of (t ∷ ts) e = omega arith
-
-Halve-settled_with : (last : Run) (older : List Run) → Halve older → Halve (settled_with last older)
-Halve-settled_with last [] h = grind (arith, nat_tests)
-Halve-settled_with last (before ∷ older) h =
-    let rest = Halve-tail before older h in
-    let dropped = Halve-settled_with before older rest in
-    let joined = Halve-settled_with (merged before last) older rest in
-    grind (arith, nat_tests, some_of last)
-
-SmallSums-settled_with : (last : Run) (older : List Run) → SmallSums (last ∷ older)
-    → SmallSums (settled_with last older)
-SmallSums-settled_with last [] small = grind (arith, nat_tests)
-SmallSums-settled_with last (before ∷ older) small =
-    let dropped = SmallSums-settled_with before older small.1 in
-    let joined = SmallSums-settled_with (merged before last) older
-    (λ ls. rw (sum_over-merged ls last before older) (small.0 ls), small.1.1) in
-    grind (arith, nat_tests)
-
-Each-settled_with : (width : ℕ) (last : Run) (older : List Run) → AreTerms width last
-    → Each width older → Each width (settled_with last older)
-Each-settled_with width last [] here each = grind (arith, nat_tests)
-Each-settled_with width last (before ∷ older) here each =
-    let dropped = Each-settled_with width before older each.0 each.1 in
-    let more = AreTerms-more width before last each.0 here.sets in
-    let joined = Each-settled_with width (merged before last) older more each.1 in
-    grind (arith, nat_tests)
-
--- ---- the same of runs that are listed the oldest first
-
-pub reverse_taken : (runs : List Run) (n : ℕ) → n < length runs
-    → reverse (take (n + 1) runs) ≡ get_or runs n [] ∷ reverse (take n runs)
-reverse_taken runs n in' =
-    ap reverse (take_more runs n [] in') ∙ reverse_push (take n runs) (get_or runs n [])
-
--- what holds of the runs by their places holds of them the newest first
-turned : (runs : List Run) (P : List Run → Type 0) → P []
-    → ((n : ℕ) → n < length runs → P (reverse (take n runs)) → P (reverse (take (n + 1) runs)))
-    → (n : ℕ) → n ≤ length runs → P (reverse (take n runs))
-turned runs P none more zero up = none
-turned runs P none more (suc n) up =
-    grind (arith, nat_tests, turned runs P none more n (omega arith))
-
-turned_all : (runs : List Run) (P : List Run → Type 0) → P [] → ((n : ℕ) → n < length runs
-    → P (reverse (take n runs)) → P (reverse (take (n + 1) runs))) → P (reverse runs)
-turned_all runs P none more =
-    subst (λ (rs : List Run). P (reverse rs)) (take_all (length runs) runs (omega arith))
-    (turned runs P none more (length runs) (omega arith))
-
-pub SmallSums-turned : (width : ℕ) (runs : List Run) → AreRuns width runs → SmallSums (reverse runs)
-SmallSums-turned width runs kept =
-    turned_all runs SmallSums tt (λ n in' before.
-    let list = reverse_taken runs n in' in
-    let back = λ (ls : List Literal). sum_over-reverse ls (take (n + 1) runs) in
-    rw list
-    (λ ls. omega (arith, ints, kept.small ls (n + 1), back ls, ap (sum_over ls) list), before))
-
-pub Each-turned : (width : ℕ) (runs : List Run) → AreRuns width runs → Each width (reverse runs)
-Each-turned width runs kept =
-    turned_all runs (Each width) tt
-    (λ n in' before. subst (Each width) (sym (reverse_taken runs n in'))
-    (All-get_or (AreTerms width) runs n [] in' kept.terms, before))
-
-pub Halve-turned : (width : ℕ) (runs : List Run) → AreRuns width runs → Halve (reverse runs)
-Halve-turned width runs kept = turned_all runs Halve tt more
-  where
-    some : (n : ℕ) → n < length runs → 1 ≤ length (get_or runs n [])
-    some n in' = All-get_or (λ (r : Run). 1 ≤ length r) runs n [] in' kept.some
-
-    more : (n : ℕ) → n < length runs → Halve (reverse (take n runs))
-        → Halve (reverse (take (n + 1) runs))
-    more zero in' before = subst Halve (sym (reverse_taken runs zero in')) (some zero in')
-    more (suc n) in' before =
-        let here = rw add-one at (reverse_taken runs n (omega arith)) in
-        let half = rw add-one at (kept.halve n (omega arith)) in
-        rw (reverse_taken runs (suc n) in', here) (some (suc n) in', half, rw here at before)
-
--- and back
-
-pub back_each : (P : Run → Type 0) (rs : List Run) → AllByRecursion P rs → All P (reverse rs)
-back_each P [] each = All-nil P
-back_each P (r ∷ rs) each =
-    subst (All P) (sym (reverse_more r rs))
-    (All-push P (reverse rs) r (back_each P rs each.1) each.0)
-
-back_some : (rs : List Run) → Halve rs → All (λ (r : Run). 1 ≤ length r) (reverse rs)
-back_some [] h = All-nil (λ (r : Run). 1 ≤ length r)
-back_some (r ∷ []) h = All-cons (λ (r : Run). 1 ≤ length r) r [] h (All-nil (λ (r : Run). 1 ≤ length r))
-back_some (r ∷ s ∷ rs) h =
-    rw (reverse_more r (s ∷ rs))
-    (All-push (λ (r : Run). 1 ≤ length r) (reverse (s ∷ rs)) r (back_some (s ∷ rs) h.2) h.0)
-
-back_small : (rs : List Run) → SmallSums rs → (ls : List Literal) (k : ℕ)
-    → unsigned_abs (sum_over ls (take k (reverse rs))) ≤ 2 ^ 124
-back_small [] small ls zero = omega arith
-back_small [] small ls (suc k) = omega arith
-back_small (r ∷ rs) small ls k =
-    elim (cases_lt (length rs) k) [
-      | inl above ↦
-          let whole : take k (reverse (r ∷ rs)) ≡ reverse (r ∷ rs) = take_all k (reverse (r ∷ rs)) (omega (arith, length-reverse (r ∷ rs))) in
-          rw (whole, sum_over-reverse ls (r ∷ rs)) (small.0 ls)
-      | inr below ↦
-          let front : take k (reverse (r ∷ rs)) ≡ take k (reverse rs) =
-          ap (take k) (reverse_more r rs)
-          ∙ take-append-le k (reverse rs) (r ∷ []) (omega (arith, length-reverse rs)) in
-          rw front (back_small rs small.1 ls k)
-    ]
+-- ---- runs after others
 
 halve_push : (xs : List Run) (x : Run) → ((k : ℕ) → k + 1 < length xs
     → 2 * length (get_or xs (k + 1) []) ≤ length (get_or xs k [])) → ((n : ℕ) → n + 1 ≡ length xs
@@ -185,34 +71,50 @@ halve_push : (xs : List Run) (x : Run) → ((k : ℕ) → k + 1 < length xs
 halve_push xs x before last k in' =
     grind (arith, nat_tests, length_push, get_or_append_left, cases_lt, get_or_push)
 
-back_halve : (rs : List Run) → Halve rs → (k : ℕ) → k + 1 < length (reverse rs)
-    → 2 * length (get_or (reverse rs) (k + 1) []) ≤ length (get_or (reverse rs) k [])
-back_halve [] h k in' = absurd (omega arith)
-back_halve (r ∷ []) h k in' = absurd (omega arith)
-back_halve (r ∷ s ∷ rs) h k in' =
-    let P : List Run → Type 0 = λ xs. (k : ℕ) → k + 1 < length xs → 2 * length (get_or xs (k + 1) []) ≤ length (get_or xs k []) in
-    let all : P (reverse (r ∷ s ∷ rs)) =
-    subst P (sym (reverse_more r (s ∷ rs)))
-    (halve_push (reverse (s ∷ rs)) r (back_halve (s ∷ rs) h.2) (λ n end.
-    let first : get_or (reverse (s ∷ rs)) n [] ≡ s =
-    ap (λ (xs : List Run). get_or xs n []) (reverse_more s rs)
-    ∙ get_or_push (reverse rs) s [] n (omega (arith, length-reverse (s ∷ rs), length-reverse rs, end)) in
-    omega (arith, ap length first, h.1))) in
-    all k in'
+pub AreRuns-nil : (width : ℕ) → AreRuns width []
+AreRuns-nil width = record {
+  terms = All-nil (AreTerms width);
+  some = All-nil (λ (r : Run). 1 ≤ length r);
+  halve = λ k in'. absurd (omega (arith, in'));
+  small = λ ls k. rw (take_all {A = Run} k [] (omega arith)) (omega arith);
+}
+
+pub AreRuns-push : (width : ℕ) (rs : List Run) (r : Run) → AreRuns width rs → AreTerms width r
+    → 1 ≤ length r
+    → ((n : ℕ) → n + 1 ≡ length rs → 2 * length r ≤ length (get_or rs n []))
+    → ((ls : List Literal) → unsigned_abs (sum_over ls (rs ++ r ∷ [])) ≤ 2 ^ 124)
+    → AreRuns width (rs ++ r ∷ [])
+AreRuns-push width rs r kept terms some half small = record {
+  terms = All-push (AreTerms width) rs r kept.terms terms;
+  some = All-push (λ (s : Run). 1 ≤ length s) rs r kept.some some;
+  halve = halve_push rs r kept.halve half;
+  small = λ ls k. elim (cases_lt (length rs) k) [
+    | inl above ↦ rw (take_all k (rs ++ r ∷ []) (omega (arith, above, length_push rs r))) (small ls)
+    | inr below ↦ rw (take-append-le k rs (r ∷ []) below) (kept.small ls k)
+  ];
+}
+
+pub AreRuns-take : (width : ℕ) (runs : List Run) (n : ℕ) → n ≤ length runs → AreRuns width runs
+    → AreRuns width (take n runs)
+AreRuns-take width runs n up kept =
+    let long = length-take-le n runs up in
+    record {
+      terms = All-take (AreTerms width) n runs kept.terms;
+      some = All-take (λ (r : Run). 1 ≤ length r) n runs kept.some;
+      halve = λ k in'.
+          let here = get_or-take n runs k [] (omega (arith, in', long)) in
+          let next = get_or-take n runs (k + 1) [] (omega (arith, in', long)) in
+          rw (here, next) (kept.halve k (omega (arith, in', long, up)));
+      small = λ ls k. elim (cases_lt n k) [
+        | inl above ↦ rw (take_all k (take n runs) (omega (arith, above, long))) (kept.small ls n)
+        | inr below ↦ rw (take-take k n runs below) (kept.small ls k)
+      ];
+    }
 
 -- ---- an addition
 
-pub AreRuns-back : (width : ℕ) (rs : List Run) → Each width rs → Halve rs → SmallSums rs
-    → AreRuns width (reverse rs)
-AreRuns-back width rs each halve small = record {
-  terms = back_each (AreTerms width) rs each;
-  some = back_some rs halve;
-  halve = back_halve rs halve;
-  small = back_small rs small;
-}
-
 -- a set's coefficient is no more than all sizes
-coefficient_small : (ls : List Literal) (ts : List Term)
+pub coefficient_small : (ls : List Literal) (ts : List Term)
     → unsigned_abs (coefficient_of ls ts) ≤ terms_total ts
 coefficient_small ls [] = omega arith
 coefficient_small ls (t ∷ ts) =
@@ -221,38 +123,6 @@ coefficient_small ls (t ∷ ts) =
 pub sum_small : (ls : List Literal) (runs : List Run)
     → unsigned_abs (sum_over ls runs) ≤ terms_total (merged_terms runs)
 sum_small ls runs = grind (arith, nat_tests, coefficient_of-merged, coefficient_small)
-
--- a run more, on top of the others
-pub SmallSums-run : (width : ℕ) (runs : List Run) (entry : Run) → AreRuns width runs
-    → terms_total (merged_terms runs) + terms_total entry ≤ 2 ^ 124
-    → SmallSums (entry ∷ reverse runs)
-SmallSums-run width runs entry kept small = (here, SmallSums-turned width runs kept)
-  where
-    here : (ls : List Literal) → unsigned_abs (sum_over ls (entry ∷ reverse runs)) ≤ 2 ^ 124
-    here ls = grind (arith, nat_tests, size-plus, coefficient_small, sum_over-reverse, sum_small)
-
-pub AreRuns-settled : (width : ℕ) (runs : List Run) (entry : Run) → AreRuns width runs
-    → AreTerms width entry → terms_total (merged_terms runs) + terms_total entry ≤ 2 ^ 124
-    → AreRuns width (settled (runs ++ entry ∷ []))
-AreRuns-settled width runs entry kept terms small =
-    subst (AreRuns width) (sym (settled_is runs entry))
-    (AreRuns-back width (settled_with entry (reverse runs))
-    (Each-settled_with width entry (reverse runs) terms (Each-turned width runs kept))
-    (Halve-settled_with entry (reverse runs) (Halve-turned width runs kept))
-    (SmallSums-settled_with entry (reverse runs) (SmallSums-run width runs entry kept small)))
-
-entry_terms : (width : ℕ) (ls : List Literal) (c : ℤ) → IsTermSet width ls → int_eq c (pos 0) ≡ false
-    → AreTerms width ((ls, c) ∷ [])
-entry_terms width ls c set some =
-    subst (λ (b : Bool). AreTerms width (cond b [] ((ls, c) ∷ []))) some
-    (AreTerms-with_addition width [] ls c (AreTerms-nil width) set)
-
-pub AreRuns-with_entry : (width : ℕ) (runs : List Run) (ls : List Literal) (c : ℤ)
-    → AreRuns width runs → IsTermSet width ls → terms_total (merged_terms runs) + unsigned_abs c
-    ≤ 2 ^ 124 → AreRuns width (with_entry runs ls c)
-AreRuns-with_entry width runs ls c kept set small =
-    let settle = AreRuns-settled width runs ((ls, c) ∷ []) kept in
-    grind (arith, nat_tests, settle, entry_terms width ls c set, terms_total-cons)
 
 -- the sums after an addition
 sum_over-with_entry : (ks : List Literal) (runs : List Run) (ls : List Literal) (c : ℤ)
@@ -290,15 +160,12 @@ merged_terms-with_sums runs ts =
 
 -- ---- runs that are made at once
 
-pub AreRuns-nil : (width : ℕ) → AreRuns width []
-AreRuns-nil width = AreRuns-back width [] tt tt tt
-
 pub AreTerms-merged : (width : ℕ) (runs : List Run) → All (AreTerms width) runs
     → AreTerms width (merged_terms runs)
 AreTerms-merged width runs each =
     AreTerms-with_additions width (entries runs) (sets runs (recursion_from_All (AreTerms width) runs each))
   where
-    sets : (rs : List Run) → Each width rs → All (OfSet (IsTermSet width)) (entries rs)
+    sets : (rs : List Run) → AllByRecursion (AreTerms width) rs → All (OfSet (IsTermSet width)) (entries rs)
     sets [] each = All-nil (OfSet (IsTermSet width))
     sets (r ∷ rs) each =
         All-append (OfSet (IsTermSet width)) r (entries rs) each.0.sets (sets rs each.1)
@@ -312,8 +179,8 @@ pub AreRuns-one_run : (width : ℕ) (ts : List Term) → AreTerms width ts → t
 AreRuns-one_run width [] terms small = AreRuns-nil width
 AreRuns-one_run width (t ∷ ts) terms small =
     let total = ap terms_total (merged_terms-one_run width (t ∷ ts) terms) in
-    AreRuns-back width ((t ∷ ts) ∷ []) (terms, tt) (omega arith)
-    (λ ls. omega (arith, ints, sum_small ls ((t ∷ ts) ∷ []), total, small), tt)
+    AreRuns-push width [] (t ∷ ts) (AreRuns-nil width) terms (omega arith) (λ n e. absurd (omega (arith, e)))
+    (λ ls. omega (arith, ints, sum_small ls ((t ∷ ts) ∷ []), total, small))
 
 -- ---- what an iterator asks
 
@@ -329,10 +196,11 @@ merged_terms-only width [] only kept one here = absurd (omega arith)
 merged_terms-only width (r ∷ s ∷ rs) only kept one here = absurd (omega arith)
 merged_terms-only width (r ∷ []) only kept one here =
     let terms = All-head (AreTerms width) r [] kept.terms in
-    ap (with_additions []) (append-nil r) ∙ merged-none r terms.ordered terms.nonzero ∙ sym here
+    let same = merged-none r terms.ordered terms.nonzero in
+    grind (arith, nat_tests, append-nil)
 
 -- ordered runs without 0, listed one after another
-pub ordered_each : (width : ℕ) (rs : List Run) → Each width rs → AreOrdered rs
+pub ordered_each : (width : ℕ) (rs : List Run) → AllByRecursion (AreTerms width) rs → AreOrdered rs
 ordered_each width [] each = tt
 ordered_each width (r ∷ rs) each = ((each.0.ordered, each.0.nonzero), ordered_each width rs each.1)
 

@@ -1,10 +1,11 @@
 -- Steps of settling: the last run is merged with the one before it, or nothing more is done.
-use Rattle.term_table.proofs.Common.{nat_tests, ◌≡◌, ◌≢◌, ℕ, ◌+◌, ◌*◌, ◌<◌, ◌≤◌, ◌^◌, arith, length, get_or, take, reverse, List, [], ◌∷◌, ◌++◌, sym, ap, ◌∙◌, subst, append-nil, ℤ, pos, unsigned_abs, All, ⊤, AllByRecursion, IsStrictlySortedBy, ints, take_all, reverse-reverse, All-nil, All-cons, All-from_recursion, Literal, Term, terms_total, coefficient_of, Ascends, Run, merged_terms, sum_over, merged, settled_with, settled, one_run, AreRuns, SmallSums, Halve, AreOrdered, AreSettling}
+use Rattle.term_table.proofs.Common.{refl, nat_tests, ◌≡◌, ◌≢◌, ℕ, ◌+◌, ◌*◌, ◌<◌, ◌≤◌, ◌^◌, arith, length, get_or, take, List, [], ◌∷◌, ◌++◌, sym, ap, ◌∙◌, subst, append-nil, ℤ, pos, unsigned_abs, All, AllByRecursion, IsStrictlySortedBy, ints, take_all, All-nil, All-cons, All-from_recursion, Literal, Term, terms_total, coefficient_of, Ascends, Run, merged_terms, sum_over, merged, settled, one_run, AreRuns, AreSettling, suc, zero, add-one, take_more, All-get_or, get_or_default, total_by_more, size-plus, cases_lt, inl, inr, length-take-le, get_or-take, AreTerms, IsTermSet, int_eq, cond, Bool, EntriesAreSmall, with_entry, false}
 use Rattle.term_table.proofs.Additions.{terms_total-cons}
-use Rattle.term_table.proofs.KeptTerms.{IsNonzero, Under, Ascends-more, nonzero-more}
+use Rattle.term_table.proofs.KeptTerms.{IsNonzero, Under, Ascends-more, nonzero-more, AreTerms-more, AreTerms-nil, AreTerms-with_addition}
 use Rattle.term_table.proofs.UniqueTerms.{coefficient_of-first}
 use Rattle.term_table.proofs.MergingRuns.{less_back}
-use Rattle.term_table.proofs.Runs.{ordered_each, Halve-tail, reverse_more, sum_over-merged, settled_is, reverse_taken, SmallSums-run, Each-turned, Halve-turned}
+use Rattle.term_table.proofs.Runs.{coefficient_small, sum_small, sum_over-append, sum_over-merged, AreRuns-push, AreRuns-take}
+use Rattle.term_table.proofs.RunLaws.{settling_drops, settling_ends, settling_merges, settling_stays}
 
 -- ---- how large an entry can be
 
@@ -20,103 +21,112 @@ entry_is (t ∷ ts) up = (coefficient_of-first t ts up.0, later ts up.0 (entry_i
     later (u ∷ us) under all =
         let rest = later us under.1 all.1 in grind (arith, nat_tests, ints, less_back t.0 u.0)
 
-tail_small : (rs : List Run) → SmallSums rs → (ls : List Literal)
-    → unsigned_abs (sum_over ls rs) ≤ 2 ^ 124
-tail_small [] small ls = omega arith
-tail_small (r ∷ rs) small ls = small.0 ls
-
-pub entries_small : (r : Run) (rs : List Run) → Ascends r → SmallSums (r ∷ rs)
+-- and none is large where no sum is
+entries_small : (r : Run) → Ascends r
+    → ((ls : List Literal) → unsigned_abs (coefficient_of ls r) ≤ 2 ^ 125)
     → All (λ (t : Term). unsigned_abs t.1 ≤ 2 ^ 125) r
-entries_small r rs up small =
+entries_small r up small =
     All-from_recursion (λ (t : Term). unsigned_abs t.1 ≤ 2 ^ 125) r (each r (entry_is r up))
   where
     each : (ts : Run) → AllByRecursion (λ (t : Term). coefficient_of t.0 r ≡ t.1) ts
         → AllByRecursion (λ (t : Term). unsigned_abs t.1 ≤ 2 ^ 125) ts
     each [] all = tt
-    each (t ∷ ts) all =
-        (omega (arith, ints, all.0, small.0 t.0, tail_small rs small.1 t.0), each ts all.1)
+    each (t ∷ ts) all = (omega (arith, ints, all.0, small t.0), each ts all.1)
 
--- ---- one step
+-- the sums over the runs up to a run, and over those before it, are at most 2^124
+pub run_small : (width : ℕ) (runs : List Run) (k : ℕ) → AreRuns width runs → k < length runs
+    → All (λ (t : Term). unsigned_abs t.1 ≤ 2 ^ 125) (get_or runs k [])
+run_small width runs k kept in' =
+    entries_small (get_or runs k []) (All-get_or (AreTerms width) runs k [] in' kept.terms).ordered (λ ls.
+    let one = total_by_more (coefficient_of ls) runs k [] in' in
+    omega (arith, ints, kept.small ls k, kept.small ls (k + 1), one))
 
-pub settled_long : (last before : Run) (older : List Run) → length before < 2 * length last
-    → settled_with last (before ∷ older) ≡ settled_with (merged before last) older
-settled_long last before older long = grind (arith, nat_tests)
+pub entries_of_runs : EntriesAreSmall
+entries_of_runs width runs kept = λ k d in'.
+    rw (get_or_default runs k d [] in') (run_small width runs k kept in')
+
+-- ---- the end
 
 -- the last run is short enough for the one before it
-abbrev pub Fits : Run → List Run → Type 0
-Fits last [] = ⊤
-Fits last (before ∷ older) = 2 * length last ≤ length before
+abbrev pub Fits : List Run → Run → ℕ → Type 0
+Fits runs last kept = (n : ℕ) → kept ≡ n + 1 → 2 * length last ≤ length (get_or runs n [])
 
-settled_done : (last : Run) (rs : List Run) → Fits last rs → Halve rs
-    → settled_with last rs ≡ one_run last ++ rs
-settled_done last rs fits h = grind (arith, nat_tests)
+taken_last : (runs : List Run) (n : ℕ) → n < length runs
+    → take (suc n) runs ≡ take n runs ++ get_or runs n [] ∷ []
+taken_last runs n in' = rw add-one at (take_more runs n [] in')
 
-turned_back : (last : Run) (runs : List Run)
-    → reverse (one_run last ++ reverse runs) ≡ runs ++ one_run last
-turned_back last runs = grind (arith, nat_tests, reverse-reverse, append-nil, reverse_more)
+settled_some : (runs : List Run) (last : Run) (kept : ℕ) → kept ≤ length runs → 1 ≤ length last
+    → Fits runs last kept → settled (take kept runs ++ last ∷ []) ≡ take kept runs ++ last ∷ []
+settled_some runs last zero up some fits = settling_ends last some
+settled_some runs last (suc n) up some fits =
+    rw (taken_last runs n (omega arith))
+    (settling_stays (take n runs) (get_or runs n []) last some (fits n (omega arith)))
+
+settled_done : (width : ℕ) (runs : List Run) (last : Run) (kept : ℕ) → AreRuns width runs
+    → kept ≤ length runs → Fits runs last kept
+    → settled (take kept runs ++ last ∷ []) ≡ take kept runs ++ one_run last
+settled_done width runs (t ∷ ts) kept all up fits = settled_some runs (t ∷ ts) kept up (omega arith) fits
+settled_done width runs [] zero all up fits = refl
+settled_done width runs [] (suc n) all up fits =
+    let before = get_or runs n [] in
+    let some = All-get_or (λ (r : Run). 1 ≤ length r) runs n [] (omega arith) all.some in
+    let half : Fits runs before n = λ m e. rw e (all.halve m (omega (arith, e, up))) in
+    settling_drops (take (suc n) runs)
+    ∙ rw (append-nil, taken_last runs n (omega arith)) (settled_some runs before n (omega arith) some half)
 
 -- ---- the loop
 
 -- the oldest runs that are left, and the last one, settle to what all do
 pub record Settling (runs : List Run) (entry last : Run) (kept : ℕ) : Type 0 where
-  pub steps : settled_with entry (reverse runs) ≡ settled_with last (reverse (take kept runs))
-  pub ordered : AreOrdered (last ∷ reverse (take kept runs))
-  pub small : SmallSums (last ∷ reverse (take kept runs))
-  pub halve : Halve (reverse (take kept runs))
+  pub steps : settled (runs ++ entry ∷ []) ≡ settled (take kept runs ++ last ∷ [])
+  pub up : Ascends last
+  pub some : All IsNonzero last
+  pub small : (ls : List Literal) → unsigned_abs (sum_over ls (take kept runs ++ last ∷ [])) ≤ 2 ^ 124
 
 pub settling_start : (runs : List Run) (entry : Run) → AreSettling runs entry
     → Settling runs entry entry (length runs)
 settling_start runs entry all =
-    let whole : take (length runs) runs ≡ runs = take_all (length runs) runs (omega arith) in record {
-      steps = ap (λ (rs : List Run). settled_with entry (reverse rs)) (sym whole);
-      ordered = rw whole all.ordered;
-      small = rw whole all.small;
-      halve = rw whole all.halve;
-    }
+    let whole = take_all (length runs) runs (omega arith) in grind (arith, nat_tests)
 
 pub settling_more : (runs : List Run) (entry last new : Run) (kept next : ℕ) → kept ≡ next + 1
     → kept ≤ length runs → length (get_or runs next []) < 2 * length last
-    → new ≡ merged (get_or runs next []) last → Settling runs entry last kept
-    → Settling runs entry new next
-settling_more runs entry last new kept next down up long made before =
+    → new ≡ merged (get_or runs next []) last → AreSettling runs entry
+    → Settling runs entry last kept → Settling runs entry new next
+settling_more runs entry last new kept next down up long made all before =
     let first = get_or runs next [] in
-    let older = reverse (take next runs) in
-    let list : reverse (take kept runs) ≡ first ∷ older = rw down (reverse_taken runs next (omega arith)) in
-    let ordered = rw list at before.ordered in
-    let small = rw list at before.small in
+    let rest = take next runs in
+    let own = All-get_or (AreTerms all.width) runs next [] (omega arith) all.kept.terms in
+    let list : take kept runs ≡ rest ++ first ∷ [] = rw down (take_more runs next [] (omega arith)) in
     rw made (record {
-      steps = before.steps ∙ ap (settled_with last) list ∙ settled_long last first older long;
-      ordered = ((Ascends-more first last ordered.1.0.0, nonzero-more first last ordered.1.0.1), ordered.1.1);
-      small = (λ ls. rw (sum_over-merged ls last first older) (small.0 ls), small.1.1);
-      halve = Halve-tail first older (rw list at before.halve);
+      steps =
+          before.steps ∙ ap (λ (rs : List Run). settled (rs ++ last ∷ [])) list ∙ settling_merges rest first last long;
+      up = Ascends-more first last own.ordered;
+      some = nonzero-more first last own.nonzero;
+      small = λ ls.
+          omega (
+            arith,
+            ints,
+            before.small ls,
+            ap (λ (rs : List Run). sum_over ls (rs ++ last ∷ [])) list,
+            sum_over-append ls (rest ++ first ∷ []) (last ∷ []),
+            sum_over-append ls rest (first ∷ []),
+            sum_over-append ls rest (merged first last ∷ []),
+            sum_over-merged ls last first [],
+          );
     })
 
 -- what the loop merges has small entries
-pub last_small : (runs : List Run) (entry last : Run) (kept : ℕ) → Settling runs entry last kept
-    → All (λ (t : Term). unsigned_abs t.1 ≤ 2 ^ 125) last
-last_small runs entry last kept before =
-    entries_small last (reverse (take kept runs)) before.ordered.0.0 before.small
+pub last_small : (runs : List Run) (entry last : Run) (kept : ℕ) → AreSettling runs entry
+    → Settling runs entry last kept → All (λ (t : Term). unsigned_abs t.1 ≤ 2 ^ 125) last
+last_small runs entry last kept all before =
+    entries_small last before.up (λ ls.
+    omega (arith, ints, before.small ls, all.kept.small ls kept, sum_over-append ls (take kept runs) (last ∷ [])))
 
-pub before_small : (runs : List Run) (entry last : Run) (kept next : ℕ) → kept ≡ next + 1
-    → kept ≤ length runs → Settling runs entry last kept
-    → All (λ (t : Term). unsigned_abs t.1 ≤ 2 ^ 125) (get_or runs next [])
-before_small runs entry last kept next down up before =
-    grind (arith, nat_tests, reverse_taken, entries_small)
-
-pub settling_done : (runs : List Run) (entry last : Run) (kept : ℕ)
-    → Fits last (reverse (take kept runs)) → Settling runs entry last kept
+pub settling_done : (runs : List Run) (entry last : Run) (kept : ℕ) → AreSettling runs entry
+    → kept ≤ length runs → Fits runs last kept → Settling runs entry last kept
     → settled (runs ++ entry ∷ []) ≡ take kept runs ++ one_run last
-settling_done runs entry last kept fits all =
-    grind (arith, nat_tests, settled_is, settled_done, turned_back)
-
-pub fits_none : (runs : List Run) (last : Run) (kept : ℕ) → kept ≡ 0
-    → Fits last (reverse (take kept runs))
-fits_none runs last kept none = subst (λ (k : ℕ). Fits last (reverse (take k runs))) (sym none) tt
-
-pub fits_before : (runs : List Run) (last : Run) (kept next : ℕ) → kept ≡ next + 1
-    → kept ≤ length runs → 2 * length last ≤ length (get_or runs next [])
-    → Fits last (reverse (take kept runs))
-fits_before runs last kept next down up short = grind (arith, nat_tests, reverse_taken)
+settling_done runs entry last kept all up fits before =
+    before.steps ∙ settled_done all.width runs last kept all.kept up fits
 
 -- ---- an addition to a table's runs
 
@@ -125,9 +135,11 @@ pub settling_run : (width : ℕ) (runs : List Run) (entry : Run) → AreRuns wid
     → All IsNonzero entry → terms_total (merged_terms runs) + terms_total entry ≤ 2 ^ 124
     → AreSettling runs entry
 settling_run width runs entry kept up some small = record {
-  ordered = ((up, some), ordered_each width (reverse runs) (Each-turned width runs kept));
-  small = SmallSums-run width runs entry kept small;
-  halve = Halve-turned width runs kept;
+  width = width;
+  kept = kept;
+  up = up;
+  some = some;
+  small = λ ls. grind (arith, nat_tests, size-plus, coefficient_small, sum_over-append, sum_small);
 }
 
 pub settling_entry : (width : ℕ) (runs : List Run) (ls : List Literal) (c : ℤ) → AreRuns width runs
@@ -138,3 +150,56 @@ settling_entry width runs ls c kept small some =
     settling_run width runs ((ls, c) ∷ []) kept (tt, tt)
     (All-cons IsNonzero (ls, c) [] some (All-nil IsNonzero))
     (omega (arith, small, terms_total-cons (ls, c) []))
+
+runs_done : (width : ℕ) (runs : List Run) (entry last : Run) (kept : ℕ) → AreSettling runs entry
+    → AreRuns width runs → kept ≤ length runs → AreTerms width last → Fits runs last kept
+    → Settling runs entry last kept → AreRuns width (settled (runs ++ entry ∷ []))
+runs_done width runs entry last kept all own up terms fits before =
+    rw (settling_done runs entry last kept all up fits before) (go last terms fits before.small)
+  where
+    go : (r : Run) → AreTerms width r → Fits runs r kept
+        → ((ls : List Literal) → unsigned_abs (sum_over ls (take kept runs ++ r ∷ [])) ≤ 2 ^ 124)
+        → AreRuns width (take kept runs ++ one_run r)
+    go [] terms fits small = rw append-nil (AreRuns-take width runs kept up own)
+    go (t ∷ ts) terms fits small =
+        let long = length-take-le kept runs up in
+        AreRuns-push width (take kept runs) (t ∷ ts) (AreRuns-take width runs kept up own) terms (omega arith)
+        (λ n e. rw (get_or-take kept runs n [] (omega (arith, e, long))) (fits n (omega (arith, e, long)))) small
+
+runs_after : (width : ℕ) (runs : List Run) (entry last : Run) (kept : ℕ) → AreSettling runs entry
+    → AreRuns width runs → kept ≤ length runs → AreTerms width last → Settling runs entry last kept
+    → AreRuns width (settled (runs ++ entry ∷ []))
+runs_after width runs entry last zero all own up terms before =
+    runs_done width runs entry last zero all own up terms (λ n e. absurd (omega (arith, e))) before
+runs_after width runs entry last (suc n) all own up terms before =
+    let first = get_or runs n [] in
+    let more = All-get_or (AreTerms width) runs n [] (omega arith) own.terms in
+    elim (cases_lt (length first) (2 * length last)) [
+      | inl long ↦
+          runs_after width runs entry (merged first last) n all own (omega arith)
+          (AreTerms-more width first last more terms.sets)
+          (settling_more runs entry last _ (suc n) n (omega arith) up long refl all before)
+      | inr short ↦
+          let fits : Fits runs last (suc n) = λ m e.
+          let same : n ≡ m = omega (arith, e) in rw (← same) short in
+          runs_done width runs entry last (suc n) all own up terms fits before
+    ]
+
+pub AreRuns-settled : (width : ℕ) (runs : List Run) (entry : Run) → AreRuns width runs
+    → AreTerms width entry → terms_total (merged_terms runs) + terms_total entry ≤ 2 ^ 124
+    → AreRuns width (settled (runs ++ entry ∷ []))
+AreRuns-settled width runs entry kept terms small =
+    let all = settling_run width runs entry kept terms.ordered terms.nonzero small in
+    runs_after width runs entry entry (length runs) all kept (omega arith) terms (settling_start runs entry all)
+
+entry_terms : (width : ℕ) (ls : List Literal) (c : ℤ) → IsTermSet width ls → int_eq c (pos 0) ≡ false
+    → AreTerms width ((ls, c) ∷ [])
+entry_terms width ls c set some =
+    grind (arith, nat_tests, AreTerms-with_addition width [] ls c (AreTerms-nil width) set)
+
+pub AreRuns-with_entry : (width : ℕ) (runs : List Run) (ls : List Literal) (c : ℤ)
+    → AreRuns width runs → IsTermSet width ls → terms_total (merged_terms runs) + unsigned_abs c
+    ≤ 2 ^ 124 → AreRuns width (with_entry runs ls c)
+AreRuns-with_entry width runs ls c kept set small =
+    let settle = AreRuns-settled width runs ((ls, c) ∷ []) kept in
+    grind (arith, nat_tests, settle, entry_terms width ls c set, terms_total-cons)

@@ -1,7 +1,7 @@
 -- No index that is read is above the limit, so as many variables are enough; and there are no more
 -- constraints than words.
-use Rattle.wbo_reader.proofs.Common.{ℕ, zero, suc, ◌<◌, ◌≤◌, Bool, ℤ, List, [], ◌∷◌, ◌++◌, length, Result, Ok, IfOk, arith, if◌then◌else◌, nat_tests, TextFault, Word, ◌>>=◌, next_of, Literal, Product, Operator, Listed, widened, literals_in, is_operator, never, many, index_at, name_at, literal_at, literals_at, product_at, coefficient_at, term_at, sum_at, comparison_at, constraint_at, Reader, widened-append, Weighed, greatest_index, all_literals, front_at, weighed_at, constraints_at}
-use Rattle.wbo_reader.proofs.Fronts.{bind_if, Any, any, as_weighed, sum_part}
+use Rattle.wbo_reader.proofs.Common.{ℕ, zero, suc, ◌<◌, ◌≤◌, Bool, ℤ, List, [], ◌∷◌, ◌++◌, length, Result, Ok, IfOk, arith, if◌then◌else◌, nat_tests, TextFault, Word, ◌>>=◌, Literal, Product, Operator, Listed, widened, literals_in, is_operator, never, many, index_at, name_at, literal_at, literals_at, product_at, coefficient_at, term_at, sum_at, comparison_at, constraint_at, Reader, widened-append, Weighed, greatest_index, all_literals, weighed_at, constraints_at}
+use Rattle.wbo_reader.proofs.Fronts.{any}
 
 -- ---- one literal
 
@@ -50,14 +50,10 @@ literals_fit limit [] = λ v le. le
 literals_fit limit (w ∷ ws) =
     grind (arith, nat_tests, literals_fit limit ws, first_fits limit w (literals_at limit ws))
 
-abbrev product_part : ℕ → Word × List Word → Result (List Literal × List Word) TextFault
-product_part limit w = literal_at limit w.0 >>= λ l. literals_at limit w.1 >>= with_first l
-
 product_fits : (limit end : ℕ) (ws : List Word) → IfOk (product_at limit end ws) (FitsFirst limit)
 unfolding product_at
-product_fits limit end ws =
-    bind_if Any (FitsFirst limit) (next_of end ws) (product_part limit) (any (next_of end ws))
-    (λ w _. first_fits limit w.0 (literals_at limit w.1) (literals_fit limit w.1))
+product_fits limit end [] = tt
+product_fits limit end (w ∷ ws) = first_fits limit w (literals_at limit ws) (literals_fit limit ws)
 
 -- ---- sums
 
@@ -134,12 +130,7 @@ FitsWeighed k = Fits greatest_index (literals_in k.listed.terms)
 weighed_fits : (end : ℕ) (w : Word) (ws : List Word)
     → IfOk (weighed_at end w ws) (λ x. FitsWeighed x.0)
 unfolding weighed_at
-weighed_fits end w ws =
-    bind_if Any (λ (x : Weighed × List Word). FitsWeighed x.0) (front_at end w ws) (sum_part end)
-    (any (front_at end w ws))
-    (λ front _. bind_if (FitsListed greatest_index) (λ (x : Weighed × List Word). FitsWeighed x.0)
-    (constraint_at greatest_index end front.1 front.2) (as_weighed front.0)
-    (constraint_fits greatest_index end front.1 front.2) (λ k h. h))
+weighed_fits end w ws = grind (arith, nat_tests, constraint_fits greatest_index end)
 
 -- no index of a text is above the greatest
 pub constraints_fit : (end : ℕ) (ws : List Word)
@@ -153,9 +144,11 @@ constraints_fit end ws =
 
 -- ---- how many there are
 
-abbrev counted : Weighed × List Word → List Weighed × List Word
-    → Result (List Weighed × List Word) TextFault
-counted x y = Ok (x.0 ∷ y.0, y.1)
+one_more_few : (n : ℕ) (first : Result (Weighed × List Word) TextFault)
+    (rest : List Word → Result (List Weighed × List Word) TextFault)
+    → ((ws : List Word) → IfOk (rest ws) (λ x. length x.0 ≤ n))
+    → IfOk (first >>= λ x. rest x.1 >>= λ y. Ok (x.0 ∷ y.0, y.1)) (λ (z : List Weighed × List Word). length z.0 ≤ suc n)
+one_more_few n first rest few = grind (arith, nat_tests)
 
 few_read : (end n : ℕ) (ws : List Word)
     → IfOk (many never (weighed_at end) n ws) (λ x. length x.0 ≤ n)
@@ -163,11 +156,7 @@ unfolding many
 few_read end n [] = omega arith
 few_read end zero (w ∷ ws) = omega arith
 few_read end (suc n) (w ∷ ws) =
-    bind_if Any (λ (x : List Weighed × List Word). length x.0 ≤ suc n) (weighed_at end w ws)
-    (λ x. many never (weighed_at end) n x.1 >>= counted x) (any (weighed_at end w ws))
-    (λ x _. bind_if (λ (y : List Weighed × List Word). length y.0 ≤ n)
-    (λ (y : List Weighed × List Word). length y.0 ≤ suc n) (many never (weighed_at end) n x.1)
-    (counted x) (few_read end n x.1) (λ y le. omega (arith, le)))
+    one_more_few n (weighed_at end w ws) (many never (weighed_at end) n) (few_read end n)
 
 -- there are no more constraints than words
 pub constraints_few : (end : ℕ) (ws : List Word)

@@ -19,3 +19,4 @@ pub mod Together
 pub mod Read
 pub mod WeighedSteps
 pub mod LeastNumbers
+mod Lemmas

@@ -1,6 +1,6 @@
 -- The rewritten problem stands for its source. Where a constraint that stands for a soft one holds,
 -- the bit is 1 or the soft constraint holds: so the bits that are 1 cost no less than what fails.
-use Rattle.wbo_reader.proofs.Common.{◌≡◌, ℕ, suc, ◌+◌, ◌≤◌, Bool, false, cond, not, ◌&&◌, ◌||◌, List, [], ◌∷◌, ◌++◌, map, take, length, Option, ℤ, pos, ◌+ℤ◌, ◌≤ℤ◌, refl, sym, ap, subst, ◌∙◌, arith, if◌then◌else◌, ⊤, list_any, AllByRecursion, ints, nat_tests, append_assoc, take-append-le, take_all, length-append, length-map, list_any-append, sum_by-cons, recursion_from_All, Cost, sum_of, fails, problem_cost, Soft, WboContent, wbo_cost, paid, paid_for, reaches_top, IsNormalConstraint, IsNormalSource, all_of, rewritten, rewritten_constraints, extended, eased_row, eased_rows, hard_rows, weighed_bits, RewritesItsSource, CarriesAssignments}
+use Rattle.wbo_reader.proofs.Common.{◌≡◌, ℕ, suc, ◌+◌, ◌≤◌, Bool, false, cond, not, ◌&&◌, ◌||◌, List, [], ◌∷◌, ◌++◌, map, take, length, Option, ℤ, pos, ◌+ℤ◌, ◌≤ℤ◌, refl, subst, ◌∙◌, arith, if◌then◌else◌, ⊤, list_any, AllByRecursion, ints, nat_tests, append_assoc, take-append-le, take_all, length-append, length-map, list_any-append, sum_by-cons, recursion_from_All, Cost, sum_of, fails, problem_cost, Soft, WboContent, wbo_cost, paid, paid_for, reaches_top, IsNormalConstraint, IsNormalSource, all_of, rewritten, rewritten_constraints, extended, eased_rows, hard_rows, weighed_bits, RewritesItsSource, CarriesAssignments, or_parts}
 use Rattle.base.specs.declared.costs.Cost.TheVariants.{Whole, Infinite}
 use Rattle.wbo_reader.proofs.Agreeing.{fails-first, all_fail-first}
 use Rattle.wbo_reader.proofs.Easing.{bit_of, eased_row-fails}
@@ -19,23 +19,19 @@ eased_rows-fail : (n : ℕ) (x' : List Bool) (v : ℕ) (soft : List Soft)
     → list_any (fails x') (all_of (eased_rows v soft)) ≡ unpaid (take n x') x' v soft
 eased_rows-fail n x' v [] h = refl
 eased_rows-fail n x' v (s ∷ soft) h =
-    list_any-append (fails x') (eased_row v s.constraint) (all_of (eased_rows (suc v) soft))
-    ∙ (λ i. (eased_row-fails x' v s.constraint
-    ∙ ap (λ f. not (bit_of x' v) && f) (fails-first n x' s.constraint h.0)) i
-    || eased_rows-fail n x' (suc v) soft h.1 i)
+    let rest = eased_rows-fail n x' (suc v) soft h.1 in
+    let first = fails-first n x' s.constraint h.0 in
+    grind (arith, nat_tests, list_any-append, eased_row-fails)
 
 -- one constraint: where it fails its bit is 1, so what is paid for it is spent
 paid_once : (fail bit : Bool) (w : ℕ) → (not bit && fail) ≡ false → cond fail w 0 ≤ cond bit w 0
 paid_once fail bit w e = grind (arith, nat_tests)
 
-neither : (a b : Bool) → (a || b) ≡ false → (a ≡ false) × (b ≡ false)
-neither a b e = grind (arith, nat_tests)
-
 paid-le : (x x' : List Bool) (v : ℕ) (soft : List Soft) → unpaid x x' v soft ≡ false
     → paid x soft ≤ spent x' v soft
 paid-le x x' v [] e = omega arith
 paid-le x x' v (s ∷ soft) e =
-    let parts = neither (not (bit_of x' v) && fails x s.constraint) (unpaid x x' (suc v) soft) e in
+    let parts = or_parts (not (bit_of x' v) && fails x s.constraint) (unpaid x x' (suc v) soft) e in
     let once = paid_once (fails x s.constraint) (bit_of x' v) s.weight parts.0 in
     omega (arith, sum_by-cons (paid_for x) s soft, paid-le x x' (suc v) soft parts.1)
 
@@ -118,18 +114,12 @@ spent_is_paid : (x x' : List Bool) (v : ℕ) (soft : List Soft) → AreFailing x
     → spent x' v soft ≡ paid x soft
 spent_is_paid x x' v [] h = refl
 spent_is_paid x x' v (s ∷ soft) h =
-    (λ i. cond (h.0 i) s.weight 0 + spent_is_paid x x' (suc v) soft h.1 i)
-    ∙ sym (sum_by-cons (paid_for x) s soft)
-
-no_more : (b : Bool) → (not b && b) ≡ false
-no_more b = grind (arith, nat_tests)
+    let rest = spent_is_paid x x' (suc v) soft h.1 in simp sum_by-cons (grind (arith, nat_tests))
 
 all_paid : (x x' : List Bool) (v : ℕ) (soft : List Soft) → AreFailing x x' v soft
     → unpaid x x' v soft ≡ false
 all_paid x x' v [] h = refl
-all_paid x x' v (s ∷ soft) h =
-    λ i. ((ap (λ b. not b && fails x s.constraint) h.0 ∙ no_more (fails x s.constraint)) i)
-    || all_paid x x' (suc v) soft h.1 i
+all_paid x x' v (s ∷ soft) h = grind (arith, nat_tests, all_paid x x' (suc v) soft h.1)
 
 -- what is told of a problem whose soft constraints are all paid is the cost of the source
 all_paid_cost : (hard : Bool) (top : Option ℕ) (sum : ℕ) → told_cost hard false top sum

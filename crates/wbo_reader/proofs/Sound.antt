@@ -1,6 +1,6 @@
 -- The rewritten problem is in normal form, and its sizes sum to at most four times those of its
 -- source.
-use Rattle.wbo_reader.proofs.Common.{nat_tests, ◌≡◌, ◌≢◌, ℕ, suc, ◌+◌, ◌*◌, ◌<◌, ◌≤◌, Bool, true, false, ◌&&◌, ◌||◌, eqb, List, [], ◌∷◌, ◌++◌, map, length, All, Option, unwrap_or, ℤ, pos, ◌-ℤ◌, unsigned_abs, refl, arith, sum_by, AllByRecursion, IsStrictlySortedBy, ints, sum_by-append, sum_by-cons, All-nil, All-weaker, All-from_recursion, recursion_from_All, positive_part, Literal, Product, Constraint, IsLiteralSet, negated, products_total, constraint_total, problem_total, IsNormalProduct, positive_total, Soft, WboContent, IsNormalConstraint, soft_total, wbo_total, bit_product, weighed_bits, least_sum, eased, eased_row, eased_rows, hard_rows, merged, all_of, top_rows, rewritten, rewritten_constraints, RewrittenIsSound}
+use Rattle.wbo_reader.proofs.Common.{nat_tests, ◌≡◌, ◌≢◌, ℕ, suc, ◌+◌, ◌*◌, ◌<◌, ◌≤◌, Bool, true, false, ◌&&◌, ◌||◌, eqb, List, [], ◌∷◌, ◌++◌, map, length, All, Option, unwrap_or, ℤ, pos, ◌-ℤ◌, unsigned_abs, refl, arith, sum_by, AllByRecursion, IsStrictlySortedBy, ints, sum_by-append, sum_by-cons, All-nil, All-weaker, All-from_recursion, recursion_from_All, Literal, Product, Constraint, IsLiteralSet, negated, products_total, constraint_total, problem_total, IsNormalProduct, Soft, WboContent, IsNormalConstraint, soft_total, wbo_total, bit_product, weighed_bits, least_sum, eased, eased_row, eased_rows, hard_rows, merged, all_of, top_rows, rewritten, rewritten_constraints, RewrittenIsSound, rows_of, negated-total, positive_total-le, all_append, All-cons, All-map, All-push, int_le, neg_ℤ, if◌then◌else◌, Some, None, nat_le}
 
 -- ---- products
 
@@ -41,35 +41,37 @@ negated_normal n t is = record {
   nonzero = λ e. is.nonzero (omega (arith, ints, e));
 }
 
-all_negated : (n : ℕ) (ts : List Product) → AllByRecursion (IsNormalProduct n) ts
-    → AllByRecursion (IsNormalProduct n) (map negated ts)
-all_negated n [] h = tt
-all_negated n (t ∷ ts) h = (negated_normal n t h.0, all_negated n ts h.1)
+all_negated : (n : ℕ) (ts : List Product) → All (IsNormalProduct n) ts
+    → All (IsNormalProduct n) (map negated ts)
+all_negated n ts h =
+    All-map (IsNormalProduct n) negated ts (All-weaker (IsNormalProduct n) (λ t. IsNormalProduct n (negated t)) (negated_normal n) ts h)
 
-all_wider : (v n : ℕ) → v ≤ n → (ts : List Product) → AllByRecursion (IsNormalProduct v) ts
-    → AllByRecursion (IsNormalProduct n) ts
-all_wider v n le [] h = tt
-all_wider v n le (t ∷ ts) h = (wider_product v n le t h.0, all_wider v n le ts h.1)
-
-with_last : (n : ℕ) (ts : List Product) (t : Product) → AllByRecursion (IsNormalProduct n) ts
-    → IsNormalProduct n t → AllByRecursion (IsNormalProduct n) (ts ++ t ∷ [])
-with_last n [] t h is = (is, tt)
-with_last n (u ∷ ts) t h is = (h.0, with_last n ts t h.1 is)
+with_last : (n : ℕ) (b : Bool) (ts : List Product) (t : Product) → All (IsNormalProduct n) ts
+    → (b ≡ false → IsNormalProduct n t) → All (IsNormalProduct n) (if b then ts else ts ++ t ∷ [])
+with_last n true ts t h is = h
+with_last n false ts t h is = All-push (IsNormalProduct n) ts t h (is refl)
 
 -- ---- constraints
 
-abbrev IsGood : ℕ → Constraint → Type 0
-IsGood n k = AllByRecursion (IsNormalProduct n) k.products
+record IsGood (n : ℕ) (k : Constraint) : Type 0 where
+  are : All (IsNormalProduct n) k.products
 
 eased_good : (v n : ℕ) (ts : List Product) (bound : ℤ) → v < n
-    → AllByRecursion (IsNormalProduct n) ts → IsGood n (eased v ts bound)
+    → All (IsNormalProduct n) ts → IsGood n (eased v ts bound)
 eased_good v n ts bound lt h =
-    let bit = bit_normal v n (bound -ℤ least_sum ts) lt in
-    grind (arith, nat_tests, ints, with_last)
+    let some : int_le bound (least_sum ts) ≡ false → bound -ℤ least_sum ts ≢ pos 0 =
+    λ e none. absurd (grind (arith, nat_tests, ints)) in
+    record {
+      are = with_last n (int_le bound (least_sum ts)) ts (bit_product v (bound -ℤ least_sum ts)) h
+          (λ e. bit_normal v n (bound -ℤ least_sum ts) lt (some e));
+    }
 
 row_good : (v n : ℕ) (k : Constraint) → v < n → IsGood n k
     → AllByRecursion (IsGood n) (eased_row v k)
-row_good v n k lt h = grind (arith, nat_tests, eased_good, all_negated)
+row_good v n k lt h =
+    let one = eased_good v n k.products k.bound lt h.are in
+    let two = eased_good v n (map negated k.products) (neg_ℤ k.bound) lt (all_negated n k.products h.are) in
+    grind (arith, nat_tests)
 
 rows_good : (v n : ℕ) (soft : List Soft) → v + length soft ≤ n
     → AllByRecursion (λ (s : Soft). IsGood n s.constraint) soft
@@ -84,14 +86,9 @@ hard_good n [] h = tt
 hard_good n (k ∷ hard) h = ((h.0, tt), hard_good n hard h.1)
 
 module _ {A : Type 0} (P : A → Type 0) where
-  all_both : (xs ys : List A) → AllByRecursion P xs → AllByRecursion P ys
-      → AllByRecursion P (xs ++ ys)
-  all_both [] ys a b = b
-  all_both (x ∷ xs) ys a b = (a.0, all_both xs ys a.1 b)
-
   all_merged : (order : List Bool) (xs ys : List A) → AllByRecursion P xs → AllByRecursion P ys
       → AllByRecursion P (merged order xs ys)
-  all_merged [] xs ys a b = all_both xs ys a b
+  all_merged [] xs ys a b = all_append P xs ys a b
   all_merged (true ∷ order) xs [] a b = a
   all_merged (true ∷ order) xs (y ∷ ys) a b = (b.0, all_merged order xs ys a b.1)
   all_merged (false ∷ order) [] ys a b = b
@@ -100,43 +97,34 @@ module _ {A : Type 0} (P : A → Type 0) where
   all_joined : (rows : List (List A)) → AllByRecursion (AllByRecursion P) rows
       → AllByRecursion P (all_of rows)
   all_joined [] h = tt
-  all_joined (row ∷ rows) h = all_both row (all_of rows) h.0 (all_joined rows h.1)
+  all_joined (row ∷ rows) h = all_append P row (all_of rows) h.0 (all_joined rows h.1)
 
 weighed_good : (v n : ℕ) (soft : List Soft) → v + length soft ≤ n
     → AllByRecursion (λ (s : Soft). 0 < s.weight) soft
-    → AllByRecursion (IsNormalProduct n) (weighed_bits v soft)
-weighed_good v n [] le h = tt
-weighed_good v n (s ∷ soft) le h = (
-  bit_normal v n (pos s.weight) (omega (arith, le)) (λ e. absurd (omega (arith, ints, e, h.0))),
-  weighed_good (suc v) n soft (omega (arith, le)) h.1,
-)
+    → All (IsNormalProduct n) (weighed_bits v soft)
+weighed_good v n [] le h = All-nil _
+weighed_good v n (s ∷ soft) le h =
+    All-cons (IsNormalProduct n) (bit_product v (pos s.weight)) (weighed_bits (suc v) soft)
+    (bit_normal v n (pos s.weight) (omega (arith, le)) (λ e. absurd (omega (arith, ints, e, h.0))))
+    (weighed_good (suc v) n soft (omega (arith, le)) h.1)
+
+one_good : (n : ℕ) (b : Bool) (k : Constraint) → IsGood n k
+    → AllByRecursion (IsGood n) (if b then k ∷ [] else [])
+one_good n true k h = (h, tt)
+one_good n false k h = tt
 
 top_good : (v n : ℕ) (top : Option ℕ) (soft : List Soft)
-    → AllByRecursion (IsNormalProduct n) (weighed_bits v soft)
-    → AllByRecursion (IsGood n) (top_rows v top soft)
-top_good v n top soft h = grind (arith, nat_tests, all_negated)
+    → All (IsNormalProduct n) (weighed_bits v soft) → AllByRecursion (IsGood n) (top_rows v top soft)
+top_good v n None soft h = tt
+top_good v n (Some top) soft h =
+    one_good n (nat_le top (sum_by (λ (s : Soft). s.weight) soft))
+    (record { products = map negated (weighed_bits v soft); bound = pos 1 -ℤ pos top; exact = false })
+    (record { are = all_negated n (weighed_bits v soft) h })
 
 -- ---- sizes
 
-pub negated_total : (ts : List Product) → products_total (map negated ts) ≡ products_total ts
-negated_total [] = refl
-negated_total (t ∷ ts) =
-    let sum = sum_by-cons (λ (u : Product). unsigned_abs u.coefficient) t ts in
-    let sum_cons = sum_by-cons (λ (u : Product). unsigned_abs u.coefficient) (negated t) (map negated ts) in
-    omega (arith, ints, negated_total ts)
-
-part_size : (c : ℤ) → positive_part c ≤ unsigned_abs c
-part_size c = grind (arith, nat_tests, ints)
-
-positive_size : (ts : List Product) → positive_total ts ≤ products_total ts
-positive_size [] = omega arith
-positive_size (t ∷ ts) =
-    let sum = sum_by-cons (λ (u : Product). positive_part u.coefficient) t ts in
-    let sum_cons = sum_by-cons (λ (u : Product). unsigned_abs u.coefficient) t ts in
-    omega (arith, part_size t.coefficient, positive_size ts)
-
 pub least_size : (ts : List Product) → unsigned_abs (least_sum ts) ≤ products_total ts
-least_size ts = omega (arith, ints, positive_size (map negated ts), negated_total ts)
+least_size ts = omega (arith, ints, positive_total-le (map negated ts), negated-total ts)
 
 eased_total : (v : ℕ) (ts : List Product) (bound : ℤ)
     → constraint_total (eased v ts bound) ≤ 2 * (products_total ts + unsigned_abs bound)
@@ -146,7 +134,7 @@ eased_total v ts bound =
 
 row_total : (v : ℕ) (k : Constraint)
     → sum_by constraint_total (eased_row v k) ≤ 4 * constraint_total k
-row_total v k = grind (arith, nat_tests, sum_by-cons, eased_total, negated_total)
+row_total v k = grind (arith, nat_tests, sum_by-cons, eased_total, negated-total)
 
 abbrev row_size : List Constraint → ℕ
 row_size row = sum_by constraint_total row
@@ -183,7 +171,7 @@ weighed_total v (s ∷ soft) =
 top_total : (v : ℕ) (top : Option ℕ) (soft : List Soft)
     → sum_by constraint_total (top_rows v top soft)
     ≤ sum_by (λ (s : Soft). s.weight) soft + unwrap_or top 0 + 1
-top_total v top soft = grind (arith, nat_tests, sum_by-cons, negated_total, weighed_total)
+top_total v top soft = grind (arith, nat_tests, sum_by-cons, negated-total, weighed_total)
 
 -- ---- the whole
 
@@ -192,59 +180,34 @@ rewritten_total s =
     let sum = sum_by-append constraint_total
     (all_of (merged s.order (hard_rows s.hard) (eased_rows s.variables s.soft)))
     (top_rows s.variables s.top s.soft) in
-    grind (
-      arith,
-      nat_tests,
-      joined_total,
-      merged_total,
-      soft_rows_total,
-      top_total,
-      weighed_total,
-      hard_total,
-    )
+    grind (arith, nat_tests, joined_total, merged_total, soft_rows_total, top_total, weighed_total, hard_total)
 
 good_wider : (v n : ℕ) → v ≤ n → (k : Constraint) → IsNormalConstraint v k → IsGood n k
-good_wider v n le k h = grind (arith, nat_tests, all_wider, recursion_from_All)
-
-hard_wider : (v n : ℕ) → v ≤ n → (ks : List Constraint) → AllByRecursion (IsNormalConstraint v) ks
-    → AllByRecursion (IsGood n) ks
-hard_wider v n le [] h = tt
-hard_wider v n le (k ∷ ks) h = (good_wider v n le k h.0, hard_wider v n le ks h.1)
-
-soft_wider : (v n : ℕ) → v ≤ n → (ss : List Soft)
-    → AllByRecursion (λ (s : Soft). IsNormalConstraint v s.constraint) ss
-    → AllByRecursion (λ (s : Soft). IsGood n s.constraint) ss
-soft_wider v n le [] h = tt
-soft_wider v n le (s ∷ ss) h = (good_wider v n le s.constraint h.0, soft_wider v n le ss h.1)
-
-to_all : (n : ℕ) (ks : List Constraint) → AllByRecursion (IsGood n) ks
-    → AllByRecursion (λ (k : Constraint). All (IsNormalProduct n) k.products) ks
-to_all n [] h = tt
-to_all n (k ∷ ks) h = (All-from_recursion (IsNormalProduct n) k.products h.0, to_all n ks h.1)
+good_wider v n le k h =
+    record { are = All-weaker (IsNormalProduct v) (IsNormalProduct n) (wider_product v n le) k.products h }
 
 pub rewritten_is_sound : RewrittenIsSound
 rewritten_is_sound s is =
     let n = s.variables + length s.soft in
     let le : s.variables ≤ n = omega arith in
-    let bits =
-    weighed_good s.variables n s.soft (omega arith)
+    let bits = weighed_good s.variables n s.soft (omega arith)
     (recursion_from_All (λ (k : Soft). 0 < k.weight) s.soft is.weighty) in
-    let hard = hard_good n s.hard (grind (arith, nat_tests, hard_wider, recursion_from_All)) in
-    let soft =
-    rows_good s.variables n s.soft (omega arith)
-    (grind (arith, nat_tests, soft_wider, recursion_from_All)) in
+    let wider = good_wider s.variables n le in
+    let Good : Soft → Type 0 = λ k. IsGood n k.constraint in
+    let hard = hard_good n s.hard (recursion_from_All (IsGood n) s.hard
+    (All-weaker (IsNormalConstraint s.variables) (IsGood n) wider s.hard is.normal.hard)) in
+    let soft = rows_good s.variables n s.soft (omega arith) (recursion_from_All Good s.soft
+    (All-weaker (λ (k : Soft). IsNormalConstraint s.variables k.constraint) Good (λ k. wider k.constraint)
+    s.soft is.normal.soft)) in
     let rows = all_merged (AllByRecursion (IsGood n)) s.order (hard_rows s.hard)
     (eased_rows s.variables s.soft) hard soft in
-    let all =
-    all_both (IsGood n) (all_of (merged s.order (hard_rows s.hard) (eased_rows s.variables s.soft)))
-    (top_rows s.variables s.top s.soft) (all_joined (IsGood n) _ rows)
-    (top_good s.variables n s.top s.soft bits) in (
+    let all = all_append (IsGood n) (rows_of s) (top_rows s.variables s.top s.soft)
+    (all_joined (IsGood n) _ rows) (top_good s.variables n s.top s.soft bits) in (
       record {
-        objective = All-from_recursion (IsNormalProduct n) (weighed_bits s.variables s.soft) bits;
+        objective = bits;
         clauses = All-nil _;
-        constraints =
-            All-from_recursion (λ (k : Constraint). All (IsNormalProduct n) k.products)
-            (rewritten_constraints s) (to_all n (rewritten_constraints s) all);
+        constraints = All-weaker (IsGood n) (λ k. All (IsNormalProduct n) k.products) (λ k h. h.are)
+            (rewritten_constraints s) (All-from_recursion (IsGood n) (rewritten_constraints s) all);
         most = λ m e. absurd cc;
       },
       omega (arith, rewritten_total s, is.small),

@@ -1,5 +1,5 @@
 -- Clauses up to the end of the words, put into a problem that is widened as they come.
-use Rattle.wcnf_reader.proofs.Common.{nat_tests, ◌≡◌, ℕ, zero, suc, ◌≤◌, max, cond, eqb, List, [], ◌∷◌, length, map, fold, Option, None, Result, Ok, Err, refl, sym, ap, ◌∙◌, arith, ℤ, nat_abs, flat_map, IfOk, fold-append, TextFault, TextAnswer, Word, ◌>>=◌, Fails, Clause, ProblemContent, blank, with_variables, with_clause, normal_form, clauses_add_up, ClauseLayout, Listed, Wcnf, first_of, literals_at, clause_at, clauses_within, clauses_to_end, WordsAreEnough, largest, headerless_of, clause_of, problem_of, clause_read, widened, headerless_read}
+use Rattle.wcnf_reader.proofs.Common.{nat_tests, ◌≡◌, ℕ, zero, suc, ◌≤◌, max, cond, eqb, List, [], ◌∷◌, length, map, fold, Option, None, Result, Ok, Err, refl, sym, ◌∙◌, arith, ℤ, nat_abs, flat_map, IfOk, fold-append, TextFault, TextAnswer, Word, ◌>>=◌, Fails, Clause, ProblemContent, blank, with_variables, with_clause, normal_form, clauses_add_up, ClauseLayout, Listed, Wcnf, first_of, literals_at, clause_at, clauses_within, clauses_to_end, WordsAreEnough, largest, headerless_of, clause_of, problem_of, clause_read, widened, headerless_read}
 use Rattle.wcnf_reader.specs.declared.layout.ClauseLayout.TheVariants.{WithoutHeader}
 use Rattle.wcnf_reader.proofs.Clauses.{as_clause}
 use Rattle.wcnf_reader.proofs.Widening.{AreLiterals, sizes_needed}
@@ -133,9 +133,9 @@ widened_apart : (p : ProblemContent) (cs : List Clause)
     → fold widened_with p cs ≡ with_variables (fold with_clause p cs) (wide p.variables cs)
 widened_apart p [] = refl
 widened_apart p (c ∷ cs) =
-    let v = widened p.variables c.literals in
-    widened_apart (widened_with p c) cs ∙ ap (λ (q : ProblemContent). with_variables q (wide v cs))
-    (added_apart (with_clause p c) v cs)
+    let rest = widened_apart (widened_with p c) cs in
+    let apart = added_apart (with_clause p c) (widened p.variables c.literals) cs in
+    grind (arith, nat_tests)
 
 -- each clause has literals
 abbrev AreClauses : List Listed → Type 0
@@ -177,8 +177,7 @@ normal s = Ok (normal_form (problem_of s))
 
 into_blank : (read : Listing) → IfOk read AreClauses
     → (read >>= as_source) >>= normal ≡ read_into blank read
-into_blank (Ok cs) h = sym (put_blank cs h)
-into_blank (Err f) h = refl
+into_blank read h = grind (arith, nat_tests, put_blank)
 
 -- what is put into a problem that says nothing is the problem of the text
 pub headerless_read-blank : (end : ℕ) (ws : List Word)

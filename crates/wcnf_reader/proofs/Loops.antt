@@ -1,5 +1,5 @@
 -- Reading one thing after the other, as a loop does.
-use Rattle.wcnf_reader.proofs.Common.{nat_tests, ints, arith, ◌≡◌, ℕ, Bool, true, false, cond, eqb, ℤ, List, [], ◌∷◌, ◌++◌, map, Option, Some, None, Result, Ok, Err, refl, sym, ap, ◌∙◌, append_assoc, append-nil, nat_abs, TextFault, Word, ◌>>=◌, fault, Literal, literal_at, literals_at, literal_of, some_literal, literal_read, literals_read}
+use Rattle.wcnf_reader.proofs.Common.{nat_tests, ints, arith, ◌≡◌, ℕ, cond, eqb, ℤ, List, [], ◌∷◌, ◌++◌, map, Option, Some, None, Result, Ok, Err, sym, ◌∙◌, append_assoc, append-nil, nat_abs, TextFault, Word, ◌>>=◌, fault, Literal, literal_at, literals_at, literal_of, some_literal, literal_read, literals_read}
 use Rattle.whole_text.specs.declared.faults.TextKind.TheVariants as kinds
 
 -- ---- the literals of a clause
@@ -33,28 +33,11 @@ next_number ws others z = cond (eqb (nat_abs z) 0) (Ok ([], ws)) (others >>= wit
 abbrev maybe_literal : ℤ → Result (Option Literal) TextFault
 maybe_literal z = Ok (some_literal z)
 
-regroup : (front : List Literal) (z : ℤ) (others : Numbers)
-    → with_front front ((others >>= with_first z) >>= as_literals)
-    ≡ with_front (front ++ literal_of z ∷ []) (others >>= as_literals)
-regroup front z (Ok y) = ap (λ xs. Ok (xs, y.1)) (simp append_assoc)
-regroup front z (Err f) = refl
-
 literal_then : (front : List Literal) (l : Literal) (ws : List Word) (others : Numbers)
     (first : Result ℤ TextFault) → first >>= maybe_literal ≡ Ok (Some l)
     → with_front front ((first >>= next_number ws others) >>= as_literals)
     ≡ with_front (front ++ l ∷ []) (others >>= as_literals)
-literal_then front l ws others (Err f) h = absurd cc
-literal_then front l ws others (Ok z) h =
-    let read : some_literal z ≡ Some l = cc in go (eqb (nat_abs z) 0) read
-  where
-    go : (b : Bool) → cond b None (Some (literal_of z)) ≡ Some l
-        → with_front front (cond b (Ok ([], ws)) (others >>= with_first z) >>= as_literals)
-        ≡ with_front (front ++ l ∷ []) (others >>= as_literals)
-    go true e = absurd cc
-    go false e =
-        let same : literal_of z ≡ l = cc in
-        regroup front z others
-        ∙ ap (λ k. with_front (front ++ k ∷ []) (others >>= as_literals)) same
+literal_then front l ws others first h = grind (arith, nat_tests, ints, append_assoc)
 
 zero_then : (front : List Literal) (ws : List Word) (others : Numbers)
     (first : Result ℤ TextFault) → first >>= maybe_literal ≡ Ok None
@@ -64,8 +47,7 @@ zero_then front ws others first h = grind (arith, nat_tests, ints, append-nil)
 fault_then : (front : List Literal) (f : TextFault) (ws : List Word) (others : Numbers)
     (first : Result ℤ TextFault) → first >>= maybe_literal ≡ Err f
     → with_front front ((first >>= next_number ws others) >>= as_literals) ≡ Err f
-fault_then front f ws others (Ok z) h = absurd cc
-fault_then front f ws others (Err g) h = let same : g ≡ f = cc in ap (λ k. Err k) same
+fault_then front f ws others first h = grind (arith, nat_tests, ints)
 
 pub literal_goes_on : (variables : Option ℕ) (end : ℕ) (front : List Literal) (w : Word) (ws : List Word)
     (l : Literal) (total : Literals) → literal_read variables w ≡ Ok (Some l)

@@ -34,8 +34,7 @@ soft_cost-clauses layout x (c ∷ cs) =
     λ i. soft_cost-clause_of layout x c i +ℤ soft_cost-clauses layout x cs i
 
 or_nothing : (a b : Bool) → a ≡ b → a || false ≡ b
-or_nothing true b e = e
-or_nothing false b e = e
+or_nothing a b e = grind (arith, nat_tests)
 
 problem_of-cost : (s : Wcnf) (x : List Bool) → problem_cost (problem_of s) x ≡ wcnf_cost s x
 problem_of-cost s x =

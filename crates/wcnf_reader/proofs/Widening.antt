@@ -1,5 +1,5 @@
 -- The number of variables, as literals come.
-use Rattle.wcnf_reader.proofs.Common.{◌≡◌, ℕ, ◌+◌, ◌-◌, ◌<◌, ◌≤◌, max, List, [], ◌∷◌, length, map, fold, take, get_or, All, refl, ap, ◌∙◌, arith, ℤ, nat_abs, take_more, map_push, All-append, All-cons, All-nil, fold_push, Literal, literal_of, widened}
+use Rattle.wcnf_reader.proofs.Common.{◌≡◌, ℕ, ◌+◌, ◌-◌, ◌<◌, ◌≤◌, max, List, [], ◌∷◌, length, map, fold, take, get_or, All, refl, ap, ◌∙◌, arith, ℤ, nat_abs, take_more, map_push, fold_push, Literal, literal_of, widened, All-push}
 
 -- how many variables a literal needs
 abbrev needed : Literal → ℕ
@@ -16,9 +16,8 @@ pub all_within : (v w : ℕ) (ls : List Literal) (i : ℕ) (d : Literal) → i <
     → (get_or ls i d).variable < w → All (λ l. l.variable < v) (take i ls)
     → All (λ l. l.variable < w) (take (i + 1) ls)
 all_within v w ls i d lt le last before =
-    rw (take_more ls i d lt) (All-append (λ l. l.variable < w) (take i ls) (get_or ls i d ∷ [])
-    (λ k e h. omega (arith, le, before k e h))
-    (All-cons (λ l. l.variable < w) (get_or ls i d) [] last (All-nil _)))
+    rw (take_more ls i d lt) (All-push (λ l. l.variable < w) (take i ls) (get_or ls i d)
+    (λ k e h. omega (arith, le, before k e h)) last)
 
 -- ---- numbers that are not 0, as literals
 

@@ -9,7 +9,7 @@ use Rattle.term_table.proofs.Additions.{terms_total-with_additions}
 use Rattle.term_table.proofs.KeptTerms.{AreTerms-with_additions}
 use Rattle.monomial_layer.specs.Monomials.{all_new_terms}
 use Rattle.monomial_layer.specs.Monomials as monomials
-use Rattle.monomial_layer.proofs.NewSets.{sets-all_new_terms}
+use Rattle.monomial_layer.proofs.Sets.{sets-all_new_terms}
 use Rattle.monomial_layer.proofs.Sizes.{total-image}
 use Rattle.quadratization.specs.Apart.{table_of}
 

@@ -1,28 +1,27 @@
 -- One substitution never lowers a cost, and keeps it where the new node is the product of the pair.
 -- Nothing here has to be believed.
-use Rattle.std.specs.Prelude.{◌≡◌, ◌≢◌, ℕ, ◌+◌, Bool, true, false, not, cond, ◌&&◌, ◌||◌, List, [], ◌∷◌, ◌++◌, map, pos, ◌+ℤ◌, ◌≤ℤ◌, unsigned_abs, neg_ℤ, ◌*◌}
+use Rattle.std.specs.Prelude.{◌≡◌, ℕ, ◌+◌, Bool, true, false, not, cond, ◌&&◌, ◌||◌, List, [], ◌∷◌, ◌++◌, map, pos, ◌+ℤ◌, ◌≤ℤ◌, unsigned_abs, neg_ℤ, ◌*◌}
 use Rattle.std.specs.List.{filter, slice_index_or}
 use Rattle.std.specs.Ordering.{is_eq, ordering_then}
 use Rattle.std.specs.declared.cmp.Ordering.{Ordering}
-use Rattle.std.specs.declared.cmp.Ordering.TheVariants.{Less, Equal, Greater}
-use Rattle.std.proofs.Common.{arith, sym, ap, ◌∙◌, refl, ◌⊎◌, inl, inr}
+use Rattle.std.specs.declared.cmp.Ordering.TheVariants.{Equal}
+use Rattle.std.proofs.Common.{arith, sym, ap, ◌∙◌, refl, inl, inr}
 use Rattle.std.proofs.lemmas.Int.{ints}
 use Rattle.base.specs.Sums.{if_so}
 use Rattle.base.proofs.Totals.{total_by-append}
 use Rattle.literal_lists.specs.declared.literal.Literal.{Literal}
 use Rattle.literal_lists.specs.Literals.{holds, all_hold, literal_cmp}
-use Rattle.term_table.specs.Terms.{Term, term_cost, terms_cost, terms_total}
+use Rattle.term_table.specs.Terms.{Term, term_cost, terms_cost}
 use Rattle.term_table.proofs.Additions.{terms_total-cons}
 use Rattle.term_table.proofs.SetOrder.{same_set}
 use Rattle.rosenberg_layer.specs.Rosenberg.{Pair, is_literal, has_literal, without, has_pair, new_term, pair_total, tie_terms, replaced}
 use Rattle.rosenberg_layer.specs.laws.Ties.{tie, tie-zero, tie-apart, same_or_not, other_factor}
+use Rattle.std.proofs.lemmas.Bool.Decides.{nat_tests}
 
 -- ---- a literal taken out of a set
 
 from_is_eq : (o : Ordering) → is_eq o ≡ true → o ≡ Equal
-from_is_eq Less h = cc
-from_is_eq Equal h = refl
-from_is_eq Greater h = cc
+from_is_eq o h = grind (arith, nat_tests)
 
 -- literals that compare as equal are one literal
 pub literal_same : (l k : Literal) → is_literal l k ≡ true → l ≡ k
@@ -32,14 +31,10 @@ literal_same l k h =
     ap (λ ls. slice_index_or ls 0 l) one
 
 and_turned : (a b c : Bool) → (a && (b && c)) ≡ (b && (a && c))
-and_turned true true c = refl
-and_turned true false c = refl
-and_turned false true c = refl
-and_turned false false c = refl
+and_turned a b c = grind (arith, nat_tests)
 
 and_once : (a b : Bool) → (a && (a && b)) ≡ (a && b)
-and_once true b = refl
-and_once false b = refl
+and_once a b = grind (arith, nat_tests)
 
 hold-without_and : (y : List Bool) (l : Literal) (ls : List Literal)
     → (holds y l && all_hold y ls) ≡ (holds y l && all_hold y (without l ls))
@@ -98,9 +93,7 @@ has-without p q (k ∷ ks) n h =
 hold-push : (y : List Bool) (ls : List Literal) (w : Literal)
     → all_hold y (ls ++ w ∷ []) ≡ (holds y w && all_hold y ls)
 hold-push y [] w = refl
-hold-push y (l ∷ ls) w =
-    ap (λ b. holds y l && b) (hold-push y ls w)
-    ∙ and_turned (holds y l) (holds y w) (all_hold y ls)
+hold-push y (l ∷ ls) w = grind (arith, nat_tests, hold-push y ls w)
 
 -- ---- one term
 
@@ -117,16 +110,11 @@ abbrev pub Differ : Pair → Type 0
 Differ pair = is_literal pair.1 pair.0 ≡ false
 
 and_group : (p q r : Bool) → (q && (p && r)) ≡ ((p && q) && r)
-and_group true true r = refl
-and_group true false r = refl
-and_group false true r = refl
-and_group false false r = refl
+and_group p q r = grind (arith, nat_tests)
 
 -- where three bits are all 1, so are the last two
 pub three_true : (a b c : Bool) → (a && (b && c)) ≡ true → (b ≡ true) × (c ≡ true)
-three_true true true c h = (refl, h)
-three_true true false c h = cc
-three_true false b c h = cc
+three_true a b c h = grind (arith, nat_tests)
 
 -- a set that has both is the pair's product and what is left
 hold-pair : (y : List Bool) (pair : Pair) (t : Term) → Differ pair → has_pair pair t ≡ true
@@ -155,29 +143,18 @@ term-le y pair w t n = go (has_pair pair t) (hold-pair y pair t n)
 
 term-same : (y : List Bool) (pair : Pair) (w : Literal) (t : Term) → Differ pair
     → holds y w ≡ product y pair → term_cost y t ≡ term_cost y (new_term pair w t)
-term-same y pair w t n s = go (has_pair pair t) (hold-pair y pair t n)
-  where
-    go : (k : Bool)
-        → (k ≡ true → all_hold y t.0 ≡ (product y pair && all_hold y (rest_of pair t.0)))
-        → term_cost y t ≡ term_cost y (cond k (rest_of pair t.0 ++ w ∷ [], t.1) t)
-    go true f =
-        ap (λ b. if_so b t.1)
-        (f refl ∙ ap (λ b. b && all_hold y (rest_of pair t.0)) (sym s)
-        ∙ sym (hold-push y (rest_of pair t.0) w))
-    go false f = refl
+term-same y pair w t n s =
+    let is = hold-pair y pair t n in
+    let push = hold-push y (rest_of pair t.0) w in
+    grind (arith, nat_tests)
 
 -- ---- all terms
 
 -- one term more adds the size of its coefficient where it has the pair, and else nothing
 pub pair_total-cons : (pair : Pair) (t : Term) (ts : List Term)
     → pair_total pair (t ∷ ts) ≡ cond (has_pair pair t) (unsigned_abs t.1) 0 + pair_total pair ts
-pair_total-cons pair t ts = go (has_pair pair t)
-  where
-    go : (k : Bool)
-        → terms_total (cond k (t ∷ filter (has_pair pair) ts) (filter (has_pair pair) ts))
-        ≡ cond k (unsigned_abs t.1) 0 + pair_total pair ts
-    go true = terms_total-cons t (filter (has_pair pair) ts)
-    go false = omega arith
+pair_total-cons pair t ts =
+    let more = terms_total-cons t (filter (has_pair pair) ts) in grind (arith, nat_tests)
 
 terms-le : (y : List Bool) (pair : Pair) (w : Literal) (ts : List Term) → Differ pair
     → terms_cost y ts ≤ℤ (terms_cost y (map (new_term pair w) ts) +ℤ pos (pair_total pair ts))
@@ -235,18 +212,13 @@ replaced-same y pair w ts n s =
 -- .. and no state costs less
 pub replaced-le : (y : List Bool) (pair : Pair) (w : Literal) (ts : List Term) → Differ pair
     → terms_cost y ts ≤ℤ terms_cost y (replaced pair w ts)
-replaced-le y pair w ts n = go (same_or_not (holds y w) (product y pair))
-  where
-    go : (holds y w ≡ product y pair) ⊎ (holds y w ≢ product y pair)
-        → terms_cost y ts ≤ℤ terms_cost y (replaced pair w ts)
-    go (inl s) = omega (arith, ints, replaced-same y pair w ts n s)
-    go (inr d) =
-        let m = pair_total pair ts in
-        omega (
-          arith,
-          ints,
-          terms-le y pair w ts n,
-          tie-apart m (holds y pair.0) (holds y pair.1) (holds y w) d,
-          total_by-append (term_cost y) (map (new_term pair w) ts) (tie_terms pair w m),
-          cost-tie_terms y pair w m,
-        )
+replaced-le y pair w ts n =
+    let m = pair_total pair ts in
+    let both = total_by-append (term_cost y) (map (new_term pair w) ts) (tie_terms pair w m) in
+    let tied = cost-tie_terms y pair w m in
+    elim (same_or_not (holds y w) (product y pair)) [
+      | inl s ↦ omega (arith, ints, replaced-same y pair w ts n s)
+      | inr d ↦
+          let apart = tie-apart m (holds y pair.0) (holds y pair.1) (holds y w) d in
+          omega (arith, ints, terms-le y pair w ts n, apart, both, tied)
+    ]

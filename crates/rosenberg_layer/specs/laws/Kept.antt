@@ -5,6 +5,7 @@
 use Rattle.std.specs.Prelude.{◌≡◌, ℕ, zero, suc, ◌<◌, ◌≤◌, Bool, false, not, cond, ◌&&◌, List, [], ◌∷◌, ◌++◌, length, take, get_or, fold, pos, ◌+ℤ◌, ◌≤ℤ◌, Option, Some, None}
 use Rattle.std.specs.List.{AllByRecursion}
 use Rattle.std.proofs.Common.{arith, sym, ap, ◌∙◌, refl, subst}
+use Rattle.std.proofs.lemmas.Bool.Decides.{nat_tests}
 use Rattle.std.proofs.lemmas.Int.{ints}
 use Rattle.std.proofs.lemmas.List.{get_or_append_left, get_or_push, length_push, length-take, get_or-take, take-append-le, take_all}
 use Rattle.std.proofs.lemmas.List.Elements.{recursion_from_All}
@@ -169,12 +170,7 @@ take-products y n (pair ∷ pairs) inside =
 -- a table after so many substitutions is at least as wide as before
 pub width-run-le : (k : ℕ) (t : TableContent) → t.width ≤ (run k t).width
 width-run-le zero t = omega arith
-width-run-le (suc k) t = go (next_pair t.terms) (width-run-le k)
-  where
-    go : (next : Option Pair) → ((u : TableContent) → u.width ≤ (run k u).width)
-        → t.width ≤ (run k (with_next next t)).width
-    go None rest = rest t
-    go (Some pair) rest = omega (arith, rest (with_pair pair t))
+width-run-le (suc k) t = grind (arith, nat_tests, width-run-le k)
 
 -- ---- so many substitutions
 

@@ -1,12 +1,13 @@
 -- A substitution leaves terms in order, of literal sets of one more variable. Nothing here has to be
 -- believed.
-use Rattle.std.specs.Prelude.{◌≡◌, ℕ, zero, suc, ◌+◌, ◌<◌, ◌≤◌, Bool, true, false, not, cond, ◌&&◌, ◌||◌, List, [], ◌∷◌, ◌++◌, map, length, get_or, Option, Some, None, All}
+use Rattle.std.specs.Prelude.{◌≡◌, ℕ, zero, suc, ◌+◌, ◌<◌, ◌≤◌, Bool, true, not, List, [], ◌∷◌, ◌++◌, map, length, get_or, Option, Some, None, All}
 use Rattle.std.specs.List.{AllByRecursion, filter, list_any}
 use Rattle.std.specs.List.Sorted.{IsStrictlySortedBy}
 use Rattle.std.specs.Ordering.{is_eq, bool_cmp, ordering_then}
 use Rattle.std.specs.Cmp.{nat_cmp_is}
 use Rattle.std.specs.declared.cmp.Ordering.TheVariants.{Less}
-use Rattle.std.proofs.Common.{arith, sym, ap, ◌∙◌, refl, subst}
+use Rattle.std.proofs.Common.{arith, sym, ap, refl, subst}
+use Rattle.std.proofs.lemmas.Bool.Decides.{nat_tests}
 use Rattle.std.proofs.lemmas.List.{length-append}
 use Rattle.std.proofs.lemmas.Cmp.{tied_itself}
 use Rattle.std.proofs.lemmas.List.Elements.{All-append, All-from_recursion, recursion_from_All}
@@ -64,34 +65,21 @@ IsLiteralSet-from_ascend width ls up within = record {
 
 -- ---- some literals are left out, and one is put at the end
 
-below-filter : (test : Literal → Bool) (l : Literal) (ks : List Literal) → IsBelow l ks
-    → IsBelow l (filter test ks)
-below-filter test l [] below = tt
-below-filter test l (k ∷ ks) below = go (test k) (below-filter test l ks below.1)
-  where
-    go : (b : Bool) → IsBelow l (filter test ks)
-        → IsBelow l (cond b (k ∷ filter test ks) (filter test ks))
-    go true rest = (below.0, rest)
-    go false rest = rest
+pub all-filtered : {X : Type 0} (P : X → Type 0) (test : X → Bool) (xs : List X) → AllByRecursion P xs
+    → AllByRecursion P (filter test xs)
+all-filtered P test [] all = tt
+all-filtered P test (x ∷ xs) all = grind (arith, nat_tests, all-filtered P test xs all.1)
+
+pub all-weaker : {X : Type 0} (P Q : X → Type 0) → ((x : X) → P x → Q x) → (xs : List X)
+    → AllByRecursion P xs → AllByRecursion Q xs
+all-weaker P Q more [] all = tt
+all-weaker P Q more (x ∷ xs) all = (more x all.0, all-weaker P Q more xs all.1)
 
 Ascend-filter : (test : Literal → Bool) (ls : List Literal) → Ascend ls → Ascend (filter test ls)
 Ascend-filter test [] up = tt
-Ascend-filter test (l ∷ ls) up = go (test l) (Ascend-filter test ls up.1)
-  where
-    go : (b : Bool) → Ascend (filter test ls)
-        → Ascend (cond b (l ∷ filter test ls) (filter test ls))
-    go true rest = (below-filter test l ls up.0, rest)
-    go false rest = rest
-
-Within-filter : (n : ℕ) (test : Literal → Bool) (ls : List Literal) → Within n ls
-    → Within n (filter test ls)
-Within-filter n test [] within = tt
-Within-filter n test (l ∷ ls) within = go (test l) (Within-filter n test ls within.1)
-  where
-    go : (b : Bool) → Within n (filter test ls)
-        → Within n (cond b (l ∷ filter test ls) (filter test ls))
-    go true rest = (within.0, rest)
-    go false rest = rest
+Ascend-filter test (l ∷ ls) up =
+    let below = all-filtered (λ (k : Literal). l.variable < k.variable) test ls up.0 in
+    grind (arith, nat_tests, Ascend-filter test ls up.1)
 
 below-push : (l w : Literal) (ks : List Literal) → IsBelow l ks → l.variable < w.variable
     → IsBelow l (ks ++ w ∷ [])
@@ -113,24 +101,13 @@ Within-push n (l ∷ ls) within =
 -- taking a literal out of a set does not make it longer
 pub without-le : (l : Literal) (ls : List Literal) → length (without l ls) ≤ length ls
 without-le l [] = omega arith
-without-le l (k ∷ ks) = go (is_literal l k) (without-le l ks)
-  where
-    go : (b : Bool) → length (without l ks) ≤ length ks
-        → length (cond (not b) (k ∷ without l ks) (without l ks)) ≤ length (k ∷ ks)
-    go true h = omega arith
-    go false h = omega arith
+without-le l (k ∷ ks) = grind (arith, nat_tests, without-le l ks)
 
 -- taking out a literal that a set has makes it shorter by one at least
 pub without-shorter : (l : Literal) (ls : List Literal) → has_literal l ls ≡ true
     → length (without l ls) + 1 ≤ length ls
 without-shorter l [] h = absurd cc
-without-shorter l (k ∷ ks) h = go (is_literal l k) h (without-le l ks) (without-shorter l ks)
-  where
-    go : (b : Bool) → (b || has_literal l ks) ≡ true → length (without l ks) ≤ length ks
-        → (has_literal l ks ≡ true → length (without l ks) + 1 ≤ length ks)
-        → length (cond (not b) (k ∷ without l ks) (without l ks)) + 1 ≤ length (k ∷ ks)
-    go true e le rest = omega arith
-    go false e le rest = let r = rest e in omega arith
+without-shorter l (k ∷ ks) h = grind (arith, nat_tests, without-le l ks, without-shorter l ks)
 
 -- ---- the pair that is replaced next
 
@@ -142,27 +119,13 @@ pub record IsPair (width : ℕ) (pair : Pair) : Type 0 where
 literal_itself : (l : Literal) → is_literal l l ≡ true
 literal_itself l = ap is_eq (tied_itself literal_total l)
 
-or_first : (a b : Bool) → a ≡ true → (a || b) ≡ true
-or_first true b e = refl
-or_first false b e = cc
-
-or_second : (a b : Bool) → b ≡ true → (a || b) ≡ true
-or_second true b e = refl
-or_second false b e = e
-
-and_all : (a b c : Bool) → a ≡ true → b ≡ true → c ≡ true → (a && (b && c)) ≡ true
-and_all true true true e f g = refl
-and_all false b c e f g = cc
-and_all true false c e f g = cc
-and_all true true false e f g = cc
-
 -- the first two literals of a term of degree 3 or more
 pub has_own_pair : (p q : Literal) (ls : List Literal) (t : Term) → t.0 ≡ p ∷ q ∷ ls
     → is_long t ≡ true → has_pair (p, q) t ≡ true
 has_own_pair p q ls t same long =
-    and_all _ _ _ long
-    (ap (has_literal p) same ∙ or_first _ _ (literal_itself p))
-    (ap (has_literal q) same ∙ or_second (is_literal q p) _ (or_first _ _ (literal_itself q)))
+    let one = literal_itself p in
+    let two = literal_itself q in
+    grind (arith, nat_tests)
 
 -- the first term begins with the pair that front_pair gives
 pub front_is : (t : Term) (us : List Term) (pair : Pair) → front_pair (t ∷ us) ≡ Some pair
@@ -195,33 +158,21 @@ pub found : (width : ℕ) (ts : List Term) (pair : Pair)
     → AllByRecursion (OfSet (IsTermSet width)) ts → next_pair ts ≡ Some pair
     → IsFound width pair ts
 found width [] pair sets e = cc
-found width (t ∷ ts) pair sets e = go (is_long t) refl e (found width ts pair sets.1)
-  where
-    go : (b : Bool) → is_long t ≡ b
-        → front_pair (cond b (t ∷ filter is_long ts) (filter is_long ts)) ≡ Some pair
-        → (next_pair ts ≡ Some pair → IsFound width pair ts)
-        → IsFound width pair (t ∷ ts)
-    go true long e rest =
-        let front = front_is t (filter is_long ts) pair e in
-        record {
-          is_pair = pair_of_set width pair.0 pair.1 front.0 t.0 front.1 sets.0;
-          some = or_first _ _ (has_own_pair pair.0 pair.1 front.0 t front.1 long);
-        }
-    go false long e rest =
-        let later = rest e in
-        record { is_pair = later.is_pair; some = or_second (has_pair pair t) _ later.some }
+found width (t ∷ ts) pair sets e =
+    let later = found width ts pair sets.1 in
+    let front = front_is t (filter is_long ts) pair in
+    let own = λ (ls : List Literal). pair_of_set width pair.0 pair.1 ls t.0 in
+    let has = λ (ls : List Literal). has_own_pair pair.0 pair.1 ls t in
+    grind (arith, nat_tests)
 
 -- ---- the sets after a substitution
 
 -- the literals of a pair differ
 pub pair_differs : (width : ℕ) (pair : Pair) → IsPair width pair → Differ pair
-pair_differs width pair ok = go (is_literal pair.1 pair.0) (literal_same pair.1 pair.0)
-  where
-    go : (b : Bool) → (b ≡ true → pair.1 ≡ pair.0) → b ≡ false
-    go true same =
-        let e = ap (λ (l : Literal). l.variable) (same refl) in
-        let up = ok.order in absurd (omega arith)
-    go false same = refl
+pair_differs width pair ok =
+    let same = literal_same pair.1 pair.0 in
+    let up = ok.order in
+    grind (arith, nat_tests)
 
 -- what is left of a set that has both is shorter by two
 pub rest-shorter : (pair : Pair) (t : Term) → Differ pair → has_pair pair t ≡ true
@@ -242,7 +193,8 @@ IsTermSet-new width pair t differ has set =
     let p : Literal → Bool = λ k. not (is_literal pair.0 k) in
     let q : Literal → Bool = λ k. not (is_literal pair.1 k) in
     let up' = Ascend-filter p (filter q t.0) (Ascend-filter q t.0 up) in
-    let inside' = Within-filter width p (filter q t.0) (Within-filter width q t.0 inside) in
+    let W : Literal → Type 0 = λ l. l.variable < width in
+    let inside' = all-filtered W p (filter q t.0) (all-filtered W q t.0 inside) in
     let shorter = rest-shorter pair t differ has in
     let short = set.short in
     record {
@@ -256,13 +208,9 @@ IsTermSet-new width pair t differ has set =
 pub new_term-set : (width : ℕ) (pair : Pair) (t : Term) → Differ pair → IsTermSet width t.0
     → IsTermSet (width + 1) (new_term pair (node width) t).0
 new_term-set width pair t differ set =
-    go (has_pair pair t) (λ h. IsTermSet-new width pair t differ h set)
-  where
-    go : (b : Bool)
-        → (b ≡ true → IsTermSet (width + 1) (rest_of pair t.0 ++ node width ∷ []))
-        → IsTermSet (width + 1) (cond b (rest_of pair t.0 ++ node width ∷ [], t.1) t).0
-    go true f = f refl
-    go false f = IsTermSet-wider width (width + 1) t.0 (omega arith) set
+    let new = IsTermSet-new width pair t differ in
+    let kept = IsTermSet-wider width (width + 1) t.0 (omega arith) set in
+    grind (arith, nat_tests)
 
 -- with the node in the place of the pair all terms have literal sets of one more variable
 pub new_terms-sets : (width : ℕ) (pair : Pair) (ts : List Term) → Differ pair

@@ -2,6 +2,7 @@
 -- and at least the tie's weight elsewhere. Nothing here has to be believed.
 use Rattle.std.specs.Prelude.{ℤ, ℕ, pos, ◌+ℤ◌, neg_ℤ, ◌*◌, Bool, ◌&&◌, ◌≤ℤ◌, ◌≡◌, ◌≢◌, true, false, unsigned_abs}
 use Rattle.std.proofs.Common.{arith, refl, ◌⊎◌, inl, inr}
+use Rattle.std.proofs.lemmas.Bool.Decides.{nat_tests}
 use Rattle.std.proofs.lemmas.Int.{ints}
 use Rattle.base.specs.Sums.{if_so}
 
@@ -14,21 +15,11 @@ tie m p q w =
 
 -- a tie costs nothing where the node is the product of the two
 pub tie-zero : (m : ℕ) (p q : Bool) → tie m p q (p && q) ≡ pos 0
-tie-zero m true true = omega (arith, ints)
-tie-zero m true false = refl
-tie-zero m false true = refl
-tie-zero m false false = refl
+tie-zero m p q = grind (arith, nat_tests, ints)
 
 -- a tie costs at least its weight where the node is not the product of the two
 pub tie-apart : (m : ℕ) (p q w : Bool) → w ≢ (p && q) → pos m ≤ℤ tie m p q w
-tie-apart m true true true n = absurd (n refl)
-tie-apart m true true false n = omega (arith, ints)
-tie-apart m true false true n = omega (arith, ints)
-tie-apart m true false false n = absurd (n refl)
-tie-apart m false true true n = omega (arith, ints)
-tie-apart m false true false n = absurd (n refl)
-tie-apart m false false true n = omega (arith, ints)
-tie-apart m false false false n = absurd (n refl)
+tie-apart m p q w n = grind (arith, nat_tests, ints)
 
 -- two bits are equal, or they differ
 pub same_or_not : (a b : Bool) → (a ≡ b) ⊎ (a ≢ b)
@@ -40,11 +31,4 @@ same_or_not false false = inl refl
 -- a term that is read with another factor changes at most by its size
 pub other_factor : (u w r : Bool) (c : ℤ)
     → if_so (u && r) c ≤ℤ (if_so (w && r) c +ℤ pos (unsigned_abs c))
-other_factor true true true c = omega (arith, ints)
-other_factor true true false c = omega (arith, ints)
-other_factor true false true c = omega (arith, ints)
-other_factor true false false c = omega (arith, ints)
-other_factor false true true c = omega (arith, ints)
-other_factor false true false c = omega (arith, ints)
-other_factor false false true c = omega (arith, ints)
-other_factor false false false c = omega (arith, ints)
+other_factor u w r c = grind (arith, nat_tests, ints)

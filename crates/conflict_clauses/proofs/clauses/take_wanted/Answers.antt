@@ -1,11 +1,10 @@
-use Rattle.conflict_clauses.proofs.Common.{◌≡◌, Bool, true, false, cond, not, List, [], ◌∷◌, ◌++◌, map, sym, ap, ◌∙◌, arith, filter, list_all, and_parts, nat_tests, ints, append_assoc, map-append, Literal, Product, is_needed, is_single, wanted, alone}
+use Rattle.conflict_clauses.proofs.Common.{◌≡◌, Bool, true, false, cond, not, List, [], ◌∷◌, ◌++◌, map, ap, arith, filter, list_all, nat_tests, ints, append_assoc, map-append, Literal, Product, is_needed, is_single, wanted, alone}
 use Rattle.conflict_clauses.proofs.clauses.take_wanted.Goals as goal
 
 -- what a test keeps of the products that are left, by what it says of the first
 kept : (test : Product → Bool) (b : Bool) (t : Product) (left rest : List Product) → left ≡ t ∷ rest
     → test t ≡ b → filter test left ≡ cond b (t ∷ filter test rest) (filter test rest)
-kept test b t left rest e says =
-    ap (filter test) e ∙ ap (λ a. cond a (t ∷ filter test rest) (filter test rest)) says
+kept test b t left rest e says = grind (arith, nat_tests)
 
 -- a product that passes puts its literal behind those so far
 passes : (test : Product → Bool) (ls new : List Literal) (w : Literal) (t : Product)
@@ -13,24 +12,20 @@ passes : (test : Product → Bool) (ls new : List Literal) (w : Literal) (t : Pr
     → w ∷ [] ≡ wanted t → new ≡ ls ++ w ∷ [] → map alone ls ++ map wanted (filter test left) ≡ whole
     → map alone new ++ map wanted (filter test rest) ≡ whole
 passes test ls new w t left rest whole e says own pushed so_far =
-    let more = map wanted (filter test rest) in
-    ap (λ ks. map alone ks ++ more) pushed ∙ ap (λ ks. ks ++ more) (map-append alone ls (w ∷ []))
-    ∙ append_assoc (map alone ls) ((w ∷ []) ∷ []) more ∙ ap (λ ks. map alone ls ++ ks ∷ more) own
-    ∙ sym (ap (λ us. map alone ls ++ map wanted us) (kept test true t left rest e says)) ∙ so_far
+    let test_says = kept test true t left rest e says in
+    grind (arith, nat_tests, map-append, append_assoc)
 
 -- one that does not pass adds none
 fails : (test : Product → Bool) (ls : List Literal) (t : Product) (left rest : List Product)
     (whole : List (List Literal)) → left ≡ t ∷ rest → test t ≡ false
     → map alone ls ++ map wanted (filter test left) ≡ whole
     → map alone ls ++ map wanted (filter test rest) ≡ whole
-fails test ls t left rest whole e says so_far =
-    sym (ap (λ us. map alone ls ++ map wanted us) (kept test false t left rest e says)) ∙ so_far
+fails test ls t left rest whole e says so_far = grind (arith, nat_tests)
 
 -- the products that are left have one literal each
 all_single : (t : Product) (left rest : List Product) → left ≡ t ∷ rest → list_all is_single left ≡ true
     → list_all is_single rest ≡ true
-all_single t left rest e single =
-    (and_parts (is_single t) (list_all is_single rest) (sym (ap (list_all is_single) e) ∙ single)).1
+all_single t left rest e single = grind (arith, nat_tests)
 
 pub loop-product-preserved-in-Continue-1 : goal.loop-product-preserved-in-Continue-1
 loop-product-preserved-in-Continue-1 c =

@@ -1,4 +1,4 @@
-use Rattle.conflict_clauses.proofs.Common.{constraint_total, ◌≡◌, ℕ, ◌∙◌, ap, sym, subst, arith, not, map, All, Some, List, filter, list_all, slice_get, Constraint, Product, IsNormalProduct, ProblemContent, is_needed, is_single, wanted, IsTaken, alone, Found}
+use Rattle.conflict_clauses.proofs.Common.{constraint_total, ◌≡◌, ℕ, ◌∙◌, ap, sym, subst, arith, All, Some, List, list_all, slice_get, Constraint, Product, IsNormalProduct, ProblemContent, is_single, IsTaken, Found}
 use Rattle.conflict_clauses.proofs.Taken.{at_place, found_single, size_at_place, taken}
 use Rattle.conflict_clauses.proofs.replacing.take_at.Goals as goal
 
@@ -25,13 +25,8 @@ returns-clause-taken c l at =
     let lists = c.take_wanted.new.lists in
     let products : c.constraint.inside.products ≡ k.products =
     ap (λ (m : Constraint). m.products) c.constraint.view_is in
-    let needed : map alone lists.needed.items ≡ map wanted (filter (is_needed r) k.products) =
-    c.in_ok-take_wanted.ensures.needed
-    ∙ ap (λ (ts : List Product). map wanted (filter (is_needed r) ts)) products in
-    let others : map alone lists.others.items
-    ≡ map wanted (filter (λ t. not (is_needed r t)) k.products) =
-    c.in_ok-take_wanted.ensures.others
-    ∙ ap (λ (ts : List Product). map wanted (filter (λ t. not (is_needed r t)) ts)) products in
+    let needed = rw products at c.in_ok-take_wanted.ensures.needed in
+    let others = rw products at c.in_ok-take_wanted.ensures.others in
     let Normal : Constraint → Type 0 = λ m. All (IsNormalProduct fields.variables) m.products in
     let normal : Normal k =
     at_place Normal fields.constraints c.args.i k c.at-constraint.ensures c.problem.invariant.0.constraints in
@@ -39,7 +34,7 @@ returns-clause-taken c l at =
     c.in-Some.ensures normal needed others in
     let found_at : slice_get fields.constraints c.args.i ≡ Some l =
     ap (λ (p : ProblemContent). slice_get p.constraints c.args.i) c.problem.view_is ∙ at in
-    let both : Some k ≡ Some l = sym c.at-constraint.ensures ∙ found_at in
+    let both = sym c.at-constraint.ensures ∙ found_at in
     let same : k ≡ l = cc in
     let variables : fields.variables ≡ c.args.problem.now.variables =
     ap (λ (p : ProblemContent). p.variables) c.problem.view_is in

@@ -1,6 +1,6 @@
-use Rattle.embedding_check.proofs.Common.{refl, sym, subst, ℕ, List, AllZip, err_from_is_err_and, IsValid, ArePlaces, AreParents, IsFault}
+use Rattle.embedding_check.proofs.Common.{refl, sym, subst, ℕ, List, AllZip, err_from_is_err_and, IsValid, ArePlaces, AreParents, IsFault, ◌<◌}
 use Rattle.embedding_check.proofs.Checked.{checked_embeds}
-use Rattle.embedding_check.proofs.Faulty.{if_fault, fault_invalid}
+use Rattle.embedding_check.proofs.Faulty.{if_fault, fault_among_invalid}
 use Rattle.embedding_check.proofs.checking.check.Goals as goal
 
 pub returns-in_err-layout-clause-invalid : goal.returns-in_err-layout-clause-invalid
@@ -9,7 +9,7 @@ returns-in_err-layout-clause-invalid g c =
     let p = err_from_is_err_and c.from_residual.result c.from_residual.ensures.1 in
     rw (p.1, p.2)
     (if_fault c.in_err-layout.field-0.0 (IsFault _ _ _ map) (λ x. IsValid _ _ _ map → ⊥)
-    (fault_invalid _ _ _ map) c.in_err-layout.ensures.fault)
+    (λ x h valid. fault_among_invalid _ _ (λ q. q < g.H.Hardware.qubits c.args.hardware.now) _ map x h valid valid.within) c.in_err-layout.ensures.fault)
 
 pub invariant_of-result : goal.invariant_of-result
 invariant_of-result g c =

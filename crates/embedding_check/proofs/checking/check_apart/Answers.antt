@@ -1,5 +1,5 @@
-use Rattle.embedding_check.proofs.Common.{◌<◌, ◌≡◌, length, sym, ap, ◌∙◌, IfOk-weaker, IfErr-weaker, IsingContent, IsInside}
-use Rattle.embedding_check.proofs.Faulty.{is_inside, is_apart, repeated_fault}
+use Rattle.embedding_check.proofs.Common.{◌<◌, ◌≡◌, length, sym, ap, ◌∙◌, IfOk-weaker, IfErr-weaker, IsingContent, IsInside, [], refl, get_or_default, IsFault}
+use Rattle.embedding_check.proofs.Faulty.{all_of_places, if_fault}
 use Rattle.embedding_check.proofs.checking.check_apart.Given.{Over}
 use Rattle.embedding_check.proofs.checking.check_apart.Goals.{In_ok-check_inside}
 use Rattle.embedding_check.proofs.checking.check_apart.Goals as goal
@@ -12,17 +12,24 @@ inside g c =
     let counted : length map ≡ length c.args.ising.now.fields =
     sym c.len.ensures ∙ c.if-len-as_slice.false ∙ ap (λ xs. length xs) c.as_slice.ensures
     ∙ ap (λ (x : IsingContent). length x.fields) c.ising.view_is in
-    is_inside _ c.args.ising.now map counted c.in-None.ensures
-    (λ u hu j hj. rw (← c.qubits-qubits.ensures) (c.in_ok-check_inside.ensures.within u hu j hj))
+    record {
+      listed = record {
+        listed = record { counted = counted };
+        filled = λ k d h e. c.in-None.ensures k h (get_or_default map k [] d h ∙ e);
+      };
+      within = all_of_places map (λ chain q. q < g.H.Hardware.qubits c.args.hardware.now)
+          (λ u hu j hj. rw (← c.qubits-qubits.ensures) (c.in_ok-check_inside.ensures.within u hu j hj));
+    }
 
 pub returns-clause-apart : goal.returns-clause-apart
 returns-clause-apart g c =
     let inside = inside g (goal.at.returns-clause-apart g c).In_ok-check_inside in
-    IfOk-weaker c.check_once.result _ _ (λ _ once. is_apart _ _ _ inside once)
+    IfOk-weaker c.check_once.result _ _ (λ _ once. record { inside = inside; once = once })
     c.check_once.ensures.once
 
 pub returns-clause-fault : goal.returns-clause-fault
 returns-clause-fault g c =
     let inside = inside g (goal.at.returns-clause-fault g c).In_ok-check_inside in
-    IfErr-weaker c.check_once.result _ _ (λ e h. repeated_fault _ _ _ _ e inside h)
+    IfErr-weaker c.check_once.result _ _ (λ e h. if_fault e _ (IsFault _ _ _ _)
+    (λ x p. rw p.3 (inside, (p.0, p.1, p.2, refl))) h)
     c.check_once.ensures.fault

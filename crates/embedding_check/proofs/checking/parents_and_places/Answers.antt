@@ -1,5 +1,5 @@
-use Rattle.embedding_check.proofs.Common.{◌<◌, length, sym, ap, ◌∙◌, err_from_is_err_and, IsingContent, IsLinked}
-use Rattle.embedding_check.proofs.Faulty.{is_linked, is_valid, uncoupled_fault, searchable}
+use Rattle.embedding_check.proofs.Common.{◌<◌, length, sym, ap, ◌∙◌, err_from_is_err_and, IsingContent, IsLinked, IsReached, IsCoupled, IsPlaceOf, IsFault, NamesUncoupled}
+use Rattle.embedding_check.proofs.Faulty.{searchable, zip_all, all_of_places, if_fault}
 use Rattle.embedding_check.proofs.checking.parents_and_places.Given.{Over}
 use Rattle.embedding_check.proofs.checking.parents_and_places.Goals.{In_ok-parents}
 use Rattle.embedding_check.proofs.checking.parents_and_places.Goals as goal
@@ -7,7 +7,10 @@ use Rattle.embedding_check.proofs.checking.parents_and_places.Goals as goal
 -- the chains are connected
 linked : (g : Over) (c : In_ok-parents g) → IsLinked (g.H.Hardware.joined c.args.hardware.now)
     (λ q. q < g.H.Hardware.qubits c.args.hardware.now) c.args.ising.now c.args.chains.now
-linked g c = is_linked _ _ _ _ c.requires.apart c.in_ok-parents.ensures.connected
+linked g c = record {
+  apart = c.requires.apart;
+  connected = all_of_places c.args.chains.now (IsReached _) c.in_ok-parents.ensures.connected;
+}
 
 pub all_parents-requires-clause-chains : goal.all_parents-requires-clause-chains
 all_parents-requires-clause-chains g c = searchable _ c.args.ising.now c.args.chains.now c.requires.apart
@@ -26,13 +29,21 @@ returns-in_err-places-clause-fault g c =
     let couplings = ap (λ (x : IsingContent). x.couplings) c.ising.view_is in
     let linked = linked g (goal.at.returns-in_err-places-clause-fault g c).In_ok-parents in
     let p = err_from_is_err_and c.from_residual-in_err-places.result c.from_residual-in_err-places.ensures.1 in
-    rw (p.1, p.2) (uncoupled_fault _ _ _ _ _ linked (rw (← couplings)
-    c.in_err-places.ensures.fault))
+    rw (p.1, p.2) (if_fault _ (NamesUncoupled (g.H.Hardware.joined c.args.hardware.now) c.args.ising.now.couplings c.args.chains.now) (IsFault _ _ _ _) (λ x p. rw p.4 (linked, (p.2, p.3)))
+    (rw (← couplings) c.in_err-places.ensures.fault))
 
 pub returns-clause-valid : goal.returns-clause-valid
 returns-clause-valid g c =
     let joined = g.H.Hardware.joined c.args.hardware.now in
     let places = c.in_ok-places.places in
     let couplings = ap (λ (x : IsingContent). x.couplings) c.ising.view_is in
-    is_valid joined _ _ _ places (linked g (goal.at.returns-clause-valid g c).In_ok-parents)
-    (rw (← couplings) c.in_ok-places.ensures.places)
+    let linked = linked g (goal.at.returns-clause-valid g c).In_ok-parents in
+    record {
+      counted = linked.apart.inside.listed.listed.counted;
+      filled = linked.apart.inside.listed.filled;
+      within = linked.apart.inside.within;
+      once = linked.apart.once;
+      connected = linked.connected;
+      coupled = rw (← couplings) (zip_all (IsPlaceOf joined c.args.chains.now) (IsCoupled joined c.args.chains.now) _ places
+          (λ e place p. (place, p.crossing)) c.in_ok-places.ensures.places);
+    }

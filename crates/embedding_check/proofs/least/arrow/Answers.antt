@@ -1,5 +1,5 @@
 use Rattle.std.proofs.Common.{arith}
-use Rattle.embedding_check.proofs.LeastPairs.{arrow_none, arrow_some}
+use Rattle.embedding_check.proofs.Noting.{arrow_none, arrow_some}
 use Rattle.embedding_check.proofs.least.arrow.Goals as goal
 
 pub returns-in-Some : goal.returns-in-Some

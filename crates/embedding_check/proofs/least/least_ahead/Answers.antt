@@ -1,6 +1,6 @@
-use Rattle.embedding_check.proofs.Common.{ℕ, ◌<◌, CanBeJoined, IsAhead, IsNumberedAhead}
+use Rattle.embedding_check.proofs.Common.{ℕ, ◌<◌, CanBeJoined, IsAhead, IsNumberedAhead, IsFacedAhead}
 use Rattle.embedding_check.proofs.Sorting.{at_of_in}
-use Rattle.embedding_check.proofs.LeastPairs.{least_of_two, ahead_ways}
+use Rattle.embedding_check.proofs.Noting.{least_of_two, ahead_ways}
 use Rattle.embedding_check.proofs.least.least_ahead.Goals as goal
 
 pub returns : goal.returns
@@ -19,5 +19,6 @@ returns g c =
     rw c.facing-span.ensures (rw c.before-before.ensures (rw c.after-after.ensures law)) in
     let line = least_of_two (IsNumberedAhead joined a chain before) (IsNumberedAhead joined a chain after) c.numbered-one.result c.numbered-other.result c.lesser-of_line.result
     c.numbered-one.ensures c.numbered-other.ensures c.lesser-of_line.ensures.left c.lesser-of_line.ensures.right c.lesser-of_line.ensures.both in
-    ahead_ways joined a chain span before after c.least_faced-faced.result c.numbered-one.result c.numbered-other.result c.lesser-of_line.result c.lesser.result findable
-    c.least_faced-faced.ensures line c.lesser.ensures.left c.lesser.ensures.right c.lesser.ensures.both
+    let all = least_of_two (IsFacedAhead joined a chain span) _ c.least_faced-faced.result c.lesser-of_line.result c.lesser.result
+    c.least_faced-faced.ensures line c.lesser.ensures.left c.lesser.ensures.right c.lesser.ensures.both in
+    ahead_ways joined a chain span before after c.lesser.result findable all

@@ -1,6 +1,6 @@
 use Rattle.std.proofs.Common.{sym, ◌∙◌, arith}
 use Rattle.embedding_check.proofs.Taking.{rising_weak}
-use Rattle.embedding_check.proofs.LeastPairs.{none_faced, some_faced}
+use Rattle.embedding_check.proofs.Noting.{none_faced, some_faced}
 use Rattle.embedding_check.proofs.least.least_faced.Goals as goal
 
 pub returns-then-chain-k : goal.returns-then-chain-k

@@ -1,5 +1,5 @@
 use Rattle.embedding_check.specs.Least.{IsArrow}
-use Rattle.embedding_check.proofs.LeastPairs.{least_pair_of_two, place_of_arrows}
+use Rattle.embedding_check.proofs.Noting.{least_pair_of_two, place_of_arrows}
 use Rattle.embedding_check.proofs.least.place_between.Goals as goal
 
 pub returns : goal.returns

@@ -1,13 +1,10 @@
-use Rattle.embedding_check.proofs.Common.{◌≡◌, ◌+◌, ℕ, ◌<◌, ◌≤◌, ◌==◌, List, [], ◌∷◌, length, take, get_or, ◌++◌, ◌∙◌, sym, subst, ap, arith, count_by, AllZip, take_all, all_zip_more, chain_of, IsReached, AreParents, AreFound, IsFirstBad, IsReachedAt}
-use Rattle.chain_map.specs.declared.faults.EmbedFault.TheVariants.{Disconnected}
-use Rattle.embedding_check.specs.declared.search.Parents.TheVariants.{All}
-use Rattle.embedding_check.proofs.Passing.{chain_within, once_each, places_more, first_at, default_free}
+use Rattle.embedding_check.proofs.Common.{Disconnected, ◌≡◌, ◌+◌, ℕ, ◌<◌, List, [], ◌∷◌, length, take, get_or, ◌++◌, ◌∙◌, sym, subst, ap, arith, AllZip, take_all, all_zip_more, chain_of, AreParents, IsReachedAt, get_or_default}
+use Rattle.embedding_check.proofs.Passing.{chain_within, once_each, places_more, first_at}
 use Rattle.embedding_check.proofs.passes.all_parents.Goals as goal
 
 pub parents_of-requires-clause-once : goal.parents_of-requires-clause-once
 parents_of-requires-clause-once g c = λ q.
-    subst (λ (xs : List ℕ). count_by (λ p. p == q) xs ≤ 1) (sym c.list-listed.ensures.listed)
-    (once_each c.args.chains.now c.requires.chains.once c.loop-node.node (omega arith) q)
+    rw c.list-listed.ensures.listed (once_each c.args.chains.now c.requires.chains.once c.loop-node.node (omega arith) q)
 
 pub parents_of-requires-clause-within : goal.parents_of-requires-clause-within
 parents_of-requires-clause-within g c =
@@ -26,8 +23,7 @@ returns-in-Unreached-clause-fault g c =
     let node = c.loop-node.node in
     let k = c.in-Unreached.k in
     let same : c.list-listed.result.now ≡ chain_of chains node = c.list-listed.ensures.listed in
-    let found = subst (λ r. AreFound joined c.list-listed.result.now r) c.in-Unreached.is c.in_ok-found.ensures in
-    let bad = subst (λ (xs : List ℕ). IsFirstBad (length xs) (λ j. IsReached joined xs (get_or xs j 0)) k) same found in (
+    let bad = rw (c.in-Unreached.is, same) at c.in_ok-found.ensures in (
       node,
       k,
       first_at chains (IsReachedAt joined chains) node k (omega arith) c.loop-node.invariant.reached bad,
@@ -41,13 +37,12 @@ loop-node-preserved g c =
     let node = c.loop-node.node in
     let below : node < length chains = omega arith in
     let same : c.list-listed.result.now ≡ chain_of chains node = c.list-listed.ensures.listed in
-    let found = subst (λ r. AreFound joined c.list-listed.result.now r) c.in-All.is c.in_ok-found.ensures in
-    let both = subst (λ (xs : List ℕ). AreFound joined xs (All c.in-All.found)) same found in
+    let both = rw (c.in-All.is, same) at c.in_ok-found.ensures in
     record {
       parents = subst (AllZip (AreParents joined) (take (node + 1) chains))
           (sym (c.in_ok-push-in-All.ensures.pushed ∙ ap (λ xs. c.loop-node.parents ++ xs ∷ []) c.deref.ensures.value))
           (all_zip_more (AreParents joined) chains c.loop-node.parents node (chain_of chains node)
-          c.in-All.found.items below (default_free chains node [] (chain_of chains node) below)
+          c.in-All.found.items below (get_or_default chains node [] (chain_of chains node) below)
           c.loop-node.invariant.parents both.0);
       reached = places_more chains (IsReachedAt joined chains) node c.loop-node.invariant.reached (λ j low. both.1 j 0 low);
     }

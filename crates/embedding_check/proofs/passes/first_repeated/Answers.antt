@@ -1,6 +1,5 @@
 use Rattle.embedding_check.proofs.Common.{◌≡◌, ◌+◌, ℕ, ◌<◌, ◌==◌, List, length, take, get_or, refl, sym, ap, ◌∙◌, arith, count_by, chain_of, occurrences, IsNew, occurrences_more, take_all}
-use Rattle.embedding_check.proofs.Passing.{places_more}
-use Rattle.embedding_check.proofs.Passing.{marked-le}
+use Rattle.embedding_check.proofs.Passing.{places_more, marked-le}
 use Rattle.embedding_check.proofs.passes.first_repeated.Goals as goal
 
 pub loop-node-preserved : goal.loop-node-preserved

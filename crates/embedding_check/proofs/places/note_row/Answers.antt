@@ -1,4 +1,5 @@
-use Rattle.embedding_check.proofs.Common.{◌<◌, All, pos, length, get_or, arith, Entry, IsCoupler, AreNoted, noted_at}
+use Rattle.embedding_check.proofs.Common.{◌<◌, All, length, get_or, arith, IsCoupler, AreNoted, noted_at}
+use Rattle.embedding_check.proofs.PlacedRows.{no_entry}
 use Rattle.embedding_check.proofs.Noting.{noted_place}
 use Rattle.embedding_check.proofs.Passing.{chain_within}
 use Rattle.embedding_check.proofs.places.note_row.Given.{Over}
@@ -7,19 +8,17 @@ use Rattle.embedding_check.proofs.places.note_row.Goals as goal
 
 pub list-own-requires : goal.list-own-requires
 list-own-requires g c =
-    let zero : Entry = record { first = 0; second = 0; weight = pos 0 } in
-    let coupler : IsCoupler (length c.args.chains.now) (get_or c.args.row.now 0 zero) = c.requires.nodes 0 zero c.requires.some in
-    omega (arith, coupler.upward, coupler.within, c.first-node.ensures 0 zero c.requires.some)
+    let coupler : IsCoupler (length c.args.chains.now) (get_or c.args.row.now 0 no_entry) = c.requires.nodes 0 no_entry c.requires.some in
+    omega (arith, coupler.upward, coupler.within, c.first-node.ensures 0 no_entry c.requires.some)
 
 -- the qubits of the row's first chain
 within : (g : Over) (c : After-list-own g)
     → All (λ q. q < g.H.Hardware.qubits c.args.hardware.now) c.list-own.result.now
 within g c =
-    let zero : Entry = record { first = 0; second = 0; weight = pos 0 } in
-    let coupler : IsCoupler (length c.args.chains.now) (get_or c.args.row.now 0 zero) = c.requires.nodes 0 zero c.requires.some in
+    let coupler : IsCoupler (length c.args.chains.now) (get_or c.args.row.now 0 no_entry) = c.requires.nodes 0 no_entry c.requires.some in
     chain_within (g.H.Hardware.qubits c.args.hardware.now) c.args.chains.now c.first-node.result
     c.list-own.result.now c.list-own.ensures.listed
-    (omega (arith, coupler.upward, coupler.within, c.first-node.ensures 0 zero c.requires.some)) c.requires.within
+    (omega (arith, coupler.upward, coupler.within, c.first-node.ensures 0 no_entry c.requires.some)) c.requires.within
 
 pub is_noting_cheap-requires-clause-within : goal.is_noting_cheap-requires-clause-within
 is_noting_cheap-requires-clause-within g c =

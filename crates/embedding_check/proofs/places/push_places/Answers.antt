@@ -1,31 +1,27 @@
-use Rattle.embedding_check.proofs.Common.{◌≡◌, ◌<◌, pos, inl, inr, length, get_or, refl, arith, cases_lt, Entry, IsCoupler, chain_of, IsCoupled, IsPlace, IsPlaceOf}
-use Rattle.embedding_check.proofs.Passing.{default_free}
-use Rattle.embedding_check.proofs.PlacedRows.{placed_next}
+use Rattle.embedding_check.proofs.Common.{◌≡◌, ◌<◌, inl, inr, length, get_or, refl, arith, cases_lt, Entry, IsCoupler, IsPlaceOf, get_or_default}
+use Rattle.embedding_check.proofs.PlacedRows.{placed_next, no_entry}
 use Rattle.embedding_check.proofs.places.push_places.Goals as goal
 
 pub place_of-requires-clause-upward : goal.place_of-requires-clause-upward
 place_of-requires-clause-upward g c =
     let row = c.args.row.now in
     let k = c.loop-k.k in
-    let zero : Entry = record { first = 0; second = 0; weight = pos 0 } in
     let below : k < length row = omega arith in
-    let coupler : IsCoupler (length c.args.chains.now) (get_or row k zero) = c.requires.nodes k zero below in
-    omega (arith, coupler.upward, c.first-first.ensures k zero below, c.second-second.ensures zero)
+    let coupler : IsCoupler (length c.args.chains.now) (get_or row k no_entry) = c.requires.nodes k no_entry below in
+    omega (arith, coupler.upward, c.first-first.ensures k no_entry below, c.second-second.ensures no_entry)
 
 pub place_of-requires-clause-node : goal.place_of-requires-clause-node
 place_of-requires-clause-node g c =
     let row = c.args.row.now in
     let k = c.loop-k.k in
-    let zero : Entry = record { first = 0; second = 0; weight = pos 0 } in
     let below : k < length row = omega arith in
-    let coupler : IsCoupler (length c.args.chains.now) (get_or row k zero) = c.requires.nodes k zero below in
-    omega (arith, coupler.within, c.second-second.ensures zero)
+    let coupler : IsCoupler (length c.args.chains.now) (get_or row k no_entry) = c.requires.nodes k no_entry below in
+    omega (arith, coupler.within, c.second-second.ensures no_entry)
 
 pub place_of-requires-clause-noted : goal.place_of-requires-clause-noted
 place_of-requires-clause-noted g c = λ yes.
-    let zero : Entry = record { first = 0; second = 0; weight = pos 0 } in
     let below : c.loop-k.k < length c.args.row.now = omega arith in
-    rw (← c.first-first.ensures c.loop-k.k zero below) (c.requires.noted yes c.loop-k.k zero below)
+    rw (← c.first-first.ensures c.loop-k.k no_entry below) (c.requires.noted yes c.loop-k.k no_entry below)
 
 pub loop-k-preserved : goal.loop-k-preserved
 loop-k-preserved g c =
@@ -35,32 +31,26 @@ loop-k-preserved g c =
     let k = c.loop-k.k in
     let p = c.in-Some.place in
     let R = IsPlaceOf joined chains in
-    let zero : Entry = record { first = 0; second = 0; weight = pos 0 } in
-    let entry = get_or row k zero in
+    let entry = get_or row k no_entry in
     let below : k < length row = omega arith in
-    let place : IsPlace joined (chain_of chains c.first-first.result) (chain_of chains c.second-second.result) p =
-    record { crossing = c.in-Some.ensures.0; least = c.in-Some.ensures.1 } in
-    let here : R entry p = rw (c.first-first.ensures k zero below, c.second-second.ensures zero) place in
+    let here : R entry p = rw (c.first-first.ensures k no_entry below, c.second-second.ensures no_entry)
+    (record { crossing = c.in-Some.ensures.0; least = c.in-Some.ensures.1 }) in
     record {
       placed = λ before all.
-          placed_next R before row k zero c.loop-k.places.items c.push.new.self.items p below
+          placed_next R before row k no_entry c.loop-k.places.items c.push.new.self.items p below
           c.in_ok-push-in-Some.ensures.items here (c.loop-k.invariant.placed before all);
       coupled = λ i d low. elim (cases_lt i k) [
         | inl less ↦ c.loop-k.invariant.coupled i d less
         | inr past ↦
             let last : i ≡ k = omega (arith, low, past) in
-            let coupled : IsCoupled joined chains entry = (p, here.crossing) in
-            rw (last, ← default_free row k zero d below) coupled
+            rw (last, ← get_or_default row k no_entry d below) (p, here.crossing)
       ];
     }
 
 pub returns-in-None-clause-fault : goal.returns-in-None-clause-fault
 returns-in-None-clause-fault g c =
-    let joined = g.H.Hardware.joined c.args.hardware.now in
-    let chains = c.args.chains.now in
     let row = c.args.row.now in
     let k = c.loop-k.k in
-    let zero : Entry = record { first = 0; second = 0; weight = pos 0 } in
     let below : k < length row = omega arith in
     let first : (d : Entry) → (get_or row k d).first ≡ c.first-first.result = λ d. c.first-first.ensures k d below in
     let second : (d : Entry) → (get_or row k d).second ≡ c.second-second.result = c.second-second.ensures in (
@@ -70,9 +60,7 @@ returns-in-None-clause-fault g c =
       record {
         below = below;
         bad = λ d coupled.
-            let pair : IsCoupled joined chains (record { first = c.first-first.result; second = c.second-second.result; weight = pos 0 }) =
-            rw (← (first d)) (rw (← (second d)) coupled) in
-            c.in-None.ensures pair.0 pair.1;
+            let pair = rw (first d, second d) at coupled in c.in-None.ensures pair.0 pair.1;
         before = c.loop-k.invariant.coupled;
         first = first;
         second = second;

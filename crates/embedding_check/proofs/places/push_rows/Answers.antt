@@ -1,14 +1,11 @@
-use Rattle.embedding_check.proofs.Common.{◌≡◌, ◌<◌, ◌+◌, ℕ, List, ◌++◌, length, All, sym, ap, subst, ◌∙◌, arith, err_from_is_err_and, Entry, rows_of, IsCoupler, IsCoupled, IsPlaceOf, IsUncoupled, rows_before, rows_more, rows_all}
-use Rattle.chain_map.specs.declared.faults.EmbedFault.TheVariants.{NoCoupler}
+use Rattle.embedding_check.proofs.Common.{NoCoupler, ◌≡◌, ◌<◌, ◌+◌, ℕ, List, ◌++◌, length, All, sym, ap, subst, ◌∙◌, arith, err_from_is_err_and, Entry, rows_of, IsCoupler, IsCoupled, IsPlaceOf, IsUncoupled, rows_before, rows_more, rows_all}
 use Rattle.embedding_check.proofs.Faulty.{if_fault, zip_all}
 use Rattle.embedding_check.proofs.PlacedRows.{all_in_row, some_in_row, uncoupled_in_row}
 use Rattle.embedding_check.proofs.places.push_rows.Goals as goal
 
 pub note_row-noting-requires-clause-nodes : goal.note_row-noting-requires-clause-nodes
 note_row-noting-requires-clause-nodes g c =
-    let P = IsCoupler (length c.args.chains.now) in
-    subst (λ (es : List Entry). All P es) (sym c.row-row.ensures)
-    (all_in_row P c.args.couplings.now c.loop-k.k (omega arith) c.requires.nodes)
+    rw c.row-row.ensures (all_in_row (IsCoupler _) c.args.couplings.now c.loop-k.k (omega arith) c.requires.nodes)
 
 pub note_row-noting-requires-clause-some : goal.note_row-noting-requires-clause-some
 note_row-noting-requires-clause-some g c =
@@ -16,9 +13,7 @@ note_row-noting-requires-clause-some g c =
 
 pub push_places-requires-clause-nodes : goal.push_places-requires-clause-nodes
 push_places-requires-clause-nodes g c =
-    let P = IsCoupler (length c.args.chains.now) in
-    subst (λ (es : List Entry). All P es) (sym c.row-row.ensures)
-    (all_in_row P c.args.couplings.now c.loop-k.k (omega arith) c.requires.nodes)
+    rw c.row-row.ensures (all_in_row (IsCoupler _) c.args.couplings.now c.loop-k.k (omega arith) c.requires.nodes)
 
 pub loop-k-preserved : goal.loop-k-preserved
 loop-k-preserved g c =

@@ -1,4 +1,4 @@
-use Rattle.embedding_check.proofs.Common.{◌≡◌, ◌≢◌, ◌+◌, ◌-◌, ◌≤◌, ◌<◌, ℕ, true, false, inl, inr, List, length, drop, sym, subst, ap, ◌∙◌, arith, AllZip, all_zip_more, length-drop, cases_eq, get_or_default_zero, IsReached, first_of, IsParent, Found, qubit_at, waits_at, parent_at}
+use Rattle.embedding_check.proofs.Common.{◌≡◌, ◌≢◌, ◌+◌, ◌-◌, ◌≤◌, ◌<◌, ℕ, true, false, List, length, drop, sym, subst, ap, ◌∙◌, arith, AllZip, all_zip_more, length-drop, get_or_default_zero, IsReached, first_of, IsParent, Found, qubit_at, waits_at, parent_at, below_more}
 use Rattle.embedding_check.proofs.Sorting.{one_place, rest_at, rest_all}
 use Rattle.embedding_check.proofs.search.found_parents.Goals as goal
 
@@ -40,10 +40,7 @@ loop-i-preserved c = λ joined found.
     let step : i + 1 - 1 ≡ i - 1 + 1 = omega (arith, some) in
     record {
       parents = rw (c.in_ok-push.ensures.items, step) more;
-      reached = λ j low. elim (cases_eq j i) [
-        | inl e ↦ rw e reached
-        | inr e ↦ (c.loop-i.invariant joined found).reached j (omega (arith, low, e))
-      ];
+      reached = below_more (λ j. IsReached joined chain (qubit_at chain j)) i (c.loop-i.invariant joined found).reached reached;
     }
 
 pub returns : goal.returns

@@ -1,12 +1,11 @@
-use Rattle.embedding_check.proofs.Common.{◌≡◌, ◌≤◌, ◌==◌, ◌<◌, ◌+◌, ℕ, List, [], ◌∷◌, ◌++◌, length, get_or, sym, subst, ap, ◌∙◌, arith, count_by, length-append, chain_of, IsSortedChain}
+use Rattle.embedding_check.proofs.Common.{◌≡◌, ◌<◌, ◌+◌, ℕ, List, [], ◌∷◌, ◌++◌, length, get_or, sym, subst, ap, ◌∙◌, arith, length-append, chain_of, IsSortedChain}
 use Rattle.embedding_check.proofs.Passing.{once_each}
 use Rattle.embedding_check.proofs.Faulty.{pushed_more}
 use Rattle.embedding_check.proofs.search.sorted_chains.Goals as goal
 
 pub sort_chain-requires : goal.sort_chain-requires
 sort_chain-requires c = λ q.
-    subst (λ (xs : List ℕ). count_by (λ p. p == q) xs ≤ 1) (sym c.list.ensures.listed)
-    (once_each c.args.chains.now c.requires c.loop-node.node (omega arith) q)
+    rw c.list.ensures.listed (once_each c.args.chains.now c.requires c.loop-node.node (omega arith) q)
 
 pub loop-node-preserved : goal.loop-node-preserved
 loop-node-preserved c =

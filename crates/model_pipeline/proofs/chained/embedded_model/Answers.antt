@@ -7,16 +7,14 @@ use Rattle.model_pipeline.proofs.chained.embedded_model.Goals as goal
 pub after-requires-clause-sum : goal.after-requires-clause-sum
 after-requires-clause-sum c =
     let made = c.in_ok-target.ensures in
-    let offset = to_z-of_z w128 c.in_ok-target.offset (search rules) ∙ made.offset in
     tied_fits c.args.ties c.args.embedded c.args.figures.offset _ made.kept c.requires.total
-    c.requires.offset offset
+    c.requires.offset (to_z-of_z w128 c.in_ok-target.offset (search rules) ∙ made.offset)
 
 pub after-requires-clause-sum_2 : goal.after-requires-clause-sum_2
 after-requires-clause-sum_2 c =
     let made = c.in_ok-target.ensures in
-    let offset = to_z-of_z w128 c.in_ok-target.offset (search rules) ∙ made.offset in
     tied_fits c.args.ties c.args.embedded c.args.figures.threshold _ made.kept c.requires.total
-    c.requires.threshold offset
+    c.requires.threshold (to_z-of_z w128 c.in_ok-target.offset (search rules) ∙ made.offset)
 
 pub chained_model-requires-clause-kind : goal.chained_model-requires-clause-kind
 chained_model-requires-clause-kind c =
@@ -30,24 +28,21 @@ chained_model-requires-clause-kind c =
 
 pub chained_model-requires-clause-scale : goal.chained_model-requires-clause-scale
 chained_model-requires-clause-scale c =
-    let scale = ap (λ (n : Figures). n.scale) c.after.ensures in
-    omega (arith, ints, scale, c.requires.scale)
+    omega (arith, ints, ap (λ (n : Figures). n.scale) c.after.ensures, c.requires.scale)
 
 pub chained_model-requires-clause-offset : goal.chained_model-requires-clause-offset
 chained_model-requires-clause-offset c =
     let made = c.in_ok-target.ensures in
-    let offset = to_z-of_z w128 c.in_ok-target.offset (search rules) ∙ made.offset in
     subst (λ (r : Figures). unsigned_abs r.offset < 2 ^ 124) (sym c.after.ensures)
     (tied_figure c.args.ties c.args.embedded c.args.figures.offset _ made.kept c.requires.total
-    c.requires.offset offset)
+    c.requires.offset (to_z-of_z w128 c.in_ok-target.offset (search rules) ∙ made.offset))
 
 pub chained_model-requires-clause-threshold : goal.chained_model-requires-clause-threshold
 chained_model-requires-clause-threshold c =
     let made = c.in_ok-target.ensures in
-    let offset = to_z-of_z w128 c.in_ok-target.offset (search rules) ∙ made.offset in
     subst (λ (r : Figures). unsigned_abs r.threshold < 2 ^ 124) (sym c.after.ensures)
     (tied_figure c.args.ties c.args.embedded c.args.figures.threshold _ made.kept c.requires.total
-    c.requires.threshold offset)
+    c.requires.threshold (to_z-of_z w128 c.in_ok-target.offset (search rules) ∙ made.offset))
 
 pub returns-clause-kept : goal.returns-clause-kept
 returns-clause-kept c = if_ok-always c.chained_model.result (λ m. c.in_ok-target.ensures.kept)

@@ -1,5 +1,5 @@
 use Rattle.model_pipeline.proofs.Common.{IfErr-weaker, IfOk-weaker, if_fault}
-use Rattle.model_pipeline.proofs.Sites.{whole_fault, whole_valid}
+use Rattle.model_pipeline.proofs.GraphModels.{whole_fault, whole_valid}
 use Rattle.model_pipeline.proofs.embedding.on_map.Goals as goal
 
 pub returns-in-All-clause-fault : goal.returns-in-All-clause-fault

@@ -1,7 +1,6 @@
 use Rattle.model_pipeline.proofs.Common.{◌∙◌, ap, subst, IfOk-weaker, IsNormal, low_extension, terms_of}
 use Rattle.model_pipeline.proofs.LeastStates.{if_ok-always, least_by}
-use Rattle.model_pipeline.proofs.PlainForms.{admits_of}
-use Rattle.model_pipeline.proofs.Standing.{room_of}
+use Rattle.model_pipeline.proofs.Standing.{admits_of, room_of}
 use Rattle.model_pipeline.proofs.extending.extended.Goals as goal
 
 pub node_count-requires : goal.node_count-requires

@@ -1,7 +1,7 @@
 use Rattle.model_pipeline.proofs.Common.{◌∙◌, ap, IfOk-weaker}
 use Rattle.monomial_layer.specs.Monomials as monomials
 use Rattle.quad_form.specs.Flat as flat
-use Rattle.model_pipeline.proofs.QuadForms.{IsWithin-small}
+use Rattle.model_pipeline.proofs.Standing.{IsWithin-small}
 use Rattle.model_pipeline.proofs.forms.low_form.Goals as goal
 
 pub into_form-requires : goal.into_form-requires

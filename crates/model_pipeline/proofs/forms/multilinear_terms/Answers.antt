@@ -1,5 +1,5 @@
 use Rattle.model_pipeline.proofs.Common.{[], length, ap, ◌∙◌, subst, sym, node_count, HeldContent, AreHeld, penalty_admits}
-use Rattle.model_pipeline.proofs.PlainForms.{plain_additions, room-plain}
+use Rattle.model_pipeline.proofs.Standing.{plain_additions, room-plain}
 use Rattle.model_pipeline.proofs.forms.multilinear_terms.Goals as goal
 
 pub node_count-requires : goal.node_count-requires

@@ -1,6 +1,6 @@
 use Rattle.model_pipeline.proofs.Common.{◌≡◌, None, IfOk-weaker, subst, limit_fault, additions_of}
 use Rattle.problem_form.specs.declared.limits.Normal.TheVariants.{Literal, Multilinear}
-use Rattle.model_pipeline.proofs.PlainForms.{added, plain_additions}
+use Rattle.model_pipeline.proofs.Standing.{added, plain_additions}
 use Rattle.model_pipeline.proofs.forms.normal_terms.Goals as goal
 
 pub returns-in-Literal : goal.returns-in-Literal

@@ -1,4 +1,4 @@
-use Rattle.model_pipeline.proofs.Decoders.{read_off_is_decoded}
+use Rattle.model_pipeline.proofs.LeastStates.{read_off_is_decoded}
 use Rattle.model_pipeline.proofs.laws.laws_of_decoding.Goals as goal
 
 pub returns : goal.returns

@@ -1,4 +1,4 @@
-use Rattle.model_pipeline.proofs.Decoders.{first_are_decoded, least_extends}
+use Rattle.model_pipeline.proofs.LeastStates.{first_are_decoded, least_extends}
 use Rattle.model_pipeline.proofs.laws.laws_of_extensions.Goals as goal
 
 pub returns-clause-first : goal.returns-clause-first

@@ -1,7 +1,7 @@
 use Rattle.model_pipeline.proofs.Common.{size_fits, ◌+◌, ◌*◌, ◌^◌, ◌≤◌, ◌∙◌, length, ap, arith, rules, subst, sym, FitsSigned, w128, IsIsing, ising_total, chains_of, fabric_in, graph_in, kind_of, qubit_model, IsQubitModelOf}
 use Rattle.model_pipeline.proofs.QubitModels.{model_stands, moved_by_ties}
 use Rattle.model_pipeline.proofs.on_qubits.form_on_qubits.Goals as goal
-use Rattle.model_pipeline.proofs.Sites.{sized_in, site_valid, joined_both_ways}
+use Rattle.model_pipeline.proofs.GraphModels.{sized_in, site_valid, joined_both_ways}
 
 pub returns-clause-stands : goal.returns-clause-stands
 returns-clause-stands c =

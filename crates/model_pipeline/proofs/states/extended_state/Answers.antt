@@ -1,6 +1,6 @@
 use Rattle.model_pipeline.proofs.Common.{ap, sym, subst, ◌∙◌, IfOk-weaker, ExtendsTo, IsLeastTo, state_on}
 use Rattle.problem_form.specs.Problems as problems
-use Rattle.model_pipeline.proofs.WrittenExtensions.{made_extends, made_fits, made_least}
+use Rattle.model_pipeline.proofs.WrittenStates.{made_extends, made_fits, made_least}
 use Rattle.model_pipeline.proofs.states.extended_state.Goals as goal
 
 pub state_of-requires : goal.state_of-requires

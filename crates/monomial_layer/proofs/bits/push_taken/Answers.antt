@@ -5,5 +5,4 @@ pub loop-place-preserved : goal.loop-place-preserved
 loop-place-preserved c = grind (arith, nat_tests, append_assoc, add-one)
 
 pub returns : goal.returns
-returns c =
-    let all : c.loop-place.place ≡ c.args.nodes = omega arith in cc (c.loop-place.invariant)
+returns c = let all : c.loop-place.place ≡ c.args.nodes = omega arith in cc (c.loop-place.invariant)

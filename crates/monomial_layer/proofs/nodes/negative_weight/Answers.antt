@@ -1,5 +1,4 @@
-use Rattle.monomial_layer.proofs.Common.{nat_tests, arith}
-use Rattle.std.proofs.Common.{refl, pos, ◌-◌, rules}
+use Rattle.monomial_layer.proofs.Common.{nat_tests, arith, refl, pos, ◌-◌, rules}
 use Rattle.monomial_layer.proofs.Weights.{product_fits, negated_is}
 use Rattle.monomial_layer.proofs.nodes.negative_weight.Goals as goal
 

@@ -1,4 +1,4 @@
-use Rattle.std.proofs.Common.{◌∙◌, ap, pos, rules}
+use Rattle.monomial_layer.proofs.Common.{◌∙◌, ap, pos, rules}
 use Rattle.monomial_layer.proofs.Weights.{product_fits, negated_fits, negated_is}
 use Rattle.monomial_layer.proofs.nodes.pair_weight.Goals as goal
 

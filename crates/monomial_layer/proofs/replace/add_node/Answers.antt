@@ -1,4 +1,4 @@
-use Rattle.monomial_layer.proofs.Common.{nat_tests, ◌∷◌, ◌*◌, ◌+◌, ◌-◌, ◌^◌, ◌*ℤ◌, ◌∙◌, [], ap, refl, pos, length, arith, rules, w128, to_z-of_z, on_ok_weaker, fills_same, room_same, factor}
+use Rattle.monomial_layer.proofs.Common.{ints, nat_tests, ◌∷◌, ◌*◌, ◌+◌, ◌-◌, ◌^◌, ◌*ℤ◌, ◌∙◌, [], ap, refl, pos, length, arith, rules, w128, to_z-of_z, on_ok_weaker, fills_same, room_same, factor}
 use Rattle.monomial_layer.proofs.Adding.{others_room, own_and_others, own_room}
 use Rattle.monomial_layer.proofs.Sizes.{node_weight-fits, pair_weight-fits}
 use Rattle.monomial_layer.proofs.replace.add_node.Goals as goal
@@ -12,8 +12,7 @@ node_weight-requires-clause-small g c =
 
 pub pair_weight-requires-clause-small : goal.pair_weight-requires-clause-small
 pair_weight-requires-clause-small g c =
-    let back = to_z-of_z w128 c.args.coefficient c.ranges.coefficient in
-    rw back
+    rw (to_z-of_z w128 c.args.coefficient c.ranges.coefficient)
     (pair_weight-fits c.args.literals.now c.args.coefficient c.args.new_node c.args.place 0 (2 ^ 124) (omega (arith, c.requires.small)))
 
 pub gather-requires : goal.gather-requires
@@ -35,6 +34,4 @@ returns g c =
     let Takes = g.G.Gather.takes in
     let Holds = g.G.Gather.holds in
     let back = to_z-of_z w128 c.args.coefficient c.ranges.coefficient in
-    let weight = to_z-of_z w128 c.node_weight.result (search rules) ∙ rw back at c.node_weight.ensures in
-    let pair = to_z-of_z w128 c.pair_weight.result (search rules) ∙ rw back at c.pair_weight.ensures in
-    grind (arith, nat_tests, own_and_others, on_ok_weaker, fills_same)
+    grind (arith, nat_tests, ints, to_z-of_z, w128, own_and_others, on_ok_weaker, fills_same)

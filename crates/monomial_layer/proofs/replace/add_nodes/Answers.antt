@@ -1,4 +1,4 @@
-use Rattle.monomial_layer.proofs.Common.{nat_tests, ints, ◌<◌, add-one, length, rules, arith, ap, sym, w128, to_z-of_z, Literal, terms_total, fills_more, fills_none, fills_same, room_same, node_term, nodes_for}
+use Rattle.monomial_layer.proofs.Common.{nat_tests, ints, ◌<◌, add-one, length, rules, arith, ap, w128, to_z-of_z, Literal, terms_total, fills_more, fills_none, fills_same, room_same, node_term, nodes_for, sym}
 use Rattle.monomial_layer.proofs.Adding.{nodes_room}
 use Rattle.monomial_layer.proofs.Sizes.{total-more_nodes}
 use Rattle.monomial_layer.proofs.replace.add_nodes.Goals as goal

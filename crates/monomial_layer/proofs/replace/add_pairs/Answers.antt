@@ -7,8 +7,7 @@ pub add_with_each-requires : goal.add_with_each-requires
 add_with_each-requires g c =
     let back = to_z-of_z w128 c.args.coefficient c.ranges.coefficient in
     let so_far = rw back at c.loop-i.invariant in
-    rw back
-    (rest_room g.G.Gather.takes g.G.Gather.holds c.args.terms.now c.loop-i.terms _ _ _ _
+    rw back (rest_room g.G.Gather.takes g.G.Gather.holds c.args.terms.now c.loop-i.terms _ _ _ _
     (pairs_left c.args.literals.now c.loop-i.i _ c.args.coefficient c.loop-i-test.true) so_far c.requires)
 
 pub loop-i-preserved : goal.loop-i-preserved

@@ -5,21 +5,16 @@ pub add_pairs-requires : goal.add_pairs-requires
 add_pairs-requires g c =
     let ls = c.args.literals.now in
     let z = c.args.coefficient in
-    let back = to_z-of_z w128 z c.ranges.coefficient in
-    rw back
+    rw (to_z-of_z w128 z c.ranges.coefficient)
     (room_first g.G.Gather.takes c.args.terms.now (positive_terms ls z c.args.next) (pair_terms ls z)
     (node_terms ls z c.args.next (nodes_for (length ls))) refl c.requires.room)
 
 pub add_nodes-requires-clause-room : goal.add_nodes-requires-clause-room
 add_nodes-requires-clause-room g c =
     let ls = c.args.literals.now in
-    let z = c.args.coefficient in
-    let back = to_z-of_z w128 z c.ranges.coefficient in
+    let back = to_z-of_z w128 _ c.ranges.coefficient in
     let made = rw back at c.in_ok-add_pairs.ensures in
-    rw back
-    (room_next g.G.Gather.takes g.G.Gather.holds c.args.terms.now c.add_pairs.new.terms
-    (positive_terms ls z c.args.next) (pair_terms ls z) (node_terms ls z c.args.next (nodes_for (length ls))) refl
-    made c.requires.room)
+    rw back (room_next _ _ _ _ _ _ _ refl made c.requires.room)
 
 pub add_nodes-requires-clause-small : goal.add_nodes-requires-clause-small
 add_nodes-requires-clause-small g c = grind (arith, nat_tests, to_z-of_z, terms_total-append)

@@ -27,8 +27,7 @@ add_replaced-requires-clause-room c =
     let t : Term = (c.in-Some.literals.now, c.in-Some.coefficient) in
     let next = c.loop-literals.next in
     let left = rest_more _ c.loop-literals.literals-iterator c.next.new.self c.next.result (c.in-Some.literals, c.in-Some.coefficient) c.in-Some.is c.next.ensures.steps in
-    let back = to_z-of_z w128 c.in-Some.coefficient (search rules) in
-    rw back
+    rw (to_z-of_z w128 c.in-Some.coefficient (search rules))
     (filling.rest_room Takes Holds (empty_of u) c.loop-literals.quadratic _
     (all_new_terms c.next.new.self (next + new_nodes t)) _ (new_terms t next) (ap (λ ts. all_new_terms ts next) left)
     c.loop-literals.invariant.rest (room_for_all u c.terms-literals-items.ensures.kept c.requires.total))

@@ -1,6 +1,4 @@
-use Rattle.opb_reader.proofs.Common.{◌≡◌, sym, ap, subst, ◌∙◌, to_z, of_z, arith, rules, w128, to_z-of_z, err_from_is_err_and, word_of, left, ProblemContent, with_variables, with_constraint, with_constraint-total, Listed, literals_in, widened, compared, with_listed}
-use Rattle.opb_reader.proofs.Constraints.{sum_fails, comparison_fails, constraint_is, compared_within, compared-total}
-use Rattle.opb_reader.proofs.Variables.{AreWithin, widened-le, terms_within}
+use Rattle.opb_reader.proofs.Lemmas.{◌≡◌, sym, ap, subst, ◌∙◌, to_z, of_z, arith, rules, w128, to_z-of_z, err_from_is_err_and, word_of, left, ProblemContent, with_variables, with_constraint, with_constraint-total, Listed, literals_in, widened, compared, with_listed, sum_fails, comparison_fails, constraint_is, compared_within, compared-total, AreWithin, widened-le, terms_within}
 use Rattle.opb_reader.proofs.reading.constraint.Goals as goal
 
 pub returns-in_err-next-clause-read : goal.returns-in_err-next-clause-read

@@ -1,5 +1,4 @@
-use Rattle.opb_reader.proofs.Common.{sym, ap, ◌∙◌, length, arith, err_from_is_err_and, word_of, constraints_read}
-use Rattle.opb_reader.proofs.Constraints.{constraint_goes_on, constraint_fails, constraints_end}
+use Rattle.opb_reader.proofs.Lemmas.{sym, ap, ◌∙◌, length, arith, err_from_is_err_and, word_of, constraints_read, constraint_goes_on, constraint_fails, constraints_end}
 use Rattle.opb_reader.proofs.reading.constraints.Goals as goal
 
 pub loop-first-preserved : goal.loop-first-preserved

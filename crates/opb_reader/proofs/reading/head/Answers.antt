@@ -1,5 +1,4 @@
-use Rattle.opb_reader.proofs.Common.{◌≡◌, ◌∷◌, drop, Ok, codes, bytes_eq, true, false, sym, ap, ◌∙◌, rules, word_of, head_read, objective_read}
-use Rattle.opb_reader.proofs.Constraints.{head_objective, head_other, head_none, next_is}
+use Rattle.opb_reader.proofs.Lemmas.{◌≡◌, ◌∷◌, drop, Ok, codes, bytes_eq, true, false, sym, ap, ◌∙◌, rules, word_of, head_read, objective_read, head_objective, head_other, head_none, next_is}
 use Rattle.opb_reader.proofs.reading.head.Goals as goal
 
 pub returns-in-Some-clause-read : goal.returns-in-Some-clause-read

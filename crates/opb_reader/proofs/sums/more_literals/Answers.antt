@@ -1,6 +1,4 @@
-use Rattle.opb_reader.proofs.Common.{◌≡◌, ◌∷◌, [], length, true, false, sym, ap, ◌∙◌, arith, err_from_is_err_and, word_of, Literal, widened, begins_literal}
-use Rattle.opb_reader.proofs.Literals.{literal_goes_on, literal_fails, literals_stop, literals_end}
-use Rattle.opb_reader.proofs.Variables.{widened-append}
+use Rattle.opb_reader.proofs.Lemmas.{◌≡◌, ◌∷◌, [], length, true, false, sym, ap, ◌∙◌, arith, err_from_is_err_and, word_of, Literal, widened, begins_literal, literal_goes_on, literal_fails, literals_stop, literals_end, widened-append}
 use Rattle.opb_reader.proofs.sums.more_literals.Goals as goal
 
 pub returns-then-not-begins_literal-clause-read : goal.returns-then-not-begins_literal-clause-read

@@ -1,6 +1,4 @@
-use Rattle.opb_reader.proofs.Common.{◌≡◌, true, sym, ap, ◌∙◌, to_z, of_z, arith, rules, w128, to_z-of_z, err_from_is_err_and, word_of, left, Product, ProblemContent, with_variables, with_product, with_product-total, greatest_index, widened, is_semicolon, with_term}
-use Rattle.opb_reader.proofs.TermSums.{term_goes_on, term_fails, sum_stops, sum_ends, objective_closed, objective_open, objective_fails}
-use Rattle.opb_reader.proofs.Variables.{widened-le, widened_within}
+use Rattle.opb_reader.proofs.Lemmas.{◌≡◌, true, sym, ap, ◌∙◌, to_z, of_z, arith, rules, w128, to_z-of_z, err_from_is_err_and, word_of, left, Product, ProblemContent, with_variables, with_product, with_product-total, greatest_index, widened, is_semicolon, with_term, term_goes_on, term_fails, sum_stops, sum_ends, objective_closed, objective_open, objective_fails, widened-le, widened_within}
 use Rattle.opb_reader.proofs.sums.objective.Goals as goal
 
 pub returns-then-is_semicolon-clause-read : goal.returns-then-is_semicolon-clause-read

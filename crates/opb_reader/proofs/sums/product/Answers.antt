@@ -1,5 +1,4 @@
-use Rattle.opb_reader.proofs.Common.{◌≡◌, ◌∷◌, ◌++◌, [], List, sym, ap, ◌∙◌, arith, word_of, Literal, product_at, literals_read}
-use Rattle.opb_reader.proofs.Literals.{product_first}
+use Rattle.opb_reader.proofs.Lemmas.{◌≡◌, ◌∷◌, ◌++◌, [], List, sym, ap, ◌∙◌, arith, word_of, Literal, product_at, literals_read, product_first}
 use Rattle.opb_reader.proofs.sums.product.Goals as goal
 
 pub push-requires : goal.push-requires

@@ -1,7 +1,4 @@
-use Rattle.opb_reader.proofs.Common.{◌≡◌, ◌∷◌, ◌++◌, [], List, refl, sym, ap, ◌∙◌, to_z, of_z, arith, rules, w128, to_z-of_z, flat_map_more, err_from_is_err_and, word_of, left, Product, widened, literals_in, is_operator, sum_at, put_all}
-use Rattle.opb_reader.proofs.Many.{push, put_none}
-use Rattle.opb_reader.proofs.TermSums.{term_goes_on, term_fails, sum_stops, sum_ends}
-use Rattle.opb_reader.proofs.Variables.{widened-append}
+use Rattle.opb_reader.proofs.Lemmas.{◌≡◌, ◌∷◌, ◌++◌, [], List, refl, sym, ap, ◌∙◌, to_z, of_z, arith, rules, w128, to_z-of_z, flat_map_more, err_from_is_err_and, word_of, left, Product, widened, literals_in, is_operator, sum_at, put_all, push, put_none, term_goes_on, term_fails, sum_stops, sum_ends, widened-append}
 use Rattle.opb_reader.proofs.Totals.{products_total-push}
 use Rattle.opb_reader.proofs.sums.sum.Goals as goal
 

@@ -1,5 +1,4 @@
-use Rattle.opb_reader.proofs.Common.{◌≡◌, ◌+◌, ◌*◌, ◌^◌, ◌≤◌, [], ◌∷◌, length, word_of, left, products_total, literals_in, widened, is_operator, sum_at, put_all}
-use Rattle.opb_reader.proofs.Many.{push}
+use Rattle.opb_reader.proofs.Lemmas.{◌≡◌, ◌+◌, ◌*◌, ◌^◌, ◌≤◌, [], ◌∷◌, length, word_of, left, products_total, literals_in, widened, is_operator, sum_at, put_all, push}
 use Rattle.opb_reader.proofs.sums.sum.Given as goal
 
 -- the terms so far, and then those of the other words, are the terms of all; and each took a word

@@ -1,5 +1,4 @@
-use Rattle.posiform_check.proofs.Common.{rules, ◌≡◌, ap, ◌∙◌, ℤ, ◌*ℤ◌, ◌∷◌, [], pos, neg_ℤ, to_z, of_z, w128, to_z-of_z, with_more, node_set}
-use Rattle.posiform_check.proofs.Gathering.{first_fits, second_fits, third_fits}
+use Rattle.posiform_check.proofs.Common.{rules, ◌≡◌, ap, ◌∙◌, ℤ, ◌*ℤ◌, ◌∷◌, [], pos, neg_ℤ, to_z, of_z, w128, to_z-of_z, refl, additions_first, additions_second, both_made}
 use Rattle.posiform_check.proofs.forms.add_coupling.Goals as goal
 
 -- the product of a weight and -2 does not wrap
@@ -9,19 +8,17 @@ twice w z same whole is = whole ∙ is ∙ ap (λ k. neg_ℤ (pos 2 *ℤ k)) sam
 
 pub add_node-requires : goal.add_node-requires
 add_node-requires c =
-    let w = c.args.weight in
-    let value = twice w c.twice_less.result (search rules) (search rules) c.twice_less.ensures in
-    first_fits c.args.terms.now c.args.first c.args.second w c.requires.fits _ value
+    let value = twice c.args.weight c.twice_less.result (search rules) (search rules) c.twice_less.ensures in
+    rw value (additions_first c.args.terms.now (_ ∷ []) (_ ∷ _ ∷ []) _ refl c.requires.fits)
 
 pub add_node-requires-2 : goal.add_node-requires-2
 add_node-requires-2 c =
     let w = c.args.weight in
     let value = twice w c.twice_less.result (search rules) (search rules) c.twice_less.ensures in
     let next = twice w c.twice_less-2.result (search rules) (search rules) c.twice_less-2.ensures in
-    let made = c.in_ok-add_node.ensures
-    ∙ ap (λ k. with_more c.args.terms.now ((node_set c.args.first, k) ∷ [])) value in
-    second_fits c.args.terms.now c.args.first c.args.second w c.requires.fits c.add_node.new.terms _
-    next made
+    let made = rw value at c.in_ok-add_node.ensures in
+    rw next (additions_first _ (_ ∷ []) (_ ∷ []) _ refl
+    (additions_second c.args.terms.now _ (_ ∷ []) (_ ∷ _ ∷ []) _ refl made c.requires.fits))
 
 pub add_pair-requires : goal.add_pair-requires
 add_pair-requires c =
@@ -31,9 +28,7 @@ add_pair-requires c =
     let most : to_z w128 (of_z w128 c.four_times.result) ≡ pos 4 *ℤ w =
     to_z-of_z w128 c.four_times.result (search rules) ∙ c.four_times.ensures
     ∙ ap (λ z. pos 4 *ℤ z) (to_z-of_z w128 w (search rules)) in
-    let made = c.in_ok-add_node.ensures
-    ∙ ap (λ k. with_more c.args.terms.now ((node_set c.args.first, k) ∷ [])) value in
-    let more = c.in_ok-add_node-2.ensures
-    ∙ ap (λ k. with_more c.add_node.new.terms ((node_set c.args.second, k) ∷ [])) next in
-    third_fits c.args.terms.now c.args.first c.args.second w c.requires.fits c.add_node.new.terms
-    c.add_node-2.new.terms _ most made more
+    let made = rw value at c.in_ok-add_node.ensures in
+    let more = rw next at c.in_ok-add_node-2.ensures in
+    rw most (additions_second c.args.terms.now _ (_ ∷ _ ∷ []) (_ ∷ []) _ refl
+    (both_made c.args.terms.now _ _ (_ ∷ []) (_ ∷ []) _ refl made more) c.requires.fits)

@@ -1,4 +1,4 @@
-use Rattle.posiform_check.proofs.Common.{ℕ, ◌≤◌, ◌^◌, All, List, length, subst, arith, All-head, All-tail, answered_left, answered_end, complements, Line}
+use Rattle.posiform_check.proofs.Common.{ℕ, ◌≤◌, ◌^◌, length, arith, All-head, All-tail, answered_left, answered_end, complements, Line}
 use Rattle.posiform_check.proofs.limits.pairs_of.Goals as goal
 
 abbrev products : Line → ℕ
@@ -7,8 +7,7 @@ products l = 2 ^ complements l.literals
 pub products_of-requires : goal.products_of-requires
 products_of-requires c =
     All-head (λ (l : Line). length l.literals ≤ 8) _ _
-    (subst (λ (ls : List Line). All (λ l. length l.literals ≤ 8) ls) c.in-Some.ensures.steps
-    c.loop-line.invariant.few)
+    (rw c.in-Some.ensures.steps at c.loop-line.invariant.few)
 
 pub loop-line-preserved : goal.loop-line-preserved
 loop-line-preserved c = record {
@@ -17,8 +16,7 @@ loop-line-preserved c = record {
       (omega (arith, c.products_of.ensures.value, c.products_of.ensures.small))
       c.saturating_add-total.ensures c.loop-line.invariant.counted;
   few = All-tail (λ (l : Line). length l.literals ≤ 8) _ _
-      (subst (λ (ls : List Line). All (λ l. length l.literals ≤ 8) ls) c.in-Some.ensures.steps
-      c.loop-line.invariant.few);
+      (rw c.in-Some.ensures.steps at c.loop-line.invariant.few);
 }
 
 pub returns : goal.returns

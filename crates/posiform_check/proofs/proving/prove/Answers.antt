@@ -1,11 +1,11 @@
-use Rattle.posiform_check.proofs.Common.{rules, ◌≡◌, ◌≢◌, None, Some, pos, ◌-ℤ◌, refl, ◌∙◌, to_z, of_z, arith, w128, ints, to_z-of_z, energy, form_of, size-energy, certificate_list, model_list, first_negative, difference}
-use Rattle.posiform_check.proofs.FirstFaults.{fault_from, first_above, first_faults_tell}
+use Rattle.posiform_check.proofs.Common.{rules, ◌≡◌, ◌≢◌, None, Some, ◌-ℤ◌, refl, to_z, of_z, arith, w128, ints, to_z-of_z, energy, form_of, size-energy, certificate_list, model_list, first_negative, difference, nat_tests}
+use Rattle.posiform_check.proofs.FirstFaults.{first_faults_tell}
 use Rattle.posiform_check.proofs.proving.prove.Goals as goal
 
 pub returns-in-Some-clause-first : goal.returns-in-Some-clause-first
 returns-in-Some-clause-first c =
     let line : first_negative c.args.certificate.now.lines ≡ Some c.in-Some.line = search rules in
-    fault_from c.args.model.now c.args.certificate.now c.args.y.now _ _ _ line refl refl
+    rw line refl
 
 pub returns-in-Some-2-clause-first : goal.returns-in-Some-2-clause-first
 returns-in-Some-2-clause-first c =
@@ -17,7 +17,7 @@ returns-in-Some-2-clause-first c =
     ≡ difference (model_list c.args.model.now) (certificate_list cert) = search rules in
     let our_own : to_z w128 (of_z w128 ours) ≡ ours = to_z-of_z w128 ours (search rules) in
     let their_own : to_z w128 (of_z w128 theirs) ≡ theirs = to_z-of_z w128 theirs (search rules) in
-    rw (our_own, their_own) (fault_from c.args.model.now cert c.args.y.now _ _ _ none found refl)
+    rw (our_own, their_own, none, ← found) refl
 
 pub returns-in-Some-2-clause-refused : goal.returns-in-Some-2-clause-refused
 returns-in-Some-2-clause-refused c =
@@ -41,9 +41,7 @@ returns-then-energy-certificate-clause-first c =
     let over : to_z w128 (of_z w128 c.above.result) ≡ c.total_energy-energy.result -ℤ cert.bound =
     search rules in
     let differ : c.total_energy-energy.result ≢ cert.bound = search rules in
-    let a = to_z w128 (of_z w128 c.above.result) in
-    fault_from m cert c.args.y.now None None a none found (omega (arith, ints, value, over))
-    ∙ first_above a (omega (arith, ints, over, differ))
+    rw (over, none, ← found, value) (grind (arith, nat_tests, ints))
 
 pub returns-then-energy-certificate-clause-refused :
     goal.returns-then-energy-certificate-clause-refused
@@ -59,7 +57,7 @@ returns-clause-faultless c =
     let found : None ≡ difference (model_list m) (certificate_list cert) = search rules in
     let value : c.total_energy-energy.result ≡ energy (form_of m) c.args.y.now = search rules in
     let equal : c.total_energy-energy.result ≡ cert.bound = search rules in
-    fault_from m cert c.args.y.now None None (pos 0) none found (omega (arith, ints, value, equal))
+    rw (none, ← found) (grind (arith, nat_tests, ints))
 
 pub returns-clause-proved : goal.returns-clause-proved
 returns-clause-proved c =

@@ -1,11 +1,9 @@
-use Rattle.posiform_check.proofs.Common.{ap, sym, subst, arith, ints, on_ok_weaker, coefficient_of, KeptTable, coefficient_of-with_additions, AreOfNodes}
+use Rattle.posiform_check.proofs.Common.{ap, arith, ints, on_ok_weaker, coefficient_of, KeptTable, coefficient_of-with_additions}
 use Rattle.posiform_check.proofs.Sums.{coefficients-append}
 use Rattle.posiform_check.proofs.quick.add_lines.Goals as goal
 
 pub add_each_line-requires-clause-nodes : goal.add_each_line-requires-clause-nodes
-add_each_line-requires-clause-nodes c =
-    subst (λ n. AreOfNodes n c.args.certificate.now) (λ i. (sym c.new-long.ensures i).width)
-    c.requires.nodes
+add_each_line-requires-clause-nodes c = rw c.new-long.ensures c.requires.nodes
 
 pub add_each_line-requires-clause-none : goal.add_each_line-requires-clause-none
 add_each_line-requires-clause-none c = λ i. (c.new-long.ensures i).terms

@@ -1,6 +1,6 @@
-use Rattle.posiform_check.proofs.Common.{ℤ, List, ◌≡◌, ◌+ℤ◌, ◌++◌, sym, ap, subst, ◌∙◌, to_z, of_z, arith, rules, pos, [], refl, w128, All-nil, err_from_is_err_and, word_of, Fails, left, Line, CertificateContent, IsLine, written, bound_of, kept_line, with_line, lines_put}
+use Rattle.posiform_check.proofs.Common.{ℤ, List, ◌≡◌, ◌+ℤ◌, ◌++◌, sym, ap, subst, ◌∙◌, to_z, of_z, arith, rules, pos, [], refl, w128, All-nil, err_from_is_err_and, word_of, Fails, left, Line, CertificateContent, IsLine, written, bound_of, kept_line, with_line, lines_put, All, ◌<◌, Literal, All-append}
 use Rattle.posiform_check.proofs.ReadSteps.{line_goes_on, line_fails, lines_end, lines_all, next_left}
-use Rattle.posiform_check.proofs.KeptLines.{more_good, more_within, with_line-total}
+use Rattle.posiform_check.proofs.KeptLines.{with_line-total, kept_lines-good, kept_lines-within}
 use Rattle.posiform_check.proofs.reading.read_lines.Goals as goal
 
 abbrev so_far : ℤ → List Line → CertificateContent
@@ -35,12 +35,13 @@ loop-next-preserved c =
       read = ap (λ (t : CertificateContent). lines_put c.args.nodes t rest) state
           ∙ sym (line_goes_on c.args.nodes s w c.loop-next.words rest l
           c.in_ok-coefficient.ensures.read) ∙ before;
-      lines = rw lines (more_good s l c.loop-next.invariant.lines);
+      lines = rw lines (All-append IsLine s.lines (kept_line l) c.loop-next.invariant.lines (kept_lines-good l));
       small =
           let w = c.in_ok-coefficient.ensures in
           rw (bound, lines) (omega (arith, with_line-total s l, small, w.small, w.shorter));
-      nodes = rw lines (more_within c.args.nodes s l c.loop-next.invariant.nodes
-          c.in_ok-coefficient.ensures.within);
+      nodes = rw lines (All-append
+          (λ (m : Line). All (λ (k : Literal). k.variable < c.args.nodes) m.literals) s.lines (kept_line l)
+          c.loop-next.invariant.nodes (kept_lines-within c.args.nodes l c.in_ok-coefficient.ensures.within));
     }
 
 pub loop-next-init : goal.loop-next-init

@@ -12,8 +12,7 @@ unit_found unit lent nodes couplers fits is same =
 
 -- .. is at least 1
 unit_low : (unit : ℤ) (lent nodes : List ℤ) (couplers : List Entry) → FitsSigned w128 unit
-    → unit ≡ unit_of (weights_of lent couplers) → lent ≡ nodes
-    → pos 1 ≤ℤ to_z w128 (of_z w128 unit)
+    → unit ≡ unit_of (weights_of lent couplers) → lent ≡ nodes → pos 1 ≤ℤ to_z w128 (of_z w128 unit)
 unit_low unit lent nodes couplers fits is same =
     subst (λ u. pos 1 ≤ℤ u) (sym (unit_found unit lent nodes couplers fits is same))
     (one_le_quad_unit (record { constant = pos 0; diagonal = nodes; couplers = couplers }))

@@ -14,16 +14,14 @@ loop-index-preserved c =
     let sums = c.loop-index.sums in
     let more : drop i js ≡ j ∷ drop (i + 1) js = drop_more js i 0 c.loop-index-test.true in
     let couplers = ap (λ ks. c.loop-index.couplers ++ taken first sums ks) (sym more) ∙ c.loop-index.invariant.couplers in
-    let left = ap (λ ks. emptied sums ks) (sym more) ∙ c.loop-index.invariant.sums in
     let pushed : c.push_some.new.couplers ≡ c.loop-index.couplers ++ entry_in_front (entry_at first sums j) [] =
     c.in_ok-push_some.ensures
     ∙ (λ k. c.loop-index.couplers ++ entry_in_front (record { first = first; second = j; weight = to_z-of_z w128 (get_or sums j (pos 0)) (search rules) k }) []) in
     record {
       couplers =
           ap (λ es. es ++ taken first (set sums j (pos 0)) (drop (i + 1) js)) pushed
-          ∙ taken_next first sums j (drop (i + 1) js) c.loop-index.couplers
-          ∙ couplers;
-      sums = left;
+          ∙ taken_next first sums j (drop (i + 1) js) c.loop-index.couplers ∙ couplers;
+      sums = (ap (λ ks. emptied sums ks) (sym more) ∙ c.loop-index.invariant.sums);
       kept = λ i there. c.loop-index.invariant.kept i (kept-emptied_one sums i j there);
     }
 

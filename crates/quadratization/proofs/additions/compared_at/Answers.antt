@@ -1,5 +1,5 @@
 use Rattle.quadratization.proofs.Common.{nat_tests, arith, get_or_past, get_or_from_slice_get}
-use Rattle.quadratization.proofs.SetKeys.{none_first}
+use Rattle.quadratization.proofs.SortedAdditions.{none_first}
 use Rattle.quadratization.proofs.additions.compared_at.Goals as goal
 
 pub returns-in-true-false : goal.returns-in-true-false

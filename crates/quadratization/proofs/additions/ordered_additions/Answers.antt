@@ -1,5 +1,5 @@
-use Rattle.quadratization.proofs.Common.{◌≡◌, ℕ, refl, ◌<◌, ◌≤◌, ◌^◌, List, length, true, leb, subst, rules, arith, All, is_lt, IsPermutation, always_returns_same, nat_tests, All-weaker, All-from_recursion, ranks_by, All-permutation, IsPermutation-map, Literal, Product, Term, Keyed, IsCoded, key_for, addition_at, additions_at}
-use Rattle.quadratization.proofs.SetKeys.{IsAddition, are_additions, sets_sorted, keyed_cmp, keyed_total}
+use Rattle.quadratization.proofs.Common.{◌≡◌, ◌<◌, List, length, subst, rules, All, is_lt, IsPermutation, always_returns_same, All-weaker, All-from_recursion, ranks_by, All-permutation, IsPermutation-map, Literal, Product, Term, Keyed, IsCoded, key_for, addition_at, additions_at}
+use Rattle.quadratization.proofs.SortedAdditions.{IsAddition, are_additions, sets_sorted, keyed_cmp, keyed_total}
 use Rattle.quadratization.proofs.additions.ordered_additions.Goals as goal
 
 pub with_keys-requires : goal.with_keys-requires

@@ -1,4 +1,4 @@
-use Rattle.quadratization.proofs.Common.{◌≡◌, ◌<◌, ◌^◌, [], get_or, pos, List, ap, sym, ◌∙◌, subst, arith, All, All-get_or, get_or_from_slice_get, slice_get-get_or, slice_get_within, Literal, Product, key_for, IsCoded}
+use Rattle.quadratization.proofs.Common.{List, ap, sym, ◌∙◌, subst, All, All-get_or, get_or_from_slice_get, slice_get_within, Literal, Product, key_for, IsCoded}
 use Rattle.quadratization.proofs.SortedAdditions.{keyed_more}
 use Rattle.quadratization.proofs.additions.with_keys.Goals as goal
 
@@ -14,10 +14,9 @@ key_for-key-requires c =
 
 pub loop-index-preserved : goal.loop-index-preserved
 loop-index-preserved c =
-    let ps = c.args.additions.now in
-    let i = c.loop-index.index in
-    let p = c.at.result in
-    let key = c.key_for-key.ensures ∙ ap (λ (q : Product). key_for c.args.length q.literals) c.key_for.view_is in
-    let all = keyed_more c.args.length ps i c.key_for-key.result p c.loop-index.order.items c.push.new.self.items c.at.ensures key c.in_ok-push.ensures.items
+    let key = c.key_for-key.ensures ∙ ap (λ (q : Product). key_for c.args.length q.literals)
+    c.key_for.view_is in
+    let all = keyed_more c.args.length _ _ c.key_for-key.result _ c.loop-index.order.items
+    c.push.new.self.items c.at.ensures key c.in_ok-push.ensures.items
     c.loop-index.invariant.within c.loop-index.invariant.keys c.loop-index.invariant.whole in
     record { within = all.0; keys = all.1; whole = all.2 }

@@ -1,5 +1,5 @@
 use Rattle.std.proofs.Common.{rules}
-use Rattle.quadratization.proofs.CountedBits.{bits-negative}
+use Rattle.quadratization.proofs.LongPlaces.{bits-negative}
 use Rattle.quadratization.proofs.bits.push_bits.Goals as goal
 
 pub returns-then-coefficient-lt0 : goal.returns-then-coefficient-lt0

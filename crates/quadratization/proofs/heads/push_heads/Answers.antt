@@ -1,5 +1,5 @@
 use Rattle.quadratization.proofs.Common.{nat_tests, arith, append-nil, drop_all}
-use Rattle.quadratization.proofs.KeptPlaces.{head_step}
+use Rattle.quadratization.proofs.SummedRows.{head_step}
 use Rattle.quadratization.proofs.heads.push_heads.Goals as goal
 
 pub loop-head-preserved : goal.loop-head-preserved

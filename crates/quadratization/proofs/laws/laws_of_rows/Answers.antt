@@ -1,4 +1,4 @@
-use Rattle.quadratization.proofs.RowSums.{places_make_rows, places_permute, rows_follow}
+use Rattle.quadratization.proofs.RowForms.{places_make_rows, places_permute, rows_follow}
 use Rattle.quadratization.proofs.laws.laws_of_rows.Goals as goal
 
 pub returns : goal.returns

@@ -1,5 +1,4 @@
-use Rattle.quadratization.proofs.AtOnce.{sums_give_image, image-quad, total-grows, size-grows}
-use Rattle.quadratization.proofs.AllParts.{sum_is_image, image_has_sums}
+use Rattle.quadratization.proofs.AtOnce.{sums_give_image, image-quad, total-grows, size-grows, sum_is_image, image_has_sums}
 use Rattle.quadratization.proofs.laws.laws_of_sums.Goals as goal
 
 pub returns : goal.returns

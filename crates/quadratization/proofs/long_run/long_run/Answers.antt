@@ -1,6 +1,5 @@
-use Rattle.quadratization.proofs.Common.{nat_tests, ◌≡◌, ◌∙◌, [], map, arith, subst, sym, ap, with_additions, IsTable, sums_of, summed_is, all_long, excess-size, additions_at, product_term, terms_of, table_of}
-use Rattle.quadratization.specs.laws.Between.{IsTable-table_of}
-use Rattle.quadratization.proofs.LongRuns.{count-size, excess-long, long-sums, run-of}
+use Rattle.quadratization.proofs.Common.{nat_tests, ◌≡◌, ◌∙◌, [], map, arith, subst, sym, ap, with_additions, IsTable, sums_of, summed_is, all_long, excess-size, additions_at, product_term, terms_of, table_of, IsTable-table_of}
+use Rattle.quadratization.proofs.HeldRuns.{count-size, excess-long, long-sums, run-of}
 use Rattle.quadratization.proofs.long_run.long_run.Goals.{In_ok-terms}
 use Rattle.quadratization.proofs.long_run.long_run.Goals as goal
 

@@ -4,10 +4,8 @@ use Rattle.quadratization.proofs.long_run.summed_terms.Given as goal
 -- the sums so far, and then those of what is left with the sum that waits
 abbrev pub invariant-loop-i : goal.invariant-loop-i
 invariant-loop-i l = record {
-  whole :
-      l.terms ++ sums_with l.sum (additions_at l.additions (drop l.i l.order))
+  whole : l.terms ++ sums_with l.sum (additions_at l.additions (drop l.i l.order))
       ≡ sums_of (additions_at l.additions l.order);
-  small :
-      unsigned_abs l.sum + terms_total (additions_at l.additions (drop l.i l.order)) ≤ 2 ^ 124;
+  small : unsigned_abs l.sum + terms_total (additions_at l.additions (drop l.i l.order)) ≤ 2 ^ 124;
   turns : l.turns ≡ excess l.terms;
 }

@@ -1,4 +1,4 @@
-use Rattle.quadratization.proofs.Common.{◌≡◌, ◌+◌, length, ap, sym, ◌∙◌, arith, rules, w128, to_z-of_z, Product, new_nodes, product_term}
+use Rattle.quadratization.proofs.Common.{ints, nat_tests, ◌≡◌, ◌+◌, arith, rules, w128, to_z-of_z, Product, new_nodes, product_term}
 use Rattle.quadratization.proofs.SortedAdditions.{numbers_more, count_more, count_within}
 use Rattle.quadratization.proofs.long_table.numbered.Goals as goal
 
@@ -6,11 +6,7 @@ use Rattle.quadratization.proofs.long_table.numbered.Goals as goal
 own : (c : goal.After-new_nodes) → c.new_nodes.result ≡ new_nodes (product_term c.at-product.result)
 own c =
     let p = c.at-product.result in
-    let literals : c.product.inside.literals ≡ p.literals = ap (λ (q : Product). q.literals) c.product.view_is in
-    let size : length p.literals ≡ c.len-in-loop-i.result = ap length (sym literals) ∙ sym c.len-in-loop-i.ensures in
-    let coefficient : c.product.inside.coefficient ≡ p.coefficient = ap (λ (q : Product). q.coefficient) c.product.view_is in
-    let back = to_z-of_z w128 c.product.inside.coefficient (search rules) in
-    c.new_nodes.ensures p.literals size ∙ ap (λ k. new_nodes (p.literals, k)) (back ∙ coefficient)
+    grind (arith, nat_tests, ints, Product, to_z-of_z, w128, new_nodes)
 
 pub overflow_cast-next-in-loop-i : goal.overflow_cast-next-in-loop-i
 overflow_cast-next-in-loop-i c =

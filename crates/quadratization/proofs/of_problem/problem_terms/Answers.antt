@@ -1,6 +1,5 @@
 use Rattle.quadratization.proofs.Common.{nat_tests, arith}
-use Rattle.quadratization.proofs.RoomForSums.{room-contributions}
-use Rattle.quadratization.proofs.ProblemTerms.{few-pairs, room-of}
+use Rattle.quadratization.proofs.ProblemTerms.{room-contributions, few-pairs, room-of}
 use Rattle.quadratization.proofs.of_problem.problem_terms.Goals as goal
 
 pub add_contributions-requires-clause-room : goal.add_contributions-requires-clause-room

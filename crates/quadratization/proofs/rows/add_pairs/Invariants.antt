@@ -4,8 +4,7 @@ use Rattle.quadratization.proofs.rows.add_pairs.Given as goal
 -- the pairs that are left make the sums those of all, stay small, and have all later rows
 abbrev pub invariant-loop-i : goal.invariant-loop-i
 invariant-loop-i l = record {
-  whole :
-      with_entries l.sums (row_of l.variable (drop l.i l.pairs))
+  whole : with_entries l.sums (row_of l.variable (drop l.i l.pairs))
       ≡ with_entries l.initial.sums (row_of l.variable (drop l.start l.pairs));
   width : length l.sums ≡ length l.initial.sums;
   small : size_of l.sums + weight_total (row_of l.variable (drop l.i l.pairs)) ≤ 2 ^ 126;

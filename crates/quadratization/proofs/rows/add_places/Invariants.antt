@@ -8,12 +8,10 @@ invariant-loop-index l = record {
       with_entries l.sums (flat_map pair_part (places_at l.long l.variable (drop l.index-index l.indices)))
       ≡ with_entries l.initial.sums (flat_map pair_part (places_at l.long l.variable l.indices));
   width : length l.sums ≡ l.long.width;
-  small :
-      size_of l.sums
+  small : size_of l.sums
       + weight_total (flat_map pair_part (places_at l.long l.variable (drop l.index-index l.indices)))
       ≤ 2 ^ 126;
-  heads :
-      l.heads.items ++ map head_of (places_at l.long l.variable (drop l.index-index l.indices))
+  heads : l.heads.items ++ map head_of (places_at l.long l.variable (drop l.index-index l.indices))
       ≡ map head_of (places_at l.long l.variable l.indices);
   kept : All IsHead l.heads.items;
 }

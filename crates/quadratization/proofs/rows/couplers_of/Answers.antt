@@ -1,17 +1,22 @@
 use Rattle.quadratization.proofs.Common.{◌≡◌, ◌≤◌, ◌^◌, ◌++◌, [], List, length, ap, arith, All, flat_map, All-permutation, nil_from_length, All-weaker, recursion_from_All, IfOk-weaker, Entry, Term, IsPair, AreSummed, place_couplers, all_places, AreRows, node_count}
 use Rattle.quadratization.proofs.LongPlaces.{enough_nodes}
 use Rattle.quadratization.proofs.HeldSums.{rows-permuted, total-permuted}
-use Rattle.quadratization.proofs.PairRows.{from_numbers, rows-summed}
+use Rattle.quadratization.proofs.RowForms.{from_numbers, rows-summed}
 use Rattle.quadratization.proofs.rows.couplers_of.Goals as goal
 
 pub rows_of-requires-clause-ordered : goal.rows_of-requires-clause-ordered
 rows_of-requires-clause-ordered c =
-    let w = c.args.long.now.width in
-    let inside = All-permutation (IsPair w) _ _ c.in_ok-sorted.ensures.same c.requires.pairs in
+    let inside = All-permutation (IsPair _) _ _ c.in_ok-sorted.ensures.same c.requires.pairs in
     let pairs : All (IsPair (2 ^ 32)) c.in_ok-sorted.sorted =
-    All-weaker (IsPair w) (IsPair (2 ^ 32))
-    (λ (e : Entry) p. record { upward = p.upward; within = omega (arith, p.within, c.width.ensures.kept.narrow) })
-    c.in_ok-sorted.sorted inside in
+    All-weaker (IsPair _) (IsPair (2 ^ 32))
+    (λ (e : Entry) p. record {
+      upward = p.upward;
+      within = omega (
+        arith,
+        p.within,
+        c.width.ensures.kept.narrow,
+      );
+    }) c.in_ok-sorted.sorted inside in
     from_numbers c.in_ok-sorted.sorted pairs c.in_ok-sorted.ensures.ordered
 
 pub rows_of-requires-clause-pairs : goal.rows_of-requires-clause-pairs

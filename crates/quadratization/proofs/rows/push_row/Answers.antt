@@ -1,6 +1,5 @@
 use Rattle.quadratization.proofs.Common.{elements, nat_tests, ints, arith}
-use Rattle.quadratization.proofs.SummedRows.{length-with_entries}
-use Rattle.quadratization.proofs.KeptPlaces.{heads_part}
+use Rattle.quadratization.proofs.SummedRows.{length-with_entries, heads_part}
 use Rattle.quadratization.proofs.rows.push_row.Goals as goal
 
 pub returns-clause-row : goal.returns-clause-row

@@ -1,18 +1,12 @@
-use Rattle.quadratization.proofs.Common.{◌≡◌, ◌<◌, ◌+◌, ◌++◌, ℕ, List, ℤ, length, drop, replicate, pos, sym, ap, ◌∙◌, refl, subst, append_assoc, arith, All, flat_map, length-replicate, All-weaker, Entry, weight_total, IsPair, size_of, size-zeros, place_couplers, all_places, row_of, AreRows, places_of, node_count, places_at, IsOccurrence, with_entries, pair_part, node_part, AreSums}
-use Rattle.quadratization.proofs.OccurrenceLists.{own_list, lists_size}
+use Rattle.quadratization.proofs.Common.{nat_tests, ◌≡◌, ◌<◌, ◌+◌, ◌++◌, ℕ, List, ℤ, length, drop, replicate, pos, sym, ap, ◌∙◌, refl, subst, append_assoc, arith, All, flat_map, length-replicate, All-weaker, Entry, weight_total, IsPair, size_of, size-zeros, place_couplers, all_places, row_of, AreRows, places_of, node_count, places_at, IsOccurrence, with_entries, pair_part, node_part, AreSums}
+use Rattle.quadratization.proofs.LongPlaces.{own_list, lists_size}
 use Rattle.quadratization.proofs.SummedRows.{length-with_entries}
-use Rattle.quadratization.proofs.RowSums.{rows_follow}
-use Rattle.quadratization.proofs.RowForms.{row_is, kept_of}
-use Rattle.quadratization.proofs.RowRuns.{place_run, place_run-of, no_rows, row-total, places-total}
-use Rattle.quadratization.proofs.PairRows.{row-size}
+use Rattle.quadratization.proofs.RowForms.{rows_follow, row_is, kept_of, place_run, place_run-of, no_rows, row-total, places-total, row-size}
 use Rattle.quadratization.proofs.rows.push_rows.Goals as goal
 
 pub add_pairs-requires-clause-seconds : goal.add_pairs-requires-clause-seconds
 add_pairs-requires-clause-seconds c =
-    let w = c.args.long.now.width in
-    let size : length c.loop-variable.sums ≡ w = ap length c.loop-variable.invariant.zeros ∙ length-replicate w (pos 0) in
-    All-weaker (IsPair w) (λ (e : Entry). e.second < length c.loop-variable.sums)
-    (λ (e : Entry) h. omega (arith, h.within, size)) c.args.pairs.now c.requires.pairs
+    grind (arith, nat_tests, length-replicate, All-weaker, IsPair, Entry)
 
 pub add_pairs-requires-clause-small : goal.add_pairs-requires-clause-small
 add_pairs-requires-clause-small c =
@@ -29,9 +23,7 @@ at-own-requires c =
 
 pub push_row-requires-clause-width : goal.push_row-requires-clause-width
 push_row-requires-clause-width c =
-    let row = row_of c.loop-variable.variable (drop c.loop-variable.start c.args.pairs.now) in
-    ap length c.in_ok-start.ensures.sums ∙ length-with_entries c.loop-variable.sums row
-    ∙ ap length c.loop-variable.invariant.zeros ∙ length-replicate c.args.long.now.width (pos 0)
+    grind (arith, nat_tests, row_of, length-with_entries, length-replicate)
 
 pub push_row-requires-clause-indices : goal.push_row-requires-clause-indices
 push_row-requires-clause-indices c =
@@ -61,9 +53,8 @@ push_row-requires-clause-small c =
 pub loop-variable-init : goal.loop-variable-init
 loop-variable-init c =
     let t = c.args.long.now in
-    let all = c.args.pairs.now ++ flat_map place_couplers (all_places t.terms t.width) in
     record {
-      rows = subst (λ (es : List Entry). AreRows (node_count t) 0 all es) (sym c.requires.none) (no_rows (node_count t) all);
+      rows = rw c.requires.none (no_rows (node_count t) _);
       zeros = c.requires.zeros;
       pairs = c.requires.ordered;
       pair_runs = λ v le. refl;

@@ -4,8 +4,7 @@ use Rattle.quadratization.proofs.rows.push_rows.Given as goal
 -- the first rows stand, all sums are 0, and the pairs of all later variables are left
 abbrev pub invariant-loop-variable : goal.invariant-loop-variable
 invariant-loop-variable l = record {
-  rows :
-      AreRows (node_count l.long) l.variable
+  rows : AreRows (node_count l.long) l.variable
       (l.pairs ++ flat_map place_couplers (all_places l.long.terms l.long.width)) l.couplers;
   zeros : l.sums ≡ replicate l.long.width (pos 0);
   pairs : AreFromRow l.variable (drop l.start l.pairs);

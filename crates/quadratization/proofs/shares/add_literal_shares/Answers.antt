@@ -36,12 +36,11 @@ add_share-requires-clause-small c =
     let z : ℤ = to_z w128 (of_z w128 c.args.coefficient) in
     let f = literal_share c.args.negated z in
     let l : Literal = c.in-Some.literal in
-    let left = rest_more _ c.loop-literal.literal-iterator c.next.new.self c.next.result l c.in-Some.is c.next.ensures.steps in
+    let left = rest_more _ c.loop-literal.literal-iterator c.next.new.self c.next.result l
+    c.in-Some.is c.next.ensures.steps in
     let share : to_z w128 (of_z w128 c.literal_share-share.result) ≡ (f l).1 =
     to_z-of_z w128 c.literal_share-share.result (search rules) ∙ c.literal_share-share.ensures in
-    gaining-first c.args.weights.now c.loop-literal.weights (map f c.loop-literal.literal-iterator)
-    (map f c.next.new.self) (map f c.into_iter-literal-iterator.result) (f l) _ (ap (map f) left) share
-    c.loop-literal.invariant.gaining
+    gaining-first _ _ _ _ _ _ _ (ap (map f) left) share c.loop-literal.invariant.gaining
 
 pub returns : goal.returns
 returns c = grind (arith, nat_tests, ints, to_z-of_z, rest_all, gain-none)

@@ -12,14 +12,12 @@ add_share-requires-clause-small c =
     let back : z ≡ c.args.coefficient = to_z-of_z w128 c.args.coefficient (search rules) in
     let share : to_z w128 (of_z w128 c.node_share-share.result) ≡ (node_share d e z n k).1 =
     to_z-of_z w128 c.node_share-share.result (search rules) ∙ c.node_share-share.ensures in
-    let fits = ap (λ w. shares_total (node_shares d e w n c.nodes_for-k-end.result)) back in
-    let counted = ap (λ m. shares_total (node_shares d e c.args.coefficient n m)) c.nodes_for-k-end.ensures in
     omega (
       arith,
       ap unsigned_abs share,
       fewer_nodes d e z n k c.nodes_for-k-end.result (omega (arith, c.loop-k-test.true)),
-      fits,
-      counted,
+      ap (λ w. shares_total (node_shares d e w n c.nodes_for-k-end.result)) back,
+      ap (λ m. shares_total (node_shares d e c.args.coefficient n m)) c.nodes_for-k-end.ensures,
       c.loop-k.invariant.small,
       c.requires.small,
     )
@@ -33,5 +31,4 @@ loop-k-preserved c =
     let z : ℤ = to_z w128 (of_z w128 c.args.coefficient) in
     let share : to_z w128 (of_z w128 c.node_share-share.result) ≡ (node_share d e z n k).1 =
     to_z-of_z w128 c.node_share-share.result (search rules) ∙ c.node_share-share.ensures in
-    gain-node d e z n k c.args.weights.now c.loop-k.weights c.add_share.new.weights _ share c.loop-k.invariant
-    c.add_share.ensures
+    gain-node _ _ _ _ _ _ _ _ _ share c.loop-k.invariant c.add_share.ensures

@@ -14,6 +14,5 @@ returns c =
     c.args.weights.now c.add_node_shares.new.weights in
     let d = c.len-degree.result in
     let both : G z d =
-    gain-both (map (literal_share e z) ls) (node_shares d e z n (nodes_for d)) _ _ c.args.weights.now
-    c.add_literal_shares.new.weights c.add_node_shares.new.weights c.add_literal_shares.ensures c.add_node_shares.ensures in
+    gain-both _ _ _ _ _ _ _ c.add_literal_shares.ensures c.add_node_shares.ensures in
     subst (λ w. G w (length ls)) back (subst (λ k. G z k) c.len-degree.ensures both)

@@ -1,7 +1,6 @@
 use Rattle.quadratization.proofs.Common.{elements, nat_tests, rules, ◌≡◌, ◌+◌, ◌∙◌, ap, refl, subst, sym, arith, take, ◌+ℤ◌, to_z, of_z, unsigned_abs, w128, to_z-of_z, take_all, get_or_from_slice_get, total_by, Term, Gain, complements, term_shares, long_constant, shares_total}
 use Rattle.quadratization.proofs.LongPlaces.{nodes_below}
-use Rattle.quadratization.proofs.GainedShares.{gain-none, long-fits, shares-fit, constant-term, constant-fits, coefficient-fits, set-fits, gain-term}
-use Rattle.quadratization.proofs.PartSizes.{complements-le}
+use Rattle.quadratization.proofs.GainedShares.{gain-none, long-fits, shares-fit, constant-term, constant-fits, coefficient-fits, set-fits, gain-term, complements-le}
 use Rattle.quadratization.proofs.shares.add_shares.Goals.{After-at-term, After-long_constant-constant}
 use Rattle.quadratization.proofs.shares.add_shares.Goals as goal
 
@@ -12,10 +11,9 @@ here c = (c.at-term.result.literals, c.at-term.result.coefficient)
 -- it is read twice
 read_again : (c : After-at-term) → (c.at.result.literals, c.at.result.coefficient) ≡ here c
 read_again c =
-    let ts = c.args.long.now.terms in
     let first : Term = (c.at.result.literals, c.at.result.coefficient) in
-    sym (get_or_from_slice_get ts c.loop-i.i first (here c) c.at.ensures.term)
-    ∙ get_or_from_slice_get ts c.loop-i.i (here c) (here c) c.at-term.ensures.term
+    sym (get_or_from_slice_get _ c.loop-i.i first (here c) c.at.ensures.term)
+    ∙ get_or_from_slice_get _ c.loop-i.i (here c) (here c) c.at-term.ensures.term
 
 -- with its part of the constant, the constant is that of the terms up to it
 constant_more : (c : After-long_constant-constant)
@@ -84,7 +82,6 @@ loop-i-preserved c =
     let term = c.at-term.ensures in
     let old = c.loop-i.weights in
     let new = c.add_term_shares.new.weights in
-    let fits = constant-fits t i (here at) term.kept term.term in
     record {
       gain =
           gain-term t i (here at) term.kept term.term c.args.weights.now old new c.loop-i.invariant.gain
@@ -93,7 +90,7 @@ loop-i-preserved c =
       constant =
           ap (λ w. to_z w128 (of_z w128 w)) (constant_more c)
           ∙ to_z-of_z w128 (total_by long_constant (take (i + 1) t.terms))
-          (search (rules, fits, c.requires.small));
+          (search (rules, constant-fits t i (here at) term.kept term.term, c.requires.small));
     }
 
 pub loop-i-init : goal.loop-i-init

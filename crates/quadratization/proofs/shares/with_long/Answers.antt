@@ -1,5 +1,5 @@
 use Rattle.quadratization.proofs.Common.{nat_tests, ints, ◌∙◌, arith, rules, w128, to_z-of_z, length-widened, size-widened}
-use Rattle.quadratization.proofs.OccurrenceLists.{changed}
+use Rattle.quadratization.proofs.LongPlaces.{changed}
 use Rattle.quadratization.proofs.shares.with_long.Goals as goal
 
 pub add_shares-constant-requires-clause-nodes : goal.add_shares-constant-requires-clause-nodes

@@ -1,7 +1,6 @@
 use Rattle.quadratization.proofs.Common.{nat_tests, length, ◌<◌, ℕ, All-get_or, same_set, Keyed, key_for, addition_at, ◌≡◌, true, false, ◌+◌, ◌∷◌, ◌≤◌, ◌^◌, pos, ◌+ℤ◌, unsigned_abs, to_z, of_z, sym, ap, ◌∙◌, arith, w128, ints, to_z-of_z, terms_total, sums_with}
-use Rattle.quadratization.proofs.Neighbours as sums
-use Rattle.quadratization.proofs.Neighbours.{left, term_at}
-use Rattle.quadratization.proofs.SortedAdditions.{IsOther}
+use Rattle.quadratization.proofs.SortedAdditions as sums
+use Rattle.quadratization.proofs.SortedAdditions.{left, term_at, IsOther}
 use Rattle.quadratization.proofs.sums.next_sum.Goals as goal
 use Rattle.quadratization.proofs.sums.next_sum.Goals.{After-sum, else-place-order-via-then-place-order+else-are_alike, else-place-order-via-else-place-order}
 
@@ -25,10 +24,9 @@ overflow_add-sum c = omega (arith, ints, added (goal.at.overflow_add-sum c).Afte
 pub are_alike-requires : goal.are_alike-requires
 are_alike-requires c =
     λ e.
-    let ps = c.args.additions.now in
     let n = c.requires.keys.literals in
     let none : Keyed = record { key = 0; index = 0 } in
-    let K : Keyed → Type 0 = λ k. k.key ≡ key_for n (addition_at ps k.index).0 in
+    let K : Keyed → Type 0 = λ k. k.key ≡ key_for n (addition_at c.args.additions.now k.index).0 in
     let key = λ (i : ℕ) (in' : i < length c.args.order.now). All-get_or K c.args.order.now i none in' c.requires.keys.keys in
     key c.args.place c.requires.within ∙ ap (key_for n) (same_set _ _ e)
     ∙ sym (key (c.args.place + 1) (grind (arith, nat_tests)))
@@ -73,8 +71,7 @@ returns-else-whole-eq0-clause-sums c =
     let value = ap (λ z. to_z w128 (of_z w128 z)) once
     ∙ to_z-of_z w128 (sum +ℤ t.1) (omega (arith, ints, now)) in
     let rest = left c.args.additions.now c.args.order.now (c.args.place + 1) in
-    let other : IsOther t rest
-    = elim c.else-place-order.branch [
+    let other : IsOther t rest = elim c.else-place-order.branch [
       | else-place-order-via-then-place-order+else-are_alike w ↦
           sums.other_next _ _ _ c.requires.within w.if-place-order.true
           (λ z. let both : true ≡ false = sym (w.are_alike.ensures.1 z) ∙ w.if-are_alike.false in cc)

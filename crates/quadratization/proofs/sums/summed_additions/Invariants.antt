@@ -5,9 +5,7 @@ use Rattle.quadratization.proofs.sums.summed_additions.Given as goal
 abbrev pub invariant-loop-i : goal.invariant-loop-i
 invariant-loop-i l = record {
   whole :
-      map product_term l.products
-      ++ sums_with l.sum (additions_at l.additions (drop l.i l.order))
+      map product_term l.products ++ sums_with l.sum (additions_at l.additions (drop l.i l.order))
       ≡ sums_of (additions_at l.additions l.order);
-  small :
-      unsigned_abs l.sum + terms_total (additions_at l.additions (drop l.i l.order)) ≤ 2 ^ 124;
+  small : unsigned_abs l.sum + terms_total (additions_at l.additions (drop l.i l.order)) ≤ 2 ^ 124;
 }

@@ -1,5 +1,5 @@
 use Rattle.rosenberg_layer.proofs.Common.{◌≡◌, ◌++◌, ◌∷◌, [], ◌-◌, ◌<◌, length, arith, ap, sym, ◌∙◌, subst, All, append-nil, chain}
-use Rattle.rosenberg_layer.proofs.Chains.{chain_appended, chain_first, chain_rest}
+use Rattle.rosenberg_layer.proofs.Chains.{chain_appended, chain_rest}
 use Rattle.rosenberg_layer.proofs.buckets.append_list.Goals as goal
 
 pub loop-done-init : goal.loop-done-init
@@ -11,11 +11,6 @@ loop-done-init c =
       within =
           subst (λ k. All (λ t. t < length nexts) (chain nexts k c.args.head.first)) (sym all) c.requires;
     }
-
-pub bounds-nexts-term : goal.bounds-nexts-term
-bounds-nexts-term c =
-    chain_first c.args.nexts.now c.args.head.count c.loop-done._done c.loop-done.term
-    c.loop-done-test.true c.loop-done.invariant.within
 
 pub loop-done-preserved : goal.loop-done-preserved
 loop-done-preserved c =

@@ -1,4 +1,4 @@
-use Rattle.rosenberg_layer.proofs.Common.{◌≡◌, ℕ, ◌+◌, ◌++◌, [], arith, sym, ap, ◌∙◌, subst, length, true, All, filter, All-from_recursion, Term, TableContent, KeptTable, front_pair, is_long, next_before, pairs_of, run, after_turn, long_part}
+use Rattle.rosenberg_layer.proofs.Common.{◌≡◌, ℕ, ◌+◌, ◌++◌, [], arith, sym, ap, ◌∙◌, subst, length, true, All, filter, All-from_recursion, Term, TableContent, KeptTable, front_pair, is_long, next_before, run, after_turn, long_part}
 use Rattle.rosenberg_layer.proofs.LongParts.{long-turn}
 use Rattle.rosenberg_layer.proofs.Parts.{filter-yes}
 use Rattle.rosenberg_layer.proofs.Turns.{pairs-next, run-next, width-grows, width-pairs}
@@ -14,7 +14,7 @@ next_long k t u e =
 
 pub loop-done-init : goal.loop-done-init
 loop-done-init c = record {
-  long = ap (λ (u : KeptTable). u.content) c.in_ok-long.ensures.long;
+  long = ap (λ (u : KeptTable). u.content) c.in_ok-long.ensures;
   pairs = c.new-pairs.ensures.items;
 }
 
@@ -59,8 +59,3 @@ loop-done-preserved c =
           ∙ (λ i. old.pairs i ++ next_before (front_pair (old.long i).terms) [])
           ∙ sym (pairs-next k t);
     }
-
-pub returns : goal.returns
-returns c =
-    let done : c.loop-done._done ≡ c.args.turns = let past = c.loop-done-test.false in omega (arith, past) in
-    c.loop-done.invariant.pairs ∙ ap (λ k. pairs_of k c.args.table.now.content) done

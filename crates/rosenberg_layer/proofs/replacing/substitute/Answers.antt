@@ -216,6 +216,3 @@ returns-clause-step c = λ pair is.
     c.loop-term.weight) same
     (under_end start w0.buckets.lists w.buckets.lists w0.cursor key n rest (keys_left w) low now
     c.loop-term.low.items c.loop-term.weight all c.requires.wait.narrow under wait beyond)
-
-pub returns-clause-count : goal.returns-clause-count
-returns-clause-count c = c.loop-term.invariant.under.count

@@ -10,9 +10,6 @@ is_bad : {T E : Type 0} (r : Result T E) (b : Bool) → b ≡ is_err r → b ≡
 is_bad (Ok x) b test says = absurd cc
 is_bad (Err e) b test says = refl
 
-pub code_of-requires : goal.code_of-requires
-code_of-requires c = c.requires c.loop-literal.literal-index _ c.loop-literal-test.true
-
 pub returns-then-is_err-clause-unchanged : goal.returns-then-is_err-clause-unchanged
 returns-then-is_err-clause-unchanged c =
     let before = c.args.codes.now.items in

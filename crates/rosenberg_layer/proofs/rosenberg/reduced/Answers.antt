@@ -3,9 +3,6 @@ use Rattle.rosenberg_layer.proofs.Turns.{excess-size, width-pairs}
 use Rattle.rosenberg_layer.proofs.Finish.{width-le, made-image, adds-fit}
 use Rattle.rosenberg_layer.proofs.rosenberg.reduced.Goals as goal
 
-pub run_of-requires-clause-turns : goal.run_of-requires-clause-turns
-run_of-requires-clause-turns c = omega (arith, c.excess.ensures)
-
 pub gathered-requires-clause-narrow : goal.gathered-requires-clause-narrow
 gathered-requires-clause-narrow c =
     let t = c.args.table.now.content in

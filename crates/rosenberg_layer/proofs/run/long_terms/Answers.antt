@@ -1,5 +1,6 @@
-use Rattle.rosenberg_layer.proofs.Common.{arith, rules, sym, w128, to_z-of_z, rest_more, All-head, All-rest, All-same, Term, IsTermSet}
-use Rattle.rosenberg_layer.proofs.LongRuns.{long_added, set_narrow}
+use Rattle.rosenberg_layer.proofs.Common.{arith, rules, sym, w128, to_z-of_z, rest_more, All-head, All-rest, All-same, Term, IsTermSet, is_long}
+use Rattle.rosenberg_layer.proofs.LongRuns.{set_narrow}
+use Rattle.rosenberg_layer.proofs.LongParts.{passed_more}
 use Rattle.rosenberg_layer.proofs.run.long_terms.Goals as goal
 
 pub add_long-requires-clause-short : goal.add_long-requires-clause-short
@@ -29,7 +30,7 @@ loop-literals-preserved c =
     let back = to_z-of_z w128 c.in-Some.coefficient (search rules) in
     let added = rw back at c.in_ok-add_long.ensures in
     record {
-      whole = long_added c.loop-literals.long c.add_long.new.long t _ _ _ left added c.loop-literals.invariant.whole;
+      whole = passed_more is_long c.loop-literals.long c.add_long.new.long t _ _ _ left added c.loop-literals.invariant.whole;
       sets =
           All-rest (λ (u : Term). IsTermSet c.args.table.now.content.width u.0) _ _ _ left
           c.loop-literals.invariant.sets;

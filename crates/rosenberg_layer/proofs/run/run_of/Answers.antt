@@ -1,5 +1,5 @@
-use Rattle.std.proofs.Common.{arith}
-use Rattle.rosenberg_layer.proofs.LongRuns.{all_long, fewer, if_ok_weaker, nodes-narrow, table_long, terms-narrow}
+use Rattle.rosenberg_layer.proofs.Common.{arith, IfOk-weaker}
+use Rattle.rosenberg_layer.proofs.LongRuns.{all_long, fewer, nodes-narrow, table_long, terms-narrow}
 use Rattle.rosenberg_layer.proofs.run.run_of.Goals as goal
 
 pub run_of_long-requires-clause-table : goal.run_of_long-requires-clause-table
@@ -22,6 +22,6 @@ run_of_long-requires-clause-narrow c =
 
 pub returns-clause-few : goal.returns-clause-few
 returns-clause-few c =
-    if_ok_weaker _ _
+    IfOk-weaker c.run_of_long.result _ _
     (λ made few. fewer c.args.table.now.content.terms c.in_ok-long.long _ c.in_ok-long.ensures.long few)
-    c.run_of_long.result c.run_of_long.ensures.few
+    c.run_of_long.ensures.few

@@ -1,36 +1,9 @@
-use Rattle.rosenberg_layer.proofs.Common.{IsPair, ◌∷◌, ◌≡◌, ◌+◌, ◌<◌, ◌∙◌, [], List, inl, inr, rules, arith, refl, ap, sym, subst, length, length-append, Some, filter, AllByRecursion, cases_lt, drop_all, Term, IsTermSet, is_long, node, Pair, Waiting, IsStep, first_pair, keys_left, AreWaiting}
+use Rattle.rosenberg_layer.proofs.Common.{IsPair, ◌∷◌, ◌≡◌, ◌+◌, ◌∙◌, [], rules, arith, refl, ap, sym, subst, length, length-append, Some, filter, AllByRecursion, Term, IsTermSet, is_long, node, IsStep, first_pair, keys_left, AreWaiting}
 use Rattle.rosenberg_layer.proofs.PartlyTerms.{first_none, none-long}
 use Rattle.rosenberg_layer.proofs.WaitingTerms.{wait_end}
-use Rattle.rosenberg_layer.proofs.Turns.{step-pair}
+use Rattle.rosenberg_layer.proofs.Bags.{step-pair}
 use Rattle.rosenberg_layer.proofs.run.turn.Goals.{In_ok-weight-in-Some}
 use Rattle.rosenberg_layer.proofs.run.turn.Goals as goal
-
--- where there is a pair, a key is left
-some_left : (ts : List Term) (w : Waiting) (pair : Pair) → first_pair ts (keys_left w) ≡ Some pair
-    → w.at < length w.keys.items
-some_left ts w pair is = elim (cases_lt w.at (length w.keys.items)) [
-  | inl inside ↦ inside
-  | inr after ↦
-      let none : first_pair ts (keys_left w) ≡ first_pair ts [] =
-      ap (first_pair ts) (drop_all w.at w.keys.items after) in
-      absurd cc
-]
-
-pub overflow_add-number : goal.overflow_add-number
-overflow_add-number c =
-    omega (arith, c.requires.narrow, c.len.ensures)
-
-pub substitute-requires-clause-wait : goal.substitute-requires-clause-wait
-substitute-requires-clause-wait c = c.in_ok-next_pair.ensures.wait
-
-pub substitute-requires-clause-some : goal.substitute-requires-clause-some
-substitute-requires-clause-some c =
-    some_left c.args.long.now c.next_pair.new.self c.in-Some.pair
-    (sym c.in_ok-next_pair.ensures.pair ∙ c.in-Some.is)
-
-pub substitute-requires-clause-lists : goal.substitute-requires-clause-lists
-substitute-requires-clause-lists c =
-    omega (arith, c.in_ok-next_pair.ensures.lists, c.requires.lists, c.len.ensures)
 
 -- the pair is of two variables below the new node
 pair_within : (c : In_ok-weight-in-Some) → IsPair (c.args.width + length c.args.made.now.pairs) c.in-Some.pair
@@ -49,10 +22,6 @@ push-requires-clause-second c =
     let pair = pair_within (goal.at.push-requires-clause-second c).In_ok-weight-in-Some in
     omega (arith, pair.within, c.requires.narrow)
 
-pub substitute-requires-clause-narrow : goal.substitute-requires-clause-narrow
-substitute-requires-clause-narrow c =
-    omega (arith, c.requires.narrow, c.len.ensures)
-
 pub substitute-requires-clause-sets : goal.substitute-requires-clause-sets
 substitute-requires-clause-sets c =
     let number : c.args.width + length c.args.made.now.pairs ≡ c.args.width + c.len.result =
@@ -60,24 +29,12 @@ substitute-requires-clause-sets c =
     subst (λ n. AllByRecursion (λ (t : Term). IsTermSet n t.0) (filter is_long c.args.long.now)) number
     c.requires.sets
 
-pub returns-in-None-clause-wait : goal.returns-in-None-clause-wait
-returns-in-None-clause-wait c = c.in_ok-next_pair.ensures.wait
-
-pub returns-in-None-clause-lists : goal.returns-in-None-clause-lists
-returns-in-None-clause-lists c = c.in_ok-next_pair.ensures.lists ∙ c.requires.lists
-
-pub returns-in_ok-push-in-Some-2-clause-wait : goal.returns-in_ok-push-in-Some-2-clause-wait
-returns-in_ok-push-in-Some-2-clause-wait c = c.in_ok-weight-in-Some.ensures.wait
-
 pub returns-in_ok-push-in-Some-2-clause-lists : goal.returns-in_ok-push-in-Some-2-clause-lists
 returns-in_ok-push-in-Some-2-clause-lists c =
     let pairs = c.args.made.now.pairs in
     let more = length-append pairs (c.in-Some.pair ∷ []) in
     let lists = c.in_ok-weight-in-Some.ensures.lists in
     omega (arith, lists, c.len.ensures, ap length c.in_ok-push-in-Some.ensures, more)
-
-pub returns-in_ok-push-in-Some-2-clause-few : goal.returns-in_ok-push-in-Some-2-clause-few
-returns-in_ok-push-in-Some-2-clause-few c = c.in_ok-weight-in-Some.ensures.count
 
 pub returns-in-None-clause-turn : goal.returns-in-None-clause-turn
 returns-in-None-clause-turn c =

@@ -1,9 +1,9 @@
 use Rattle.rosenberg_layer.proofs.Common.{◌≡◌, ◌+◌, ◌*◌, ◌<◌, ◌++◌, arith, refl, sym, ap, ◌∙◌, subst, length, true, filter, AllByRecursion, All-from_recursion, recursion_from_All, Term, IsTermSet, TableContent, OfSet, is_long, pairs_of, run, is_short, code_at, ties_of, weights, AreParts}
 use Rattle.rosenberg_layer.proofs.Bags.{held-small}
 use Rattle.rosenberg_layer.proofs.Parts.{filter-yes}
-use Rattle.rosenberg_layer.proofs.LongRuns.{alone, run_begins, run_width, turn_made}
+use Rattle.rosenberg_layer.proofs.LongRuns.{alone, turn_made}
 use Rattle.rosenberg_layer.proofs.PartlyTerms.{codes_within}
-use Rattle.rosenberg_layer.proofs.Turns.{turn-few, turn-run}
+use Rattle.rosenberg_layer.proofs.Turns.{run-start, run-width, turn-few, turn-run}
 use Rattle.rosenberg_layer.proofs.run.turns_of.Goals as goal
 
 pub new-requires-clause-lists : goal.new-requires-clause-lists
@@ -17,10 +17,10 @@ new-requires-clause-lists c =
 pub loop-done-init : goal.loop-done-init
 loop-done-init c =
     let ts = c.args.long.now in
-    let own = alone c.args.width ts c.requires.long in
+    let own = alone ts c.requires.long in
     record {
       runs = λ t table width e.
-          run_begins t c.args.width (filter is_long ts) _ _ _ table (own ∙ sym e) c.new-2.ensures.items
+          run-start t c.args.width _ (filter is_long ts) _ _ table (own ∙ sym e) c.new-2.ensures.items
           c.empty.ensures c.new-3.ensures.items;
       wait = c.in_ok-waiting.ensures.wait;
       lists =
@@ -31,29 +31,17 @@ loop-done-init c =
       made = omega (arith, ap length c.empty.ensures);
     }
 
-pub turn-requires-clause-narrow : goal.turn-requires-clause-narrow
-turn-requires-clause-narrow c =
-    omega (arith, c.loop-done.invariant.made, c.loop-done-test.true, c.requires.narrow)
-
-pub turn-requires-clause-few : goal.turn-requires-clause-few
-turn-requires-clause-few c =
-    omega (arith, c.loop-done.invariant.count, c.requires.few)
-
 pub turn-requires-clause-sets : goal.turn-requires-clause-sets
 turn-requires-clause-sets c =
     let t : TableContent = record { width = c.args.width; terms = c.args.long.now } in
-    let so_far =
-    c.loop-done.invariant.runs t c.requires.table refl
-    (alone c.args.width c.args.long.now c.requires.long) in
+    let so_far = c.loop-done.invariant.runs t c.requires.table refl (alone _ c.requires.long) in
     subst (λ n. AllByRecursion (OfSet (IsTermSet n)) (filter is_long c.loop-done.long))
-    (sym (run_width t c.loop-done._done c.args.width _ _ _ _ _ _ so_far refl)) so_far.held.sets
+    (sym (run-width t c.loop-done._done c.args.width _ _ _ _ so_far refl)) so_far.held.sets
 
 pub turn-requires-clause-small : goal.turn-requires-clause-small
 turn-requires-clause-small c =
     let t : TableContent = record { width = c.args.width; terms = c.args.long.now } in
-    let so_far =
-    c.loop-done.invariant.runs t c.requires.table refl
-    (alone c.args.width c.args.long.now c.requires.long) in
+    let so_far = c.loop-done.invariant.runs t c.requires.table refl (alone _ c.requires.long) in
     held-small (run c.loop-done._done t) _ (filter is_long c.loop-done.long) (weights t.terms)
     so_far.held
 
@@ -65,9 +53,8 @@ loop-done-preserved c =
     record {
       runs = λ t table width e.
           let so_far = old.runs t table width e in
-          turn-run t c.loop-done._done c.args.width n _ _ _ _ _ _ _ _ _ (weights t.terms) _ so_far
-          (filter-yes is_long c.loop-done.long)
-          (run_width t c.loop-done._done c.args.width _ _ _ _ _ _ so_far width) refl turn.turn;
+          turn-run t c.loop-done._done c.args.width _ _ _ _ _ _ _ _ _ so_far (filter-yes is_long c.loop-done.long)
+          width turn.turn;
       wait = turn.wait;
       lists = turn.lists;
       few = turn-few _ n _ _ _ _ _ _ _ _ _ old.few turn.turn;
@@ -98,7 +85,4 @@ pub returns-clause-each : goal.returns-clause-each
 returns-clause-each c =
     let t : TableContent = record { width = c.args.width; terms = c.args.long.now } in
     (c.loop-done.invariant.runs t c.requires.table refl
-    (alone c.args.width c.args.long.now c.requires.long)).each
-
-pub returns-clause-few : goal.returns-clause-few
-returns-clause-few c = let few = c.loop-done.invariant.few in omega (arith, few)
+    (alone _ c.requires.long)).each

@@ -1,5 +1,5 @@
 use Rattle.term_table.proofs.Runs.{coefficient_of-merged, few_runs}
-use Rattle.term_table.proofs.RunLaws.{entries_of_runs}
+use Rattle.term_table.proofs.SettlingRuns.{entries_of_runs}
 use Rattle.term_table.proofs.laws.laws_of_runs.Goals as goal
 
 pub returns-clause-merged : goal.returns-clause-merged

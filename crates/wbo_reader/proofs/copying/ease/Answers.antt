@@ -1,5 +1,4 @@
-use Rattle.wbo_reader.proofs.Common.{rules, ◌≡◌, ◌∷◌, [], ◌-ℤ◌, arith, false, int_le, to_z, of_z, w128, least_sum}
-use Rattle.wbo_reader.proofs.Copied.{eased_pushed}
+use Rattle.wbo_reader.proofs.Lemmas.{rules, ◌≡◌, ◌∷◌, [], ◌-ℤ◌, arith, false, int_le, to_z, of_z, w128, least_sum, eased_pushed}
 use Rattle.wbo_reader.proofs.Sound.{least_size}
 use Rattle.wbo_reader.proofs.copying.ease.Goals as goal
 

@@ -1,5 +1,4 @@
-use Rattle.wbo_reader.proofs.Common.{rules, ◌≡◌, ◌+◌, ◌+ℤ◌, ◌∙◌, ◌∷◌, ap, to_z, of_z, unsigned_abs, arith, w128, ints, sum_by-cons, size-plus, Product, products_total, least_part, least_sum}
-use Rattle.wbo_reader.proofs.Copied.{least_part-size, least_sum-cons}
+use Rattle.wbo_reader.proofs.Lemmas.{rules, ◌≡◌, ◌+◌, ◌+ℤ◌, ◌∙◌, ◌∷◌, ap, to_z, of_z, unsigned_abs, arith, w128, ints, sum_by-cons, size-plus, Product, products_total, least_part, least_sum, least_part-size, least_sum-cons}
 use Rattle.wbo_reader.proofs.copying.least_sum.Goals as goal
 
 pub loop-product-preserved : goal.loop-product-preserved

@@ -1,6 +1,5 @@
-use Rattle.wbo_reader.proofs.Common.{◌≡◌, ◌∷◌, [], subst, OnOk, Constraint, with_rows}
+use Rattle.wbo_reader.proofs.Lemmas.{◌≡◌, ◌∷◌, [], subst, OnOk, Constraint, with_rows, normal_itself}
 use Rattle.wbo_reader.proofs.Added.{row_normal, row_small, row_within}
-use Rattle.wbo_reader.proofs.Copied.{normal_itself}
 use Rattle.wbo_reader.proofs.copying.put.Goals as goal
 
 pub add_constraint-requires-clause-small : goal.add_constraint-requires-clause-small

@@ -1,6 +1,4 @@
-use Rattle.wbo_reader.proofs.Common.{rules, ◌≡◌, Some, arith, slice_get, paid_for}
-use Rattle.wbo_reader.proofs.Copied.{soft_within}
-use Rattle.wbo_reader.proofs.Paid.{paid_next, paid-le}
+use Rattle.wbo_reader.proofs.Lemmas.{rules, ◌≡◌, Some, arith, slice_get, paid_for, soft_within, paid_next, paid-le}
 use Rattle.wbo_reader.proofs.costs.paid.Goals as goal
 
 pub paid_for-requires : goal.paid_for-requires

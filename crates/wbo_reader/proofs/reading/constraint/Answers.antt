@@ -1,6 +1,4 @@
-use Rattle.wbo_reader.proofs.Common.{◌≡◌, ap, ◌∙◌, to_z, of_z, arith, rules, w128, to_z-of_z, err_from_is_err_and, constraint_total, literals_in, widened, compared, compared-total, WboContent, with_weighed}
-use Rattle.wbo_reader.proofs.Together.{with_constraint-total}
-use Rattle.wbo_reader.proofs.WeighedSteps.{front_fails, sum_fails, comparison_fails, weighed, weighed_is, added_is}
+use Rattle.wbo_reader.proofs.Lemmas.{◌≡◌, ap, ◌∙◌, to_z, of_z, arith, rules, w128, to_z-of_z, err_from_is_err_and, constraint_total, literals_in, widened, compared, compared-total, WboContent, with_weighed, with_constraint-total, front_fails, sum_fails, comparison_fails, weighed, weighed_is, added_is}
 use Rattle.wbo_reader.proofs.reading.constraint.Goals.{In_ok-add}
 use Rattle.wbo_reader.proofs.reading.constraint.Goals as goal
 

@@ -1,7 +1,5 @@
-use Rattle.wbo_reader.proofs.Common.{◌≡◌, ◌≤◌, ◌^◌, ℕ, List, Option, length, Result, Ok, sym, ap, subst, ◌∙◌, arith, err_from_is_err_and, TextFault, Word, words_of, ◌>>=◌, Fails, end_line, few_words, WboContent, wbo_total, content_of_words, head_at, nothing, constraints_read}
-use Rattle.wbo_reader.proofs.Together.{constraints_after, content_of_words-put}
+use Rattle.wbo_reader.proofs.Lemmas.{◌≡◌, ◌≤◌, ◌^◌, ℕ, List, Option, length, Result, Ok, sym, ap, subst, ◌∙◌, arith, err_from_is_err_and, TextFault, Word, words_of, ◌>>=◌, Fails, end_line, few_words, WboContent, wbo_total, content_of_words, head_at, nothing, constraints_read, constraints_after, content_of_words-put, head_fails}
 use Rattle.wbo_reader.proofs.Read.{read_is_wbo}
-use Rattle.wbo_reader.proofs.WeighedSteps.{head_fails}
 use Rattle.wbo_reader.proofs.reading.read_wbo_tokens.Goals as goal
 
 -- the source of words, by the values that the code has

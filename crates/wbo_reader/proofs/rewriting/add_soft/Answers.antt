@@ -1,6 +1,4 @@
-use Rattle.wbo_reader.proofs.Common.{rules, ◌≡◌, ◌-ℤ◌, pos, [], ◌∷◌, map, subst, sym, ap, arith, to_z, of_z, OnOk, w128, ints, IsSound, ProblemContent, negated, products_total, eased, eased_row, with_rows}
-use Rattle.wbo_reader.proofs.Sound.{negated_total}
-use Rattle.wbo_reader.proofs.Steps.{first_eased, both_eased}
+use Rattle.wbo_reader.proofs.Lemmas.{rules, ◌≡◌, ◌-ℤ◌, pos, [], ◌∷◌, map, subst, sym, ap, arith, to_z, of_z, OnOk, w128, ints, IsSound, ProblemContent, negated, products_total, eased, eased_row, with_rows, negated-total, first_eased, both_eased}
 use Rattle.wbo_reader.proofs.rewriting.add_soft.Goals.{After-negate}
 use Rattle.wbo_reader.proofs.rewriting.add_soft.Goals as goal
 
@@ -15,7 +13,7 @@ pub add_eased-requires-2-clause-small : goal.add_eased-requires-2-clause-small
 add_eased-requires-2-clause-small c =
     let products : c.negate.new.self ≡ map negated c.args.constraint.products = search rules in
     let bound : c.constraint.inside.bound ≡ c.args.constraint.bound = search rules in
-    omega (arith, ints, ap products_total products, negated_total, bound)
+    omega (arith, ints, ap products_total products, negated-total, bound)
 
 -- both rows of an equation are added
 both : (c : After-negate)

@@ -1,5 +1,4 @@
-use Rattle.wbo_reader.proofs.Common.{◌≡◌, rules, subst, sym, false, map, pos, ◌-ℤ◌, int_lt, to_z, of_z, List, w128, Constraint, IsSound, own_upper, negated, with_rows}
-use Rattle.wbo_reader.proofs.Steps.{top_needed}
+use Rattle.wbo_reader.proofs.Lemmas.{◌≡◌, rules, subst, sym, false, map, pos, ◌-ℤ◌, int_lt, to_z, of_z, List, w128, Constraint, IsSound, own_upper, negated, with_rows, top_needed}
 use Rattle.wbo_reader.proofs.rewriting.add_top.Goals as goal
 
 pub put-requires : goal.put-requires

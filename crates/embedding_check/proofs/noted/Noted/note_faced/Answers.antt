@@ -1,5 +1,5 @@
 use Rattle.embedding_check.proofs.Common.{◌≡◌, ℕ, refl, subst, ◌∙◌, arith, Option, IfSome, Span, AreNotedFrom}
-use Rattle.embedding_check.proofs.Runs.{span_done}
+use Rattle.embedding_check.proofs.Noting.{span_done}
 use Rattle.embedding_check.proofs.noted.Noted.note_faced.Goals as goal
 
 pub returns-then-is_same-clause-noted : goal.returns-then-is_same-clause-noted

@@ -1,6 +1,5 @@
 use Rattle.embedding_check.proofs.Common.{◌≡◌, ℕ, ◌<◌, ◌⊎◌, inl, inr, true, arith, CanBeJoined, IsSpanJoin, IsNumberJoin, IsQubitJoin}
-use Rattle.embedding_check.proofs.Noting.{notes_same, notes_both}
-use Rattle.embedding_check.proofs.Runs.{done_later}
+use Rattle.embedding_check.proofs.Noting.{notes_same, notes_both, done_later}
 use Rattle.embedding_check.proofs.noted.Noted.note_qubit.Goals as goal
 
 pub returns-clause-noted : goal.returns-clause-noted

@@ -1,6 +1,5 @@
 use Rattle.embedding_check.proofs.Common.{IsJoin, ◌≡◌, inr, refl, sym, subst, ◌∙◌, arith, IsBefore, ordered, IsRunJoin}
-use Rattle.embedding_check.proofs.LeastPairs.{before_trans}
-use Rattle.embedding_check.proofs.Runs.{notes_lesser, noted_before, ordered_after}
+use Rattle.embedding_check.proofs.Noting.{notes_lesser, noted_before, ordered_after, before_trans}
 use Rattle.embedding_check.proofs.noted.Noted.note_run.Goals as goal
 
 pub returns-then-joined-clause-noted : goal.returns-then-joined-clause-noted

@@ -1,7 +1,5 @@
-use Rattle.embedding_check.proofs.Common.{arith, IsSpanJoin, IsRunJoin}
-use Rattle.embedding_check.proofs.Noting.{notes_same}
-use Rattle.embedding_check.proofs.Taking.{not_both}
-use Rattle.embedding_check.proofs.Runs.{IsJoinBelow, span_more, done_more, done_all}
+use Rattle.embedding_check.proofs.Common.{arith, IsSpanJoin, IsRunJoin, clash}
+use Rattle.embedding_check.proofs.Noting.{notes_same, IsJoinBelow, span_more, done_more, done_all}
 use Rattle.embedding_check.proofs.noted.Noted.note_span.Goals as goal
 
 pub runs-preserved-then-all : goal.runs-preserved-then-all
@@ -25,7 +23,7 @@ runs-preserved g c =
       noted = span_more _ _ _ _ _ c.runs.b run.result.0 c.args.self.now c.runs.self
           run.new.self c.runs.invariant.from run.ensures.after (omega (arith, run.ensures.within))
           c.runs.invariant.noted run.ensures.noted;
-      done = λ yes. absurd (not_both _ yes c.if-all.false);
+      done = λ yes. absurd (clash _ yes c.if-all.false);
     }
 
 pub returns-clause-noted : goal.returns-clause-noted

@@ -1,6 +1,4 @@
-use Rattle.quad_form.proofs.Common.{◌≡◌, ◌+ℤ◌, ℤ, List, to_z, of_z, ap, ◌∙◌, arith, w128, ints, total_by, total_by-append, bits_energy, size-energy, weights-append, QuadContent, node_entries, quad_value}
-use Rattle.base.specs.declared.costs.Cost.TheVariants.{Whole}
-use Rattle.bits_model.specs.declared.output.Kind.TheVariants.{Qubo}
+use Rattle.quad_form.proofs.Common.{◌≡◌, ◌+ℤ◌, ℤ, List, to_z, of_z, ap, ◌∙◌, arith, w128, ints, total_by, total_by-append, bits_energy, size-energy, weights-append, QuadContent, node_entries, quad_value, Whole, Qubo}
 use Rattle.quad_form.proofs.energy.QuadCosted.cost.Goals as goal
 
 pub overflow_add-result : goal.overflow_add-result

@@ -1,5 +1,4 @@
-use Rattle.quad_form.proofs.Common.{◌≡◌, ◌≤◌, ◌^◌, ◌++◌, ℤ, List, length, subst, sym, ap, ◌∙◌, to_z, of_z, pos, neg_ℤ, ◌-ℤ◌, arith, rules, w128, ints, to_z-of_z, Written, IsWellFormed, weight_total, figures_moved, QuadContent, IsQuad, entries_of, node_entries, written_of}
-use Rattle.bits_model.specs.declared.output.Kind.TheVariants.{Qubo}
+use Rattle.quad_form.proofs.Common.{◌≡◌, ◌≤◌, ◌^◌, ◌++◌, ℤ, List, length, subst, sym, ap, ◌∙◌, to_z, of_z, pos, neg_ℤ, ◌-ℤ◌, arith, rules, w128, ints, to_z-of_z, Written, IsWellFormed, weight_total, figures_moved, QuadContent, IsQuad, entries_of, node_entries, written_of, Qubo}
 use Rattle.quad_form.proofs.NodeEntries.{all_upward}
 use Rattle.quad_form.proofs.WrittenModels.{written_is_well_formed}
 use Rattle.quad_form.proofs.quad.Quad.output.Goals as goal

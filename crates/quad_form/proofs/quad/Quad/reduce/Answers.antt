@@ -6,8 +6,7 @@ pub invariant_of-result : goal.invariant_of-result
 invariant_of-result c =
     subst IsQuad
     (sym (made_of_weights c.self.inside.constant _ _ _ _ c.counted_weights-counted.ensures.nodes
-    c.counted_weights-counted.ensures.couplers))
-    (reduced_is_quad _ c.self.invariant)
+    c.counted_weights-counted.ensures.couplers)) (reduced_is_quad _ c.self.invariant)
 
 pub returns-clause-target : goal.returns-clause-target
 returns-clause-target c = grind (arith, nat_tests, ints, made_of_weights)
@@ -19,9 +18,8 @@ pub returns-clause-reduces : goal.returns-clause-reduces
 returns-clause-reduces c =
     let less : to_z w128 (of_z w128 (pos 0 -ℤ to_z w128 (of_z w128 c.self.inside.constant)))
     ≡ neg_ℤ c.self.inside.constant = omega (arith, ints, c.self.invariant.small) in
-    let offset = less ∙ ap (λ (f : QuadContent). neg_ℤ f.constant) c.self.view_is in
     made_reduces _ bits_linear c.args.self _ _ _ (returns-clause-target c) (returns-clause-unit c)
-    offset
+    (less ∙ ap (λ (f : QuadContent). neg_ℤ f.constant) c.self.view_is)
 
 pub returns-clause-total : goal.returns-clause-total
 returns-clause-total c =

@@ -1,5 +1,5 @@
 use Rattle.quadratization.proofs.Common.{◌≡◌, ◌≢◌, ◌++◌, ◌<◌, ℕ, ℤ, pos, replicate, take, drop, List, length, get_or, All, sym, ap, ◌∙◌, subst, arith, Contains, IsNonDecreasingBy-from_sort, All-permutation, Contains-permutation, taken, emptied, Appends}
-use Rattle.quadratization.proofs.OccurrenceLists.{changed}
+use Rattle.quadratization.proofs.LongPlaces.{changed}
 use Rattle.quadratization.proofs.SummedRows.{AreSums-taken, Climbs, Climbs-from, emptied_is, touched_kept, touched_none}
 use Rattle.quadratization.proofs.accumulator.Accumulator.put_into.Goals as goal
 
@@ -35,9 +35,8 @@ left_is c =
 
 pub invariant_of-self-2 : goal.invariant_of-self-2
 invariant_of-self-2 c =
-    let is = left_is c in
     let narrow = touched_none (length c.self.inside.sums.items) c.self.invariant.narrow in
-    rw (c.clear.ensures.items, is) narrow
+    rw (c.clear.ensures.items, left_is c) narrow
 
 pub returns-clause-put : goal.returns-clause-put
 returns-clause-put c =

@@ -1,5 +1,5 @@
 use Rattle.quadratization.proofs.Common.{nat_tests, ints, rules, ◌≡◌, ap, arith, length, subst, sym, to_z, of_z, unsigned_abs, ℤ, w128, to_z-of_z, on_ok_weaker, IsTermSet, HeldContent}
-use Rattle.quadratization.proofs.HeldTerms.{either, fits-long, held-long}
+use Rattle.quadratization.proofs.HeldSums.{either, fits-long, held-long}
 use Rattle.quadratization.proofs.gathered.DirectTerms.add_long.Goals as goal
 
 pub invariant_of-self : goal.invariant_of-self

@@ -1,5 +1,5 @@
 use Rattle.quadratization.proofs.Common.{nat_tests, arith}
-use Rattle.quadratization.proofs.HeldTerms.{held-apart}
+use Rattle.quadratization.proofs.HeldSums.{held-apart}
 use Rattle.quadratization.proofs.gathered.DirectTerms.apart.Goals as goal
 
 pub returns-clause-short : goal.returns-clause-short

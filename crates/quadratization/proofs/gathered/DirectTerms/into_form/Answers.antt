@@ -1,7 +1,7 @@
-use Rattle.quadratization.proofs.Common.{to_z, of_z, rules, ap, ◌∙◌, ◌++◌, w128, to_z-of_z, extension, QuadContent, IsSumOf}
-use Rattle.quadratization.proofs.NewBits.{bits-long}
-use Rattle.quadratization.proofs.Guarded.{made_sums, nodes-held, sums-quad}
-use Rattle.quadratization.proofs.AllParts.{sum_is_image}
+use Rattle.quadratization.proofs.Common.{to_z, of_z, rules, ap, ◌∙◌, ◌++◌, w128, to_z-of_z, extension, IsSumOf, AreHeld, IsWithin, TableContent}
+use Rattle.quadratization.proofs.Apart.{bits-long}
+use Rattle.quadratization.proofs.HeldSums.{made_sums, nodes-held, sums-quad}
+use Rattle.quadratization.proofs.AtOnce.{sum_is_image}
 use Rattle.quadratization.proofs.gathered.DirectTerms.into_form.Goals as goal
 
 pub into_sums-requires : goal.into_sums-requires
@@ -9,24 +9,21 @@ into_sums-requires c =
     let held = c.requires.held in
     record { narrow = nodes-held held.0 c.args.self held.1 held.2 }
 
+-- the form has the sums of all parts
+sums : (c : goal.After-new) (t : TableContent) → IsWithin t → AreHeld t c.args.self
+    → IsSumOf t (record { constant = to_z w128 (of_z w128 c.in_ok-sums.sums.constant); diagonal = c.new.result; couplers = c.in_ok-sums.sums.couplers })
+sums c t within held =
+    made_sums t _ _ _ _ _ (to_z-of_z w128 c.in_ok-sums.sums.constant (search rules)) c.new.ensures
+    (c.in_ok-sums.ensures.sums t within.additions held)
+
 pub invariant_of-result : goal.invariant_of-result
 invariant_of-result c =
-    let t = c.requires.held.0 in
-    let one = c.in_ok-sums.sums in
-    let q : QuadContent = record { constant = to_z w128 (of_z w128 one.constant); diagonal = c.new.result; couplers = one.couplers } in
-    let sums : IsSumOf t q =
-    made_sums t one.constant _ one.weights.items _ one.couplers (to_z-of_z w128 one.constant (search rules)) c.new.ensures
-    (c.in_ok-sums.ensures.sums t c.requires.held.1.additions c.requires.held.2) in
-    sums-quad t q c.requires.held.1 sums
+    let within = c.requires.held.1 in
+    sums-quad _ _ within (sums c _ within c.requires.held.2)
 
 pub returns-clause-quad : goal.returns-clause-quad
 returns-clause-quad c t within held =
-    let one = c.in_ok-sums.sums in
-    let q : QuadContent = record { constant = to_z w128 (of_z w128 one.constant); diagonal = c.new.result; couplers = one.couplers } in
-    let sums : IsSumOf t q =
-    made_sums t one.constant _ one.weights.items _ one.couplers (to_z-of_z w128 one.constant (search rules)) c.new.ensures
-    (c.in_ok-sums.ensures.sums t within.additions held) in
-    sum_is_image t q within sums
+    sum_is_image t _ within (sums c t within held)
 
 pub returns-clause-new_nodes : goal.returns-clause-new_nodes
 returns-clause-new_nodes c t held x =

@@ -1,4 +1,4 @@
-use Rattle.quadratization.proofs.Common.{nat_tests, rules, ◌≡◌, ℕ, ℤ, ◌++◌, ap, ◌∙◌, sym, subst, length, List, ◌+ℤ◌, arith, w128, to_z-of_z, total_by, Entry, TableContent, AreAdditions, widened, table_of, terms_of, node_count, all_shares, long_constant, couplers_of_long, AreRows, AreHeld, Gains, held_of}
+use Rattle.quadratization.proofs.Common.{nat_tests, rules, ◌≡◌, ap, ◌∙◌, sym, subst, length, ◌+ℤ◌, arith, w128, to_z-of_z, total_by, TableContent, table_of, terms_of, long_constant, AreHeld, held_of}
 use Rattle.quadratization.proofs.HeldSums.{additions-held, couplers-fit, weights-fit, constants-fit, same_table, sum-of_held}
 use Rattle.quadratization.proofs.gathered.DirectTerms.into_sums.Goals.{In_ok-table}
 use Rattle.quadratization.proofs.gathered.DirectTerms.into_sums.Goals as goal
@@ -6,8 +6,7 @@ use Rattle.quadratization.proofs.gathered.DirectTerms.into_sums.Goals as goal
 pub of-requires-clause-additions : goal.of-requires-clause-additions
 of-requires-clause-additions c =
     let size : c.width.result ≡ length c.self.inside.sums.weights = search rules in
-    subst (λ (n : ℕ). AreAdditions (terms_of n c.self.inside.long)) (sym size)
-    (additions-held c.self.inside.sums c.self.inside.long c.self.invariant)
+    rw size (additions-held c.self.inside.sums c.self.inside.long c.self.invariant)
 
 -- the table is that of the longer additions held
 module _ (c : In_ok-table) where
@@ -36,21 +35,15 @@ sums_with-requires-clause-couplers c = grind (arith, nat_tests, couplers-fit)
 
 pub returns-clause-sums : goal.returns-clause-sums
 returns-clause-sums c t additions held =
-    let at = (goal.at.returns-clause-sums c).In_ok-table in
     let h = held_of c.self.inside.sums c.self.inside.long in
     let here = subst (AreHeld t) (sym c.self.view_is) held in
-    let u = c.in_ok-table.table in
+    let same = made (goal.at.returns-clause-sums c).In_ok-table ∙ same_table t h here in
     let parts = c.into_parts-constant.ensures in
-    let one = c.in_ok-sums.sums in
     let sums = c.in_ok-sums.ensures in
-    sum-of_held t h additions parts.fits.pairs here u _ one.weights.items one.couplers _ (made at ∙ same_table t h here)
-    (sums.constant
-    ∙ ap (λ z. z +ℤ total_by long_constant u.terms)
-    (to_z-of_z w128 c.into_parts-constant.result.0 (search rules) ∙ parts.constant))
-    (subst (λ (ws : List ℤ). Gains (all_shares u.terms u.width) (widened (node_count u) ws) one.weights.items)
-    parts.weights sums.weights)
-    (subst (λ (es : List Entry). AreRows (node_count u) u.width (es ++ couplers_of_long u.terms u.width) one.couplers)
-    parts.pairs sums.couplers)
+    let constant = to_z-of_z w128 c.into_parts-constant.result.0 (search rules) ∙ parts.constant in
+    sum-of_held t h additions parts.fits.pairs here _ _ _ _
+    (rw same at (sums.constant ∙ ap (λ z. z +ℤ total_by long_constant c.in_ok-table.table.terms) constant))
+    (rw (parts.weights, same) at sums.weights) (rw (parts.pairs, same) at sums.couplers)
 
 pub returns-clause-long : goal.returns-clause-long
 returns-clause-long c t held = grind (arith, nat_tests, same_table)

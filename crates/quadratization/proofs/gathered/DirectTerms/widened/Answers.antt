@@ -1,5 +1,5 @@
 use Rattle.quadratization.proofs.Common.{nat_tests, arith, subst, sym, short_part, AreHeld}
-use Rattle.quadratization.proofs.HeldTerms.{fits-wider, held-sums, sums-held}
+use Rattle.quadratization.proofs.HeldSums.{fits-wider, held-sums, sums-held}
 use Rattle.quadratization.proofs.gathered.DirectTerms.widened.Goals as goal
 
 pub invariant_of-result : goal.invariant_of-result

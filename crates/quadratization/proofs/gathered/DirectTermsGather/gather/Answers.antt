@@ -1,5 +1,5 @@
 use Rattle.quadratization.proofs.Common.{rules, w128, to_z-of_z}
-use Rattle.quadratization.proofs.RoomForSums.{place_set, place_small, places_if_ok}
+use Rattle.quadratization.proofs.ProblemTerms.{place_set, place_small, places_if_ok}
 use Rattle.quadratization.proofs.gathered.DirectTermsGather.gather.Goals as goal
 
 pub add-requires-clause-set : goal.add-requires-clause-set
@@ -14,5 +14,4 @@ add-requires-clause-small c =
 pub returns-clause-takes : goal.returns-clause-takes
 returns-clause-takes c more room =
     let back = to_z-of_z w128 c.args.coefficient (search rules) in
-    places_if_ok c.add.result c.args.self.now c.add.new.self c.args.literals.now _ c.args.coefficient more back room
-    c.add.ensures.width c.add.ensures.total
+    places_if_ok _ _ _ _ _ _ _ back room c.add.ensures.width c.add.ensures.total

@@ -1,5 +1,5 @@
 use Rattle.quadratization.proofs.Common.{rules, ◌∙◌, ◌++◌, ap, w128, to_z-of_z, new_bits}
-use Rattle.quadratization.proofs.CountedBits.{bits_at, long_at, short_at}
+use Rattle.quadratization.proofs.LongPlaces.{bits_at, long_at, short_at}
 use Rattle.quadratization.proofs.long_table.LongTable.extended.Goals as goal
 
 pub push_bits-requires-clause-long : goal.push_bits-requires-clause-long

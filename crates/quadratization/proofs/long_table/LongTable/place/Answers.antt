@@ -23,13 +23,18 @@ returns-clause-place c =
 
 pub returns-clause-kept : goal.returns-clause-kept
 returns-clause-kept c =
-    let t = c.args.self.now in
-    let ls = c.at-term.result.literals in
-    let k = c.at-term.result.coefficient in
-    let back = to_z-of_z w128 k (search rules) in
+    let back = to_z-of_z w128 _ (search rules) in
     let l = c.from_variable-later.result.0 in
     let later = c.from_variable-later.result.1 in
     let n = c.at-term.result.first_node in
-    subst (IsPlaceOf t c.args.variable)
-    (λ i. record { literal = l; later = later; degree = sym c.len-degree.ensures i; coefficient = sym back i; first_node = n })
-    (place_kept t c.args.index c.args.variable ls k l later n c.at-term.ensures.kept c.at-term.ensures.term c.from_variable-later.ensures c.at-term.ensures.node)
+    subst (IsPlaceOf _ c.args.variable)
+    (λ i. record {
+      literal = l;
+      later = later;
+      degree = sym c.len-degree.ensures i;
+      coefficient =
+          sym back i;
+      first_node = n;
+    })
+    (place_kept _ c.args.index c.args.variable _ _ l later n c.at-term.ensures.kept
+    c.at-term.ensures.term c.from_variable-later.ensures c.at-term.ensures.node)

@@ -1,4 +1,4 @@
-use Rattle.rosenberg_layer.proofs.Common.{◌≡◌, ◌++◌, ℕ, List, [], length, map, ap, ◌∙◌, subst, arith, length-set, IsNonDecreasingBy-from_sort, list_at, key_of, keys_left, AreWaiting}
+use Rattle.rosenberg_layer.proofs.Common.{◌≡◌, ◌++◌, ℕ, List, length, map, ap, ◌∙◌, subst, arith, IsNonDecreasingBy-from_sort, list_at, key_of, keys_left, AreWaiting}
 use Rattle.rosenberg_layer.proofs.WaitingTerms.{listed_within, wait_collected, wait_skipped}
 use Rattle.rosenberg_layer.proofs.waiting.Waiting.collect.Goals as goal
 
@@ -45,8 +45,3 @@ returns-then-is_empty-clause-wait c =
       narrow = wait.narrow;
       place = wait.place;
     }
-
-pub returns-clause-lists : goal.returns-clause-lists
-returns-clause-lists c =
-    ap length c.in_ok-take.ensures.lists
-    ∙ length-set c.args.self.now.buckets.lists c.args.self.now.cursor []

@@ -31,11 +31,6 @@ put-requires-clause-apart c =
     apart_start c.args.terms.now c.loop-term.term c.loop-term.buckets.lists 0 []
     c.loop-term.invariant.wait
 
-pub put-requires-clause-few : goal.put-requires-clause-few
-put-requires-clause-few c =
-    let below = c.loop-term-test.true in
-    omega (arith, c.loop-term.invariant.wait.few, below, c.len.ensures, c.requires.narrow)
-
 pub loop-term-preserved : goal.loop-term-preserved
 loop-term-preserved c =
     let ts = c.args.terms.now in

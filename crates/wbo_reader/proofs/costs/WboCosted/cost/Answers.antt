@@ -1,5 +1,4 @@
-use Rattle.wbo_reader.proofs.Common.{rules, ◌≡◌, false, arith, ap, ◌∙◌, list_any, ints, fails, WboContent, paid, reaches_top, wbo_cost}
-use Rattle.wbo_reader.proofs.Paid.{paid-le, cost_whole}
+use Rattle.wbo_reader.proofs.Lemmas.{rules, ◌≡◌, false, arith, ap, ◌∙◌, list_any, ints, fails, WboContent, paid, reaches_top, wbo_cost, paid-le, cost_whole}
 use Rattle.wbo_reader.proofs.costs.WboCosted.cost.Goals as goal
 
 pub overflow_cast-result : goal.overflow_cast-result

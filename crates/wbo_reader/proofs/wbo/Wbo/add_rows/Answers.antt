@@ -1,7 +1,4 @@
-use Rattle.wbo_reader.proofs.Common.{rules, ◌≡◌, ◌+◌, true, false, Some, drop, subst, sym, ap, ◌∙◌, arith, slice_get, Constraint, IsSound, constraint_total, Soft, eased_row, with_rows}
-use Rattle.wbo_reader.proofs.Copied.{soft_within}
-use Rattle.wbo_reader.proofs.Steps.{rows_left, hard_sound, soft_sound, hard_added, soft_added}
-use Rattle.wbo_reader.proofs.Whole.{first_left, soft_more, hard_more}
+use Rattle.wbo_reader.proofs.Lemmas.{rules, ◌≡◌, ◌+◌, true, false, Some, drop, subst, sym, ap, ◌∙◌, arith, slice_get, Constraint, IsSound, constraint_total, Soft, eased_row, with_rows, soft_within, rows_left, hard_sound, soft_sound, hard_added, soft_added, first_left, soft_more, hard_more}
 use Rattle.wbo_reader.proofs.wbo.Wbo.add_rows.Goals as goal
 use Rattle.wbo_reader.proofs.wbo.Wbo.add_rows.Goals.{then-is_soft+in_ok-add_soft, else-is_soft+in_ok-add_hard}
 

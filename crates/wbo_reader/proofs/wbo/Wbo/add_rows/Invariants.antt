@@ -1,5 +1,4 @@
-use Rattle.wbo_reader.proofs.Common.{◌≡◌, ◌+◌, drop, length, not, count_by, rows_of, with_rows}
-use Rattle.wbo_reader.proofs.Steps.{rows_left}
+use Rattle.wbo_reader.proofs.Lemmas.{◌≡◌, ◌+◌, drop, length, not, count_by, rows_of, with_rows, rows_left}
 use Rattle.wbo_reader.proofs.wbo.Wbo.add_rows.Given as goal
 
 -- the problem so far, with the rows that are left, has all rows; and the order that is left has as

@@ -1,5 +1,4 @@
-use Rattle.wbo_reader.proofs.Common.{rules, ◌≡◌, ◌∙◌, ◌++◌, ◌∷◌, [], arith, ap, sym, slice_get, constraint_total, fails, Soft, WboContent}
-use Rattle.wbo_reader.proofs.Copied.{soft_within, bits_more}
+use Rattle.wbo_reader.proofs.Lemmas.{rules, ◌≡◌, ◌∙◌, ◌++◌, ◌∷◌, [], arith, ap, sym, slice_get, constraint_total, fails, Soft, WboContent, soft_within, bits_more}
 use Rattle.wbo_reader.proofs.wbo.Wbo.extend.Goals as goal
 
 pub fails-bit-requires : goal.fails-bit-requires

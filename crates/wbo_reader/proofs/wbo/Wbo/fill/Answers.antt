@@ -1,5 +1,4 @@
-use Rattle.wbo_reader.proofs.Common.{rules, ◌≡◌, subst, sym, ap, ◌∙◌, OnOk, IsSound, ProblemContent, rewritten, top_row, with_rows}
-use Rattle.wbo_reader.proofs.Whole.{weighed_then, rowed_then, weights_are_sound, rows_are_sound, top_sound, with_top, without_top}
+use Rattle.wbo_reader.proofs.Lemmas.{rules, ◌≡◌, subst, sym, ap, ◌∙◌, OnOk, IsSound, ProblemContent, rewritten, top_row, with_rows, weighed_then, rowed_then, weights_are_sound, rows_are_sound, top_sound, with_top, without_top}
 use Rattle.wbo_reader.proofs.wbo.Wbo.fill.Goals as goal
 
 pub add_weights-requires-clause-sound : goal.add_weights-requires-clause-sound
