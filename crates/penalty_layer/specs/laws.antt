@@ -1,4 +1,5 @@
 -- Laws with their proofs, which the guard's members cite. Nothing here has to be believed.
+pub mod Common
 pub mod Violations
 pub mod SlackValues
 pub mod SquareCosts

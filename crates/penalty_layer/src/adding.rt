@@ -34,13 +34,13 @@ fn add_product<T: Gather>(
     } = product;
     if literals.len() == 1 {
         let Some(only) = literals.next() else {
-            return Ok(());
+            unreachable!();
         };
         return terms.gather(&[only], coefficient);
     }
     if literals.len() == 2 {
         let (Some(first), Some(second)) = (literals.next(), literals.next()) else {
-            return Ok(());
+            unreachable!();
         };
         return terms.gather(&[first, second], coefficient);
     }

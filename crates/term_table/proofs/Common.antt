@@ -1,5 +1,5 @@
 -- What the proofs of this crate stand on, of std and of the crates below.
-pub use Rattle.std.proofs.Common.{add-one, ◌≡◌, ℕ, ◌+◌, ◌≤◌, Bool, true, false, cond, arith, sym, ap, refl, List, [], ◌∷◌, ℤ, pos, ◌+ℤ◌, unsigned_abs, sum_by, ◌++◌, Result, Ok, Err, OnOk, subst, ◌∙◌, append_assoc, append-nil, ◌^◌, All, OnErr, ◌≢◌, ◌<◌, length, map, take, drop, get_or, zero, suc, ◌-◌, ◌⊎◌, inl, inr, ◌*◌, ◌*ℤ◌, ◌||◌, neg_ℤ, set, Option, None, Some, reverse, to_z, of_z, rules, FitsSigned}
+pub use Rattle.std.proofs.Common.{add-one, ◌≡◌, ℕ, ◌+◌, ◌≤◌, Bool, true, false, cond, arith, sym, ap, refl, List, [], ◌∷◌, ℤ, pos, ◌+ℤ◌, unsigned_abs, sum_by, ◌++◌, Result, OnOk, subst, ◌∙◌, append_assoc, append-nil, ◌^◌, All, OnErr, ◌≢◌, ◌<◌, length, map, take, drop, get_or, zero, suc, ◌-◌, ◌⊎◌, inl, inr, ◌*◌, ◌*ℤ◌, ◌||◌, neg_ℤ, set, Option, None, Some, reverse, to_z, of_z, rules, FitsSigned}
 pub use Rattle.std.specs.Ordering.{int_eq, is_eq, match_ordering, ordering_reverse, is_lt}
 pub use Rattle.std.specs.declared.cmp.Ordering.{Ordering}
 pub use Rattle.std.proofs.lemmas.Int.{ints, unsigned_abs-mul, to_z-of_z}

@@ -1,5 +1,5 @@
 -- An addition to a table leaves a table.
-use Rattle.term_table.proofs.Common.{nat_tests, ints, ◌≡◌, ◌+◌, ◌≤◌, ◌^◌, ℕ, ℤ, List, [], ◌∷◌, ◌++◌, ap, arith, unsigned_abs, All, Result, Ok, Err, OnOk, OnErr, All-push, Literal, Term, with_additions, terms_total, IsTermSet, Run, merged_terms, settled, with_entry, one_run, TableContent, kept_in, with_added, with_all, with_appended, IsTable, IsKept, AreAdditions}
+use Rattle.term_table.proofs.Common.{nat_tests, ints, ◌≡◌, ◌+◌, ◌≤◌, ◌^◌, ℕ, ℤ, List, [], ◌∷◌, ◌++◌, ap, arith, unsigned_abs, All, Result, OnOk, OnErr, All-push, Literal, Term, with_additions, terms_total, IsTermSet, Run, merged_terms, settled, with_entry, one_run, TableContent, kept_in, with_added, with_all, with_appended, IsTable, IsKept, AreAdditions}
 use Rattle.term_table.proofs.Additions.{terms_total-with_addition, terms_total-append, terms_total-cons, terms_total-more, terms_total-with_additions}
 use Rattle.term_table.proofs.KeptTerms.{OfSet, AreTerms-with_additions}
 use Rattle.term_table.proofs.SettlingRuns.{AreRuns-settled, AreRuns-with_entry}

@@ -1,8 +1,7 @@
 -- Steps of merging two runs: the lesser of the two first sets goes first.
-use Rattle.term_table.proofs.Common.{Ordering, nat_tests, ints, arith, ◌≡◌, ℕ, ◌+◌, ◌<◌, ◌≤◌, ◌⊎◌, length, get_or, drop, List, [], ◌∷◌, ◌++◌, sym, ap, ◌∙◌, subst, refl, append_assoc, append-nil, ℤ, ◌+ℤ◌, All, IsStrictlySortedBy, match_ordering, ordering_reverse, drop_more, drop_all, All-head, All-tail, Literal, Term, set_cmp, in_front, with_addition, with_additions, Ascends, merged}
+use Rattle.term_table.proofs.Common.{nat_tests, ints, arith, ◌≡◌, ℕ, ◌+◌, ◌<◌, ◌≤◌, ◌⊎◌, length, get_or, drop, List, [], ◌∷◌, ◌++◌, sym, ap, ◌∙◌, subst, refl, append_assoc, append-nil, ℤ, ◌+ℤ◌, All, IsStrictlySortedBy, match_ordering, ordering_reverse, drop_more, drop_all, All-head, All-tail, Literal, Term, set_cmp, in_front, with_addition, with_additions, Ascends, merged}
 use Rattle.std.specs.declared.cmp.Ordering.TheVariants.{Less, Equal, Greater}
 use Rattle.term_table.proofs.SetOrder.{set_total, same_set}
-use Rattle.term_table.proofs.Steps.{appended_more}
 use Rattle.term_table.proofs.KeptTerms.{IsNonzero, Under, Under-further, greater_back}
 
 pub less_back : (ks ls : List Literal) → set_cmp ks ls ≡ Less → set_cmp ls ks ≡ Greater

@@ -1,5 +1,5 @@
 -- Steps of loops over runs and their places.
-use Rattle.term_table.proofs.Common.{nat_tests, elements, ◌≡◌, ℕ, zero, suc, ◌+◌, ◌<◌, ◌≤◌, ◌^◌, true, false, arith, length, get_or, take, drop, set, map, List, [], ◌∷◌, ◌++◌, ◌⊎◌, inr, sym, ap, ◌∙◌, refl, ◌+ℤ◌, unsigned_abs, Option, None, Some, ⊤, replicate, fold, AllByRecursion, IsStrictlySortedBy, is_eq, is_lt, ints, take_more, fold-append, total_by_more, Literal, Term, set_cmp, coefficient_of, Ascends, Run, entries, sum_over, AreOrdered, rests_of, head_of, lesser_of, least_in, first_weight, without, NotBelow, Begins, IsLeast, AreRests}
+use Rattle.term_table.proofs.Common.{nat_tests, elements, ◌≡◌, ℕ, zero, suc, ◌+◌, ◌<◌, true, false, arith, length, get_or, take, drop, set, map, List, [], ◌∷◌, ◌++◌, ◌⊎◌, inr, sym, ap, ◌∙◌, refl, ◌+ℤ◌, Option, None, Some, ⊤, replicate, fold, AllByRecursion, IsStrictlySortedBy, is_eq, is_lt, ints, take_more, fold-append, total_by_more, Literal, Term, set_cmp, coefficient_of, Ascends, Run, entries, sum_over, AreOrdered, rests_of, head_of, lesser_of, least_in, first_weight, without, NotBelow, Begins, IsLeast, AreRests}
 use Rattle.term_table.proofs.SetOrder.{set_total, set_itself, same_set}
 use Rattle.term_table.proofs.KeptTerms.{Under-further, greater_back}
 use Rattle.term_table.proofs.UniqueTerms.{coefficient_of-under}

@@ -1,5 +1,5 @@
 -- Runs: what their sums are, that settling keeps them, and what a table keeps of its runs.
-use Rattle.term_table.proofs.Common.{nat_tests, ◌≡◌, ℕ, ◌+◌, ◌*◌, ◌<◌, ◌≤◌, ◌^◌, true, arith, sym, ap, ◌∙◌, refl, List, [], ◌∷◌, ◌++◌, length, get_or, take, reverse, ℤ, pos, ◌+ℤ◌, unsigned_abs, All, inl, inr, AllByRecursion, is_eq, ints, cases_lt, reverse-append, take-append-le, take_all, get_or_append_left, get_or_push, length_push, append-nil, All-nil, All-push, All-append, All-head, recursion_from_All, if_so, total_by-append, total_by-flat_map, size-plus, Literal, Term, set_cmp, terms_total, coefficient_of, with_addition, with_additions, AreTerms, IsTermSet, Run, entries, merged_terms, sum_over, merged, is_empty, settled_with, settled_back, settled, with_entry, one_run, AreRuns, AreRests, AreOrdered, All-take, length-take-le, get_or-take, take-take}
+use Rattle.term_table.proofs.Common.{nat_tests, ◌≡◌, ℕ, ◌+◌, ◌*◌, ◌<◌, ◌≤◌, ◌^◌, true, arith, ap, refl, List, [], ◌∷◌, ◌++◌, length, get_or, take, reverse, ℤ, pos, ◌+ℤ◌, unsigned_abs, All, inl, inr, AllByRecursion, is_eq, ints, cases_lt, reverse-append, take-append-le, take_all, get_or_append_left, get_or_push, length_push, append-nil, All-nil, All-push, All-append, All-head, recursion_from_All, if_so, total_by-append, total_by-flat_map, size-plus, Literal, Term, set_cmp, terms_total, coefficient_of, with_addition, with_additions, AreTerms, IsTermSet, Run, entries, merged_terms, sum_over, merged, is_empty, settled_with, settled_back, settled, with_entry, one_run, AreRuns, AreRests, AreOrdered, All-take, length-take-le, get_or-take, take-take}
 use Rattle.term_table.proofs.Additions.{weight-with_additions, coefficient_of-with_additions, terms_total-cons}
 use Rattle.term_table.proofs.KeptTerms.{OfSet, AreTerms-with_additions, Ascends-with_additions, Ascends-more, nonzero-with_additions, nonzero-more}
 use Rattle.term_table.proofs.UniqueTerms.{same_terms}

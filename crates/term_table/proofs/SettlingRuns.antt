@@ -1,5 +1,5 @@
 -- Steps of settling: the last run is merged with the one before it, or nothing more is done.
-use Rattle.term_table.proofs.Common.{refl, nat_tests, ◌≡◌, ◌≢◌, ℕ, ◌+◌, ◌*◌, ◌<◌, ◌≤◌, ◌^◌, arith, length, get_or, take, List, [], ◌∷◌, ◌++◌, sym, ap, ◌∙◌, subst, append-nil, ℤ, pos, unsigned_abs, All, AllByRecursion, IsStrictlySortedBy, ints, take_all, All-nil, All-cons, All-from_recursion, Literal, Term, terms_total, coefficient_of, Ascends, Run, merged_terms, sum_over, merged, settled, one_run, AreRuns, AreSettling, suc, zero, add-one, take_more, All-get_or, get_or_default, total_by_more, size-plus, cases_lt, inl, inr, length-take-le, get_or-take, AreTerms, IsTermSet, int_eq, cond, Bool, EntriesAreSmall, with_entry, false}
+use Rattle.term_table.proofs.Common.{refl, nat_tests, ◌≡◌, ◌≢◌, ℕ, ◌+◌, ◌*◌, ◌<◌, ◌≤◌, ◌^◌, arith, length, get_or, take, List, [], ◌∷◌, ◌++◌, ap, ◌∙◌, append-nil, ℤ, pos, unsigned_abs, All, AllByRecursion, IsStrictlySortedBy, ints, take_all, All-nil, All-cons, All-from_recursion, Literal, Term, terms_total, coefficient_of, Ascends, Run, merged_terms, sum_over, merged, settled, one_run, AreRuns, AreSettling, suc, zero, add-one, take_more, All-get_or, get_or_default, total_by_more, size-plus, cases_lt, inl, inr, length-take-le, get_or-take, AreTerms, IsTermSet, int_eq, EntriesAreSmall, with_entry, false}
 use Rattle.term_table.proofs.Additions.{terms_total-cons}
 use Rattle.term_table.proofs.KeptTerms.{IsNonzero, Under, Ascends-more, nonzero-more, AreTerms-more, AreTerms-nil, AreTerms-with_addition}
 use Rattle.term_table.proofs.UniqueTerms.{coefficient_of-first}

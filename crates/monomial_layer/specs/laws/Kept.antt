@@ -3,28 +3,9 @@
 -- Under every state, what stands for a term costs no less than the term, and the state that adds
 -- the bits of the new nodes to an assignment reaches the cost of each term. The new nodes lie above
 -- the variables, so a state costs what its first bits cost in the terms.
-use Rattle.std.specs.Prelude.{◌≡◌, ℕ, zero, suc, ◌+◌, ◌<◌, ◌≤◌, ◌⊎◌, Bool, true, false, not, cond, ◌&&◌, leb, List, [], ◌∷◌, ◌++◌, length, take, get_or, pos, ◌+ℤ◌, ◌≤ℤ◌, int_lt}
-use Rattle.std.specs.List.{AllByRecursion, flat_map, sum_by}
-use Rattle.std.proofs.Common.{arith, sym, ap, ◌∙◌, refl, subst, inl, inr}
-use Rattle.std.proofs.lemmas.Int.{ints}
-use Rattle.std.proofs.lemmas.Bool.{cases_lt}
-use Rattle.std.proofs.lemmas.Bool.Decides.{nat_tests}
-use Rattle.std.proofs.lemmas.List.{get_or-append-add, get_or_append_left, get_or_push, length_push, length-append, length-take, get_or-take, take-append-le, take_all}
-use Rattle.std.proofs.lemmas.List.Elements.{recursion_from_All}
-use Rattle.std.proofs.lemmas.List.Sums.{sum_by-cons}
-use Rattle.base.specs.Sums.{if_so}
-use Rattle.base.proofs.Totals.{total_by-append}
-use Rattle.form_steps.specs.declared.layer.BitsLink.{BitsLink}
-use Rattle.base.specs.Costs.{IsNeverInfinite}
-use Rattle.form_steps.specs.Relations.{Keeps, Extends, Joins}
-use Rattle.form_steps.specs.Links.{first_bits, HasFirstBits}
-use Rattle.literal_lists.specs.declared.literal.Literal.{Literal}
-use Rattle.literal_lists.specs.Literals.{holds, all_hold}
-use Rattle.term_table.specs.Terms.{Term, term_cost, terms_cost, IsTermSet}
-use Rattle.term_table.specs.Tables.{TableContent, IsTable}
+use Rattle.std.specs.Prelude.{◌≡◌, ◌+◌, ◌<◌, ◌≤◌, ◌∷◌, ◌++◌, ◌+ℤ◌, ◌≤ℤ◌}
+use Rattle.monomial_layer.specs.laws.Common.{ℕ, zero, suc, Bool, true, false, not, cond, leb, List, [], length, take, get_or, pos, int_lt, flat_map, sum_by, arith, sym, ap, ◌∙◌, refl, inl, inr, ints, cases_lt, nat_tests, get_or-append-add, get_or_append_left, get_or_push, length_push, length-append, length-take, take-append-le, take_all, total_by-append, BitsLink, IsNeverInfinite, Keeps, Extends, Joins, first_bits, HasFirstBits, Literal, all_hold, Term, term_cost, terms_cost, IsTermSet, OfSet, TableContent, IsTable, terms_cost-with_additions, negative_terms, positive_terms, nodes_for, new_nodes, new_terms, all_new_terms, image, Fits, is_taken, first_values, true_literals, new_bits, extension, length-flat_map, Agrees, first_agrees, longer_agrees, holds-agrees, all_hold-agrees, terms_cost-agrees, All, All-head, All-tail}
 use Rattle.term_table.specs.Tables as tables
-use Rattle.term_table.proofs.Additions.{terms_cost-with_additions}
-use Rattle.monomial_layer.specs.Monomials.{negative_terms, positive_terms, nodes_for, new_nodes, new_terms, all_new_terms, image, Fits, is_taken, first_values, true_literals, new_bits, extension}
 use Rattle.monomial_layer.specs.laws.TermCosts.{true_literals-cons, positive_terms-le, positive_terms_reach, negative_terms-le, negative_terms_reach}
 
 -- ---- no state costs less
@@ -36,17 +17,9 @@ above_two n h = grind (arith, nat_tests)
 -- what stands for one term costs no less than the term, for any bits of the new nodes
 new_terms-le : (y : List Bool) (t : Term) (n : ℕ) → term_cost y t ≤ℤ terms_cost y (new_terms t n)
 new_terms-le y t n =
-    go (leb (length t.0) 2) (int_lt t.1 (pos 0)) (above_two (length t.0)) (λ h. omega (arith, ints))
-    (λ h. omega (arith, ints))
-  where
-    go : (a b : Bool) → (a ≡ false → 3 ≤ length t.0) → (b ≡ true → t.1 ≤ℤ pos 0)
-        → (b ≡ false → pos 0 ≤ℤ t.1)
-        → term_cost y t
-        ≤ℤ terms_cost y
-        (cond a (t ∷ []) (cond b (negative_terms t.0 t.1 n) (positive_terms t.0 t.1 n)))
-    go true b f g h = omega (arith, ints)
-    go false true f g h = negative_terms-le y t.0 t.1 n (omega (arith, f refl)) (g refl)
-    go false false f g h = positive_terms-le y t.0 t.1 n (f refl) (h refl)
+    let low = negative_terms-le y t.0 t.1 n in
+    let high = positive_terms-le y t.0 t.1 n in
+    grind (arith, nat_tests, ints)
 
 -- what stands for the terms costs no less than they do
 pub all_new_terms-le : (y : List Bool) (ts : List Term) (n : ℕ)
@@ -63,47 +36,16 @@ all_new_terms-le y (t ∷ ts) n =
 
 -- ---- two states that agree on the first bits
 
--- the first n bits of the two states are the same
-abbrev Agrees : ℕ → List Bool → List Bool → Type 0
-Agrees n x y = (i : ℕ) → i < n → get_or x i false ≡ get_or y i false
-
--- the variables of the literals lie below n
-abbrev Below : ℕ → List Literal → Type 0
-Below n ls = AllByRecursion (λ l. l.variable < n) ls
-
--- the variables of all terms lie below n
-abbrev AllBelow : ℕ → List Term → Type 0
-AllBelow n ts = AllByRecursion (λ t. Below n t.0) ts
-
--- a literal of the first n variables is true under both states, or under none
-holds-agrees : (n : ℕ) (x y : List Bool) (l : Literal) → Agrees n x y → l.variable < n
-    → holds x l ≡ holds y l
-holds-agrees n x y l same below = ap (λ v. cond l.negated (not v) v) (same l.variable below)
-
--- and so is a product of them
-all_hold-agrees : (n : ℕ) (x y : List Bool) (ls : List Literal) → Agrees n x y → Below n ls
-    → all_hold x ls ≡ all_hold y ls
-all_hold-agrees n x y [] same below = refl
-all_hold-agrees n x y (l ∷ ls) same below =
-    λ i. holds-agrees n x y l same below.0 i && all_hold-agrees n x y ls same below.1 i
-
--- as many of them are true under both
-count-agrees : (n : ℕ) (x y : List Bool) (ls : List Literal) → Agrees n x y → Below n ls
-    → true_literals x ls ≡ true_literals y ls
+-- as many literals of the first n variables are true under both
+count-agrees : (n : ℕ) (x y : List Bool) (ls : List Literal) → Agrees n x y
+    → All (λ l. l.variable < n) ls → true_literals x ls ≡ true_literals y ls
 count-agrees n x y [] same below = refl
 count-agrees n x y (l ∷ ls) same below =
+    let P : Literal → Type 0 = λ k. k.variable < n in
     true_literals-cons x l ls
-    ∙ (λ i. cond (holds-agrees n x y l same below.0 i) 1 0
-    + count-agrees n x y ls same below.1 i)
+    ∙ (λ i. cond (holds-agrees n x y l same (All-head P l ls below) i) 1 0
+    + count-agrees n x y ls same (All-tail P l ls below) i)
     ∙ sym (true_literals-cons y l ls)
-
--- so terms over the first n variables cost the same
-cost-agrees : (n : ℕ) (x y : List Bool) (ts : List Term) → Agrees n x y → AllBelow n ts
-    → terms_cost x ts ≡ terms_cost y ts
-cost-agrees n x y [] same below = refl
-cost-agrees n x y (t ∷ ts) same below =
-    λ i. if_so (all_hold-agrees n x y t.0 same below.0 i) t.1
-    +ℤ cost-agrees n x y ts same below.1 i
 
 -- ---- the bits of the new nodes
 
@@ -116,17 +58,14 @@ length-first_values f (suc n) =
 -- of which the one at i is that of i
 get_or-first_values : (f : ℕ → Bool) (n i : ℕ) → i < n → get_or (first_values f n) i false ≡ f i
 get_or-first_values f zero i h = absurd (omega arith)
-get_or-first_values f (suc n) i h = go (cases_lt i n) (get_or-first_values f n i)
-  where
-    go : (i < n) ⊎ (n ≤ i) → (i < n → get_or (first_values f n) i false ≡ f i)
-        → get_or (first_values f n ++ f n ∷ []) i false ≡ f i
-    go (inl l) r =
-        get_or_append_left (first_values f n) (f n ∷ []) false i
-        (omega (arith, length-first_values f n))
-        ∙ r l
-    go (inr g) r =
-        let same : n ≡ i = omega arith in
-        get_or_push (first_values f n) (f n) false i (length-first_values f n ∙ same) ∙ ap f same
+get_or-first_values f (suc n) i h = elim (cases_lt i n) [
+  | inl l ↦
+      get_or_append_left (first_values f n) (f n ∷ []) false i (omega (arith, length-first_values f n))
+      ∙ get_or-first_values f n i l
+  | inr g ↦
+      let same : n ≡ i = omega arith in
+      get_or_push (first_values f n) (f n) false i (length-first_values f n ∙ same) ∙ ap f same
+]
 
 -- the state has these bits from a place on
 abbrev Has : List Bool → ℕ → List Bool → Type 0
@@ -147,9 +86,9 @@ has_right y m bs cs h = λ i l.
     ∙ get_or-append-add bs cs i false
 
 -- with its own bits at its new nodes, what stands for a term costs what the term costs
-new_terms_reach : (x y : List Bool) (n m : ℕ) (t : Term) → Agrees n x y → Below n t.0
+new_terms_reach : (x y : List Bool) (n m : ℕ) (t : Term) → Agrees n x y → IsTermSet n t.0
     → Has y m (new_bits x t) → terms_cost y (new_terms t m) ≡ term_cost y t
-new_terms_reach x y n m t agrees below has =
+new_terms_reach x y n m t agrees set has =
     go (leb (length t.0) 2) (int_lt t.1 (pos 0)) (above_two (length t.0)) has
   where
     values : List Bool
@@ -164,7 +103,7 @@ new_terms_reach x y n m t agrees below has =
     go false true f h =
         let place : m ≡ m + 0 = omega arith in
         let bit = ap (λ k. get_or y k false) place ∙ h 0 (omega arith) in
-        let same = bit ∙ all_hold-agrees n x y t.0 agrees below in
+        let same = bit ∙ all_hold-agrees n x y t.0 agrees set.set.within in
         sym (negative_terms_reach y t.0 t.1 m (omega (arith, f refl)) same)
     go false false f h =
         let s = true_literals x t.0 in
@@ -172,66 +111,48 @@ new_terms_reach x y n m t agrees below has =
         sym (positive_terms_reach y t.0 t.1 m (f refl) (λ i l.
         h i (omega (arith, length-first_values (is_taken s) k))
         ∙ get_or-first_values (is_taken s) k i l
-        ∙ ap (λ n. is_taken n i) (count-agrees n x y t.0 agrees below)))
+        ∙ ap (λ n. is_taken n i) (count-agrees n x y t.0 agrees set.set.within)))
 
 -- a term has as many new bits as new nodes
 pub length-new_bits : (x : List Bool) (t : Term) → length (new_bits x t) ≡ new_nodes t
-length-new_bits x t = go (leb (length t.0) 2) (int_lt t.1 (pos 0))
-  where
-    values : List Bool
-    values = first_values (is_taken (true_literals x t.0)) (nodes_for (length t.0))
-
-    go : (a b : Bool) → length (cond a [] (cond b (all_hold x t.0 ∷ []) values))
-        ≡ cond a 0 (cond b 1 (nodes_for (length t.0)))
-    go true b = refl
-    go false true = refl
-    go false false = length-first_values (is_taken (true_literals x t.0)) (nodes_for (length t.0))
+length-new_bits x t =
+    let values = length-first_values (is_taken (true_literals x t.0)) (nodes_for (length t.0)) in
+    grind (arith, nat_tests)
 
 -- and so for all terms, one after another
-replaced_reach : (x y : List Bool) (n m : ℕ) (ts : List Term) → Agrees n x y → AllBelow n ts
-    → Has y m (flat_map (new_bits x) ts) → terms_cost y (all_new_terms ts m) ≡ terms_cost y ts
-replaced_reach x y n m [] agrees below has = refl
-replaced_reach x y n m (t ∷ ts) agrees below has =
+replaced_reach : (x y : List Bool) (n m : ℕ) (ts : List Term) → Agrees n x y
+    → All (OfSet (IsTermSet n)) ts → Has y m (flat_map (new_bits x) ts) → terms_cost y (all_new_terms ts m) ≡ terms_cost y ts
+replaced_reach x y n m [] agrees sets has = refl
+replaced_reach x y n m (t ∷ ts) agrees sets has =
     let bits = flat_map (new_bits x) ts in
-    let first = new_terms_reach x y n m t agrees below.0 (has_left y m (new_bits x t) bits has) in
-    let P : ℕ → Type 0 = λ k. Has y (m + k) bits in
-    let after = subst P (length-new_bits x t) (has_right y m (new_bits x t) bits has) in
-    let rest = replaced_reach x y n (m + new_nodes t) ts agrees below.1 after in
+    let set = All-head (OfSet (IsTermSet n)) t ts sets in
+    let first = new_terms_reach x y n m t agrees set (has_left y m (new_bits x t) bits has) in
+    let after = rw (length-new_bits x t) at (has_right y m (new_bits x t) bits has) in
+    let rest = replaced_reach x y n (m + new_nodes t) ts agrees (All-tail (OfSet (IsTermSet n)) t ts sets) after in
     total_by-append (term_cost y) (new_terms t m) (all_new_terms ts (m + new_nodes t))
     ∙ (λ i. first i +ℤ rest i)
 
 -- the extension has these bits, so it reaches the cost of all terms
-extension_reach : (x : List Bool) (ts : List Term) → AllBelow (length x) ts
+extension_reach : (x : List Bool) (ts : List Term) → All (OfSet (IsTermSet (length x))) ts
     → terms_cost (extension x ts) (all_new_terms ts (length x)) ≡ terms_cost x ts
-extension_reach x ts below =
+extension_reach x ts sets =
     let bits = flat_map (new_bits x) ts in
-    let agrees : Agrees (length x) x (x ++ bits) =
-    λ i l. sym (get_or_append_left x bits false i l) in
-    replaced_reach x (x ++ bits) (length x) (length x) ts agrees below
+    let agrees = longer_agrees x bits in
+    replaced_reach x (x ++ bits) (length x) (length x) ts agrees sets
     (λ i l. get_or-append-add x bits i false)
-    ∙ sym (cost-agrees (length x) x (x ++ bits) ts agrees below)
+    ∙ sym (terms_cost-agrees (length x) x (x ++ bits) ts agrees sets)
 
 -- ---- the layer's laws
-
--- the terms of a table name no node past its width
-below_width : (t : TableContent) → IsTable t → AllBelow t.width t.terms
-below_width t table = go t.terms (recursion_from_All _ _ table.terms.sets)
-  where
-    go : (ts : List Term) → AllByRecursion (λ (u : Term). IsTermSet t.width u.0) ts
-        → AllBelow t.width ts
-    go [] sets = tt
-    go (u ∷ us) sets = (recursion_from_All _ _ sets.0.set.within, go us sets.1)
 
 -- A state costs no less than its first bits in the source. This is one half of keeping costs, and
 -- `mono_reaches` is the other.
 pub image_bound : (t : TableContent) → IsTable t → (y : List Bool)
     → terms_cost (take t.width y) t.terms ≤ℤ terms_cost y (image t).terms
 image_bound t table y =
-    let agrees : Agrees t.width (take t.width y) y = λ i l. get_or-take t.width y i false l in
     omega (
       arith,
       ints,
-      cost-agrees t.width (take t.width y) y t.terms agrees (below_width t table),
+      terms_cost-agrees t.width (take t.width y) y t.terms (first_agrees t.width y) table.terms.sets,
       all_new_terms-le y t.terms t.width,
       terms_cost-with_additions y (all_new_terms t.terms t.width),
     )
@@ -239,15 +160,8 @@ image_bound t table y =
 -- as many bits are appended as there are new nodes
 length-bits : (x : List Bool) (ts : List Term)
     → length (flat_map (new_bits x) ts) ≡ sum_by new_nodes ts
-length-bits x [] = refl
-length-bits x (t ∷ ts) =
-    omega (
-      arith,
-      length-append (new_bits x t) (flat_map (new_bits x) ts),
-      length-new_bits x t,
-      length-bits x ts,
-      sum_by-cons new_nodes t ts,
-    )
+length-bits x ts =
+    length-flat_map (new_bits x) ts ∙ (λ i. sum_by (λ t. length-new_bits x t i) ts)
 
 -- a link that fits can be decoded by
 pub mono_sound : (link : BitsLink) (t : TableContent) → Fits link t → HasFirstBits link
@@ -266,12 +180,11 @@ pub mono_reaches : (link : BitsLink) (t : TableContent) (x : List Bool) → Fits
 mono_reaches link t x fits width =
     let bits = flat_map (new_bits x) t.terms in
     let from : link.source_width ≡ length x = fits.source ∙ sym width in
-    let P : ℕ → Type 0 = λ n. AllBelow n t.terms in
-    let below = subst P (sym width) (below_width t fits.table) in
+    let sets : All (OfSet (IsTermSet (length x))) t.terms = rw width fits.table.terms.sets in
     let reached : terms_cost (extension x t.terms) (all_new_terms t.terms t.width)
     ≡ terms_cost x t.terms =
     ap (λ n. terms_cost (extension x t.terms) (all_new_terms t.terms n)) (sym width)
-    ∙ extension_reach x t.terms below in
+    ∙ extension_reach x t.terms sets in
     record {
       width = omega (arith, length-append x bits, width, length-bits x t.terms);
       decodes =

@@ -7,10 +7,8 @@
 -- save n * (2 * s + 1) - 2 * n * (n + 1) as long as 2 * n is at most s. For an even d that falls
 -- short of the pairs by 1 where s is d. For an odd d the last node has the factor 1, and the same
 -- holds.
-use Rattle.std.proofs.Common.{◌≡◌, ℕ, zero, suc, ◌+◌, ◌-◌, ◌*◌, ◌<◌, ◌≤◌, ◌⊎◌, inl, inr, Bool, true, false, cond, arith, sym, ap, subst, refl, eqb, leb}
-use Rattle.std.proofs.lemmas.Bool.{cases_lt}
-use Rattle.std.proofs.lemmas.Bool.Decides.{nat_tests}
-use Rattle.monomial_layer.specs.Monomials.{factor, is_taken}
+use Rattle.std.specs.Prelude.{◌≡◌, ◌+◌, ◌-◌, ◌*◌, ◌<◌, ◌≤◌, ◌⊎◌}
+use Rattle.monomial_layer.specs.laws.Common.{ℕ, zero, suc, inl, inr, Bool, true, false, cond, arith, sym, ap, subst, refl, eqb, leb, cases_lt, nat_tests, factor, is_taken}
 
 -- how many pairs there are among n
 abbrev pub pairs : ℕ → ℕ
@@ -113,8 +111,7 @@ plain_late s (suc k) h =
     elim (cases_lt s (2 * k + 2)) [
       | inl lt ↦
           let before = plain_late s k lt in
-          let e : leb (2 * k + 2) s ≡ false = grind (arith, nat_tests) in
-          rw e (omega arith)
+          grind (arith, nat_tests)
       | inr le ↦ plain_last s k le h (plain_early s k (omega arith))
     ]
 
@@ -123,8 +120,7 @@ plain_is : (d s n : ℕ) → 2 * n + 1 < d → gain d s n ≡ plain s n
 plain_is d s zero h = refl
 plain_is d s (suc k) h =
     let e : factor d k ≡ 2 = grind (arith, nat_tests) in
-    let f = plain_is d s k (omega arith) in
-    rw (e, f) refl
+    rw (e, plain_is d s k (omega arith))
 
 -- D is at least 2, and 2 * n + 1 or 2 * n + 2. For n nodes the degree is one of these two: the
 -- nodes that a positive term of it has.
@@ -136,20 +132,12 @@ even : (s n : ℕ) → s ≤ 2 * n + 2
     → gain (2 * n + 2) s n + cond (eqb s (2 * n + 2)) 1 0 ≡ pairs s
 even s n h =
     rw (plain_is (2 * n + 2) s n (omega arith)) (elim (cases_lt s (2 * n + 2)) [
-      | inl lt ↦
-          let e : eqb s (2 * n + 2) ≡ false = grind (arith, nat_tests) in
-          rw (e, plain_late s n lt) (omega arith)
+      | inl lt ↦ let late = plain_late s n lt in grind (arith, nat_tests)
       | inr le ↦
           let same : s ≡ 2 * n + 2 = omega arith in
-          let e : eqb s (2 * n + 2) ≡ true = grind (arith, nat_tests) in
-          rw e
-          (omega (
-            arith,
-            plain_early s n (omega arith),
-            pairs_is s,
-            ap (λ x. x * s) same,
-            ap (λ x. n * x) same,
-          ))
+          let early = plain_early (2 * n + 2) n (omega arith) in
+          let twice = pairs_is (2 * n + 2) in
+          rw same (grind (arith, nat_tests))
     ])
 
 -- for an odd degree the last node of factor 1 comes to the same
@@ -158,26 +146,14 @@ odd_end : (s n : ℕ) → 2 * n + 2 ≤ s → s ≤ 2 * n + 3
 odd_end s n low high = elim (cases_lt s (2 * n + 3)) [
   | inl lt ↦
       let same : s ≡ 2 * n + 2 = omega arith in
-      let e : eqb s (2 * n + 3) ≡ false = grind (arith, nat_tests) in
-      rw e
-      (omega (
-        arith,
-        plain_early s n (omega arith),
-        pairs_is s,
-        ap (λ x. x * s) same,
-        ap (λ x. n * x) same,
-      ))
+      let early = plain_early (2 * n + 2) n (omega arith) in
+      let twice = pairs_is (2 * n + 2) in
+      rw same (grind (arith, nat_tests))
   | inr le ↦
       let same : s ≡ 2 * n + 3 = omega arith in
-      let e : eqb s (2 * n + 3) ≡ true = grind (arith, nat_tests) in
-      rw e
-      (omega (
-        arith,
-        plain_early s n (omega arith),
-        pairs_is s,
-        ap (λ x. x * s) same,
-        ap (λ x. n * x) same,
-      ))
+      let early = plain_early (2 * n + 3) n (omega arith) in
+      let twice = pairs_is (2 * n + 3) in
+      rw same (grind (arith, nat_tests))
 ]
 
 -- n nodes, and one more of factor 1
@@ -187,10 +163,7 @@ odd s n h =
     let last : factor (2 * n + 3) n ≡ 1 = grind (arith, nat_tests) in
     let before = plain_is (2 * n + 3) s n (omega arith) in
     rw (last, before) (elim (cases_lt s (2 * n + 2)) [
-      | inl lt ↦
-          let e : eqb s (2 * n + 3) ≡ false = grind (arith, nat_tests) in
-          let f : leb (2 * n + 2) s ≡ false = grind (arith, nat_tests) in
-          rw (e, f, plain_late s n lt) (omega arith)
+      | inl lt ↦ let late = plain_late s n lt in grind (arith, nat_tests)
       | inr le ↦
           let f : leb (2 * n + 2) s ≡ true = grind (arith, nat_tests) in rw f (odd_end s n le h)
     ])
@@ -200,11 +173,8 @@ gain_is : (d s n : ℕ) → IsSized d n → s ≤ d → gain d s n + cond (eqb s
 gain_is d s zero (two, inl e) h = absurd (omega arith)
 gain_is d s (suc n) (two, inl e) h =
     let same : d ≡ 2 * n + 3 = omega arith in
-    let P : ℕ → Type 0 = λ d. gain d s (suc n) + cond (eqb s d) 1 0 ≡ pairs s in
-    subst P (sym same) (odd s n (omega arith))
-gain_is d s n (two, inr e) h =
-    let P : ℕ → Type 0 = λ d. gain d s n + cond (eqb s d) 1 0 ≡ pairs s in
-    subst P (sym e) (even s n (omega arith))
+    subst (λ d. gain d s (suc n) + cond (eqb s d) 1 0 ≡ pairs s) (sym same) (odd s n (omega arith))
+gain_is d s n (two, inr e) h = rw e (even s n (omega arith))
 
 -- ---- the law
 

@@ -5,18 +5,8 @@
 -- number of true literals is negative only where all d are true. For a positive one, the nodes save
 -- as much as the pairs of true literals cost, and 1 less where all are true; the coefficient comes
 -- in last.
-use Rattle.std.proofs.Common.{◌≡◌, ℕ, zero, suc, ◌+◌, ◌-◌, ◌*◌, ◌<◌, ◌≤◌, inl, inr, Bool, true, false, cond, ◌&&◌, eqb, arith, sym, ap, ◌∙◌, refl, List, [], ◌∷◌, length, ℤ, pos, ◌+ℤ◌, ◌-ℤ◌, ◌*ℤ◌, neg_ℤ, ◌≤ℤ◌}
-use Rattle.std.proofs.lemmas.List.Sums.{sum_by-cons, count_by-le-length}
-use Rattle.std.proofs.lemmas.Int.{ints}
-use Rattle.std.proofs.lemmas.Bool.{cases_lt}
-use Rattle.std.proofs.lemmas.Bool.Decides.{nat_tests}
-use Rattle.base.specs.Sums.{if_so}
-use Rattle.base.proofs.Products.{multiply_out, integers, times-le, times-le_negative, times-plus}
-use Rattle.base.proofs.Totals.{total_by-append, total_by-map, total_by-if_so, total_by-same}
-use Rattle.literal_lists.specs.declared.literal.Literal.{Literal}
-use Rattle.literal_lists.specs.Literals.{holds, all_hold}
-use Rattle.term_table.specs.Terms.{term_cost, terms_cost}
-use Rattle.monomial_layer.specs.Monomials.{node, with_each, each_with, pair_terms, factor, node_term, node_terms, nodes_for, positive_terms, negative_terms, is_taken, true_literals}
+use Rattle.std.specs.Prelude.{◌≡◌, ◌+◌, ◌-◌, ◌*◌, ◌<◌, ◌≤◌, ◌&&◌, ◌∷◌, ◌+ℤ◌, ◌-ℤ◌, ◌*ℤ◌, ◌≤ℤ◌}
+use Rattle.monomial_layer.specs.laws.Common.{ℕ, zero, suc, inl, inr, Bool, true, false, cond, eqb, arith, sym, ap, ◌∙◌, refl, List, [], length, ℤ, pos, neg_ℤ, sum_by-cons, count_by-le-length, ints, cases_lt, nat_tests, if_so, multiply_out, integers, times-le, times-le_negative, times-plus, total_by-append, total_by-map, total_by-if_so, total_by-same, Literal, holds, all_hold, term_cost, terms_cost, node, with_each, each_with, pair_terms, factor, node_term, node_terms, nodes_for, positive_terms, negative_terms, is_taken, true_literals, Term, map}
 use Rattle.monomial_layer.specs.laws.Positive.{pairs, above, below, positive_bound, positive_reached, IsSized}
 
 -- ---- how many literals are true
@@ -35,17 +25,13 @@ pub all_hold-count : (y : List Bool) (ls : List Literal)
     → all_hold y ls ≡ eqb (true_literals y ls) (length ls)
 all_hold-count y [] = refl
 all_hold-count y (l ∷ ls) =
-    rw (true_literals-cons y l ls) (go (holds y l) (all_hold-count y ls))
-  where
-    go : (t : Bool) → all_hold y ls ≡ eqb (true_literals y ls) (length ls)
-        → (t && all_hold y ls) ≡ eqb (cond t 1 0 + true_literals y ls) (suc (length ls))
-    go true h = h ∙ grind (arith, nat_tests)
-    go false h = let le = true_literals-le y ls in grind (arith, nat_tests)
+    let rest = all_hold-count y ls in
+    let le = true_literals-le y ls in
+    rw (true_literals-cons y l ls) (grind (arith, nat_tests))
 
 -- a coefficient counts once or not at all
 times_one : (c : ℤ) (t : Bool) → c *ℤ pos (cond t 1 0) ≡ if_so t c
-times_one c true = omega (arith, ints)
-times_one c false = omega (arith, ints)
+times_one c t = grind (arith, nat_tests, ints)
 
 -- so a term costs its coefficient just where as many literals are true as it has
 term_cost-count : (y : List Bool) (ls : List Literal) (c : ℤ)
@@ -56,44 +42,30 @@ term_cost-count y ls c =
 
 -- ---- sums of products
 
--- a product of two literals counts where both are true
-if_so-pair : (a b : Bool) (c : ℤ) → if_so (a && (b && true)) c ≡ if_so b (if_so a c)
-if_so-pair true true c = refl
-if_so-pair true false c = refl
-if_so-pair false true c = refl
-if_so-pair false false c = refl
-
--- in either order
-if_so-pair_turned : (a b : Bool) (c : ℤ) → if_so (b && (a && true)) c ≡ if_so b (if_so a c)
-if_so-pair_turned true true c = refl
-if_so-pair_turned true false c = refl
-if_so-pair_turned false true c = refl
-if_so-pair_turned false false c = refl
-
 -- a number may be multiplied before or after the test
 if_so-times : (t : Bool) (c : ℤ) (n : ℕ) → if_so t c *ℤ pos n ≡ if_so t (c *ℤ pos n)
-if_so-times true c n = refl
-if_so-times false c n = omega (arith, ints)
+if_so-times t c n = grind (arith, nat_tests, ints)
+
+-- where a term of each literal of a list costs the coefficient if this one and the first are true, all
+-- cost it for each true one, where the first is true
+cost-each : (y : List Bool) (l : Literal) (c : ℤ) (term : Literal → Term) (ks : List Literal)
+    → ((k : Literal) → term_cost y (term k) ≡ if_so (holds y k) (if_so (holds y l) c))
+    → terms_cost y (map term ks) ≡ if_so (holds y l) (c *ℤ pos (true_literals y ks))
+cost-each y l c term ks each =
+    total_by-map (term_cost y) term ks
+    ∙ total_by-same _ (λ k. if_so (holds y k) (if_so (holds y l) c)) ks each
+    ∙ total_by-if_so (holds y) (if_so (holds y l) c) ks
+    ∙ if_so-times (holds y l) c (true_literals y ks)
 
 -- a literal times each of a list costs the coefficient for each true one, where the literal is true
 cost-with_each : (y : List Bool) (l : Literal) (c : ℤ) (ks : List Literal)
     → terms_cost y (with_each l c ks) ≡ if_so (holds y l) (c *ℤ pos (true_literals y ks))
-cost-with_each y l c ks =
-    total_by-map (term_cost y) (λ k. (l ∷ k ∷ [], c)) ks
-    ∙ total_by-same _ (λ k. if_so (holds y k) (if_so (holds y l) c)) ks
-    (λ k. if_so-pair (holds y l) (holds y k) c)
-    ∙ total_by-if_so (holds y) (if_so (holds y l) c) ks
-    ∙ if_so-times (holds y l) c (true_literals y ks)
+cost-with_each y l c ks = cost-each y l c _ ks (λ k. grind (arith, nat_tests))
 
 -- and so in the other order
 cost-each_with : (y : List Bool) (l : Literal) (c : ℤ) (ks : List Literal)
     → terms_cost y (each_with ks l c) ≡ if_so (holds y l) (c *ℤ pos (true_literals y ks))
-cost-each_with y l c ks =
-    total_by-map (term_cost y) (λ k. (k ∷ l ∷ [], c)) ks
-    ∙ total_by-same _ (λ k. if_so (holds y k) (if_so (holds y l) c)) ks
-    (λ k. if_so-pair_turned (holds y l) (holds y k) c)
-    ∙ total_by-if_so (holds y) (if_so (holds y l) c) ks
-    ∙ if_so-times (holds y l) c (true_literals y ks)
+cost-each_with y l c ks = cost-each y l c _ ks (λ k. grind (arith, nat_tests))
 
 -- all pairs cost the coefficient for each pair of true literals
 cost-pair_terms : (y : List Bool) (ls : List Literal) (c : ℤ)
@@ -180,19 +152,13 @@ positive_terms-le y ls c n high positive =
 above-same : (d : ℕ) (w v : ℕ → Bool) (n : ℕ) → ((i : ℕ) → i < n → w i ≡ v i)
     → above d w n ≡ above d v n
 above-same d w v zero same = refl
-above-same d w v (suc k) same =
-    let e = above-same d w v k (λ i l. same i (omega arith)) in
-    let f = same k (omega arith) in
-    rw (e, f) refl
+above-same d w v (suc k) same = rw (above-same d w v k (λ i l. same i (omega arith)), same k (omega arith))
 
 -- and so does what they take away
 below-same : (d s : ℕ) (w v : ℕ → Bool) (n : ℕ) → ((i : ℕ) → i < n → w i ≡ v i)
     → below d s w n ≡ below d s v n
 below-same d s w v zero same = refl
-below-same d s w v (suc k) same =
-    let e = below-same d s w v k (λ i l. same i (omega arith)) in
-    let f = same k (omega arith) in
-    rw (e, f) refl
+below-same d s w v (suc k) same = rw (below-same d s w v k (λ i l. same i (omega arith)), same k (omega arith))
 
 -- .. and as much, where each node is taken as is_taken says
 pub positive_terms_reach : (y : List Bool) (ls : List Literal) (c : ℤ) (n : ℕ) → 3 ≤ length ls
@@ -230,10 +196,7 @@ cost-negative_terms y ls c n =
 
 -- that difference is at most 1, and 1 only where all d literals are true
 tested : (s d : ℕ) → s ≤ d → 1 ≤ d → (pos s -ℤ pos (d - 1)) ≤ℤ pos (cond (eqb s d) 1 0)
-tested s d le some = elim (cases_lt s d) [
-  | inl lt ↦ omega (arith, ints)
-  | inr ge ↦ let e : eqb s d ≡ true = grind (arith, nat_tests) in rw e (omega (arith, ints))
-]
+tested s d le some = grind (arith, nat_tests, ints)
 
 -- where all are true the term costs c, as the node does
 reached_value : (s d : ℕ) (c : ℤ) → s ≤ d → 1 ≤ d
@@ -250,20 +213,12 @@ reached_value s d c le some = elim (cases_lt s d) [
 pub negative_terms-le : (y : List Bool) (ls : List Literal) (c : ℤ) (n : ℕ) → 1 ≤ length ls
     → c ≤ℤ pos 0 → term_cost y (ls, c) ≤ℤ terms_cost y (negative_terms ls c n)
 negative_terms-le y ls c n some negative =
-    rw (term_cost-count y ls c, cost-negative_terms y ls c n) (go (holds y (node n)))
-  where
-    one : ℤ
-    one = pos (cond (eqb (true_literals y ls) (length ls)) 1 0)
-
-    go : (t : Bool)
-        → (c *ℤ one) ≤ℤ if_so t (c *ℤ (pos (true_literals y ls) -ℤ pos (length ls - 1)))
-    go true =
-        times-le_negative c _ _ negative
-        (tested (true_literals y ls) (length ls) (true_literals-le y ls) some)
-    go false =
-        let low : (c *ℤ one) ≤ℤ (c *ℤ pos 0) =
-        times-le_negative c (pos 0) one negative (omega (arith, ints)) in
-        omega (arith, ints)
+    let s = true_literals y ls in
+    let d = length ls in
+    let one = pos (cond (eqb s d) 1 0) in
+    let high = times-le_negative c _ _ negative (tested s d (true_literals-le y ls) some) in
+    let low = times-le_negative c (pos 0) one negative (omega (arith, ints)) in
+    rw (term_cost-count y ls c, cost-negative_terms y ls c n) (grind (arith, nat_tests, ints))
 
 -- .. and as much, where the node is 1 exactly where all literals are true
 pub negative_terms_reach : (y : List Bool) (ls : List Literal) (c : ℤ) (n : ℕ) → 1 ≤ length ls

@@ -1,18 +1,12 @@
 -- The multilinear form of a problem relaxes it, as the penalty method's table does. Nothing here has
 -- to be believed.
-use Rattle.std.specs.Prelude.{◌≡◌, pos, Bool, List, length}
-use Rattle.std.proofs.Common.{arith, ◌∙◌}
-use Rattle.std.proofs.lemmas.Int.{ints}
-use Rattle.form_steps.specs.declared.layer.BitsLink.{BitsLink}
+use Rattle.std.specs.Prelude.{◌≡◌}
+use Rattle.term_table.proofs.Common.{terms_cost, contributions}
+use Rattle.penalty_layer.proofs.Common.{pos, Bool, List, length, arith, ◌∙◌, ints, BitsLink, first_bits, ProblemContent, TableContent}
 use Rattle.base.specs.Costs.{IsNeverInfinite}
-use Rattle.form_steps.specs.Links.{first_bits}
 use Rattle.form_steps.specs.Relations.{Relaxes, ExtendsLeast, Joins}
-use Rattle.problem_form.specs.Problems.{ProblemContent}
 use Rattle.problem_form.specs.Problems as problems
-use Rattle.term_table.specs.Terms.{terms_cost}
-use Rattle.term_table.specs.Tables.{TableContent}
 use Rattle.term_table.specs.Tables as tables
-use Rattle.term_table.specs.MultipliedOut.{contributions}
 use Rattle.term_table.specs.laws.MultipliedOut.{terms_cost-contributions}
 use Rattle.term_table.proofs.Additions.{terms_cost-with_additions}
 use Rattle.penalty_layer.specs.Penalty.{figures, extension, Fits}

@@ -1,16 +1,11 @@
 -- Squares: they are not negative, and the clamped slack leaves the least. Nothing
 -- here has to be believed.
-use Rattle.std.proofs.Common.{◌≡◌, ◌≢◌, ℕ, zero, suc, ◌<◌, ◌≤◌, min, ◌⊎◌, inl, inr, refl, arith, ℤ, pos, negsuc, ◌-ℤ◌, ◌*ℤ◌, ◌≤ℤ◌}
-use Rattle.std.proofs.lemmas.Bool.{cases_lt}
-use Rattle.std.proofs.lemmas.Int.{ints}
-use Rattle.std.proofs.lemmas.Nat.{mul-le}
-use Rattle.base.proofs.Products.{multiply_out, integers, times-le}
-use Rattle.penalty_layer.specs.Slack.{clamped}
+use Rattle.std.specs.Prelude.{◌≡◌, ◌≢◌, ◌≤◌, ◌-ℤ◌, ◌*ℤ◌, ◌≤ℤ◌}
+use Rattle.penalty_layer.specs.laws.Common.{nat_tests, ℕ, zero, suc, refl, arith, ℤ, pos, negsuc, ints, mul-le, multiply_out, integers, times-le, clamped}
 
 -- no square is below 0
-pub square-not_negative : (a : ℤ) → pos 0 ≤ℤ (a *ℤ a)
-square-not_negative (pos a) = omega (arith, ints)
-square-not_negative (negsuc a) = omega (arith, ints)
+square-not_negative : (a : ℤ) → pos 0 ≤ℤ (a *ℤ a)
+square-not_negative a = grind (arith, ints)
 
 -- of two numbers from 0 up, the greater one has the greater square
 square-le : (a b : ℤ) → pos 0 ≤ℤ a → a ≤ℤ b → (a *ℤ a) ≤ℤ (b *ℤ b)
@@ -32,28 +27,18 @@ clamped-least r (negsuc n) v h =
     let le =
     square-le (pos 0 -ℤ negsuc n) (pos v -ℤ negsuc n) (omega (arith, ints)) (omega (arith, ints)) in
     omega (arith, ints, turned (negsuc n) (pos 0), turned (negsuc n) (pos v), le)
-clamped-least r (pos n) v h = go (cases_lt r n)
-  where
-    go : (r < n) ⊎ (n ≤ r)
-        → ((pos n -ℤ pos (min n r)) *ℤ (pos n -ℤ pos (min n r)))
-        ≤ℤ ((pos n -ℤ pos v) *ℤ (pos n -ℤ pos v))
-    go (inl above) =
-        let e : min n r ≡ r = omega arith in
-        rw e (square-le (pos n -ℤ pos r) (pos n -ℤ pos v) (omega (arith, ints)) (omega (arith, ints)))
-    go (inr within) =
-        let none : pos n -ℤ pos (min n r) ≡ pos 0 = omega (arith, ints) in
-        let any = square-not_negative (pos n -ℤ pos v) in
-        rw none (omega (arith, ints))
+clamped-least r (pos n) v h =
+    let none = square-not_negative (pos n -ℤ pos v) in
+    let far = square-le (pos n -ℤ pos r) (pos n -ℤ pos v) in
+    grind (arith, nat_tests, ints)
 
 -- a clamped value is at most r
 pub clamped-le : (r : ℕ) (s : ℤ) → clamped r s ≤ r
-clamped-le r (pos n) = omega arith
-clamped-le r (negsuc n) = omega arith
+clamped-le r s = grind arith
 
 -- within 0 to r nothing is clamped
 pub clamped-same : (r : ℕ) (s : ℤ) → pos 0 ≤ℤ s → s ≤ℤ pos r → pos (clamped r s) ≡ s
-clamped-same r (pos n) low high = omega (arith, ints)
-clamped-same r (negsuc n) low high = absurd (omega (arith, ints))
+clamped-same r s low high = grind (arith, ints)
 
 -- ---- n times a square
 

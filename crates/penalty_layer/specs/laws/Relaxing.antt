@@ -3,35 +3,13 @@
 -- The table costs what the problem's own cost is, where that is whole, and the squares. Where a hard
 -- clause or a constraint is broken, it adds at least the penalty, which lifts the least cost above
 -- the threshold. A cost above the most is above the threshold by itself.
-use Rattle.std.proofs.Common.{◌≡◌, ℕ, ◌+◌, min, max, ◌⊎◌, inl, inr, ℤ, pos, negsuc, ◌+ℤ◌, ◌-ℤ◌, ◌≤ℤ◌, ◌<ℤ◌, int_lt, Bool, true, false, not, ◌||◌, cond, Option, Some, None, unwrap_or, List, [], ◌∷◌, length, map, take, refl, arith, sym, ap, ◌∙◌, subst}
-use Rattle.std.specs.Prelude.{if◌then◌else◌}
-use Rattle.std.specs.List.{list_any, sum_by, flat_map}
-use Rattle.std.proofs.lemmas.Int.{ints}
-use Rattle.std.proofs.lemmas.List.{take_all, length-take, length-append, get_or-take, take-append-le}
-use Rattle.std.proofs.lemmas.List.Sums.{sum_by-cons}
-use Rattle.base.specs.Sums.{total_by, if_so, positive_part}
-use Rattle.base.proofs.Totals.{total_by-append}
-use Rattle.base.specs.declared.costs.Cost.{Cost}
-use Rattle.base.specs.declared.costs.Cost.TheVariants.{Whole, Infinite}
-use Rattle.form_steps.specs.declared.layer.BitsLink.{BitsLink}
-use Rattle.base.specs.Costs.{IsNeverInfinite}
-use Rattle.form_steps.specs.Relations.{Relaxes, Joins, ExtendsLeast}
-use Rattle.form_steps.specs.laws.Plain.{relaxes_in_one}
-use Rattle.form_steps.specs.Links.{first_bits, HasFirstBits}
-use Rattle.problem_form.specs.declared.terms.Clause.{Clause}
-use Rattle.problem_form.specs.declared.terms.Constraint.{Constraint}
-use Rattle.problem_form.specs.Problems.{ProblemContent, sum_of, soft_cost, fails_hard, fails, own_cost, cut_off, problem_cost}
+use Rattle.std.specs.Prelude.{◌≡◌, ◌+◌, ◌⊎◌, ◌+ℤ◌, ◌-ℤ◌, ◌≤ℤ◌, ◌<ℤ◌, ◌||◌, if◌then◌else◌}
+use Rattle.penalty_layer.specs.laws.Common.{ℕ, inl, inr, ℤ, pos, int_lt, Bool, true, false, cond, Option, Some, None, List, length, map, take, refl, arith, sym, ap, ◌∙◌, subst, list_any, sum_by, flat_map, ints, take_all, length-take, length-append, take-append-le, total_by, total_by-append, Cost, Whole, Infinite, BitsLink, IsNeverInfinite, Relaxes, Joins, ExtendsLeast, relaxes_in_one, first_bits, HasFirstBits, Constraint, ProblemContent, sum_of, soft_cost, fails_hard, fails, own_cost, cut_off, problem_cost, cost_size, own_upper, lower, lesser_of, upper, penalty_above, penalty, slack_range, slack_bits, term_cost, terms_cost, terms_cost-with_additions, plain_terms, contributions, clause_term, node_count, image, figures, extension, Fits, product_term, constraint_terms, slack_state, nat_tests, or_cases, length-flat_map, slack_of, Agrees, first_agrees}
 use Rattle.problem_form.specs.Problems as problems
-use Rattle.problem_form.specs.Limits.{cost_size, own_upper, lower, lesser_of, upper, penalty_above, penalty, slack_range, slack_bits}
-use Rattle.term_table.specs.Terms.{term_cost, terms_cost}
 use Rattle.term_table.specs.Tables as tables
-use Rattle.term_table.proofs.Additions.{terms_cost-with_additions}
-use Rattle.penalty_layer.specs.Penalty.{plain_terms, contributions, clause_term, node_count, image, figures, extension, Fits}
 use Rattle.penalty_layer.specs.laws.Violations.{clause_cost, clause_terms_cost, product_terms_cost, clauses_at_least, clauses_not_negative, clauses_soft, soft_costs_upper, sum_lower, sum_upper}
-use Rattle.penalty_layer.specs.Slack.{clamped}
 use Rattle.penalty_layer.specs.laws.SlackValues.{length-value_bits}
-use Rattle.penalty_layer.specs.Squares.{product_term, constraint_terms, slack_state}
-use Rattle.penalty_layer.specs.laws.Agreement.{Agrees, ClausesWithin, products-within, clauses-within, constraints-within, some_holds-agrees, sum_of-agrees, problem_cost-agrees}
+use Rattle.penalty_layer.specs.laws.Agreement.{clauses-agree, sum_of-agrees, problem_cost-agrees}
 use Rattle.penalty_layer.specs.laws.Broken.{squares_cost, constraint_terms-cost, squares_not_negative, squares_at_least, AreClamped, squares_zero, squares_least, extension_clamped}
 
 -- ---- the cost of the table
@@ -68,44 +46,22 @@ broken_lifted : (y : List Bool) (p : ProblemContent)
     → (list_any (fails_hard y) p.clauses || list_any (fails y) p.constraints) ≡ true
     → (lower p +ℤ pos (penalty p)) ≤ℤ terms_cost y (image p).terms
 broken_lifted y p broken =
-    go (list_any (fails_hard y) p.clauses) broken (clauses_at_least y (penalty p) p.clauses)
-  where
-    go : (hard : Bool) → (hard || list_any (fails y) p.constraints) ≡ true
-        → (hard ≡ true → pos (penalty p) ≤ℤ total_by (clause_cost y (penalty p)) p.clauses)
-        → (lower p +ℤ pos (penalty p)) ≤ℤ terms_cost y (image p).terms
-    go true e hard =
-        omega (
-          arith,
-          ints,
-          image_value y p,
-          sum_lower y p.objective,
-          hard refl,
-          squares_not_negative y (penalty p) p.variables p.constraints,
-        )
-    go false e hard =
-        omega (
-          arith,
-          ints,
-          image_value y p,
-          sum_lower y p.objective,
-          clauses_not_negative y (penalty p) p.clauses,
-          squares_at_least y (penalty p) p.variables p.constraints e,
-        )
+    let value = image_value y p in
+    let low = sum_lower y p.objective in
+    let clauses = clauses_not_negative y (penalty p) p.clauses in
+    let squares = squares_not_negative y (penalty p) p.variables p.constraints in
+    elim (or_cases (list_any (fails_hard y) p.clauses) (list_any (fails y) p.constraints) broken) [
+      | inl hard ↦ omega (arith, ints, clauses_at_least y (penalty p) p.clauses hard)
+      | inr off ↦
+          omega (arith, ints, squares_at_least y (penalty p) p.variables p.constraints off)
+    ]
 
 -- The penalty lifts the least cost above the threshold. A gain and one more lift it above all that
 -- there is without the most; where less does, it is lifted above the most.
 lifted_above : (most : Option ℤ) (u : ℤ) (gain : ℕ)
     → lesser_of most u <ℤ ((u -ℤ pos gain) +ℤ pos (penalty_above most (u -ℤ pos gain) gain))
 lifted_above None u gain = omega (arith, ints)
-lifted_above (Some most) u gain = go (int_lt most u) refl (most -ℤ (u -ℤ pos gain) +ℤ pos 1) refl
-  where
-    go : (less : Bool) → int_lt most u ≡ less → (lift : ℤ) → (most -ℤ (u -ℤ pos gain) +ℤ pos 1) ≡ lift
-        → (if less then most else u)
-        <ℤ ((u -ℤ pos gain) +ℤ pos (max 1 (min (gain + 1) (positive_part lift))))
-    go true e (pos n) is = omega (arith, ints)
-    go true e (negsuc n) is = omega (arith, ints)
-    go false e (pos n) is = omega (arith, ints)
-    go false e (negsuc n) is = omega (arith, ints)
+lifted_above (Some most) u gain = grind (arith, nat_tests, ints)
 
 -- so what breaks a hard clause or a constraint lies above the threshold
 broken_above : (y : List Bool) (p : ProblemContent)
@@ -159,19 +115,11 @@ own_value y p v whole =
 
 -- what is at most two numbers is at most the lesser of them
 at_most_lesser : (most u v : ℤ) → v ≤ℤ most → v ≤ℤ u → v ≤ℤ lesser_of (Some most) u
-at_most_lesser most u v low below = go (int_lt most u)
-  where
-    go : (less : Bool) → v ≤ℤ (if less then most else u)
-    go true = low
-    go false = below
+at_most_lesser most u v low below = grind (arith, nat_tests, ints)
 
 -- and the lesser of them is below what is above one
 lesser_below : (most u v : ℤ) → most <ℤ v → lesser_of (Some most) u <ℤ v
-lesser_below most u v above = go (int_lt most u) refl
-  where
-    go : (less : Bool) → int_lt most u ≡ less → (if less then most else u) <ℤ v
-    go true e = above
-    go false e = omega (arith, ints)
+lesser_below most u v above = grind (arith, nat_tests, ints)
 
 -- a cost that is whole once it is cut off is whole before, and as low as what is above it
 whole_is_kept : (most : Option ℤ) (c : Cost) (u v : ℤ) → cut_off most c ≡ Whole v
@@ -226,11 +174,7 @@ infinite_value y p infinite =
 
 -- ---- states and assignments
 
--- a state agrees with its first bits
-first_agrees : (n : ℕ) (y : List Bool) → Agrees n (take n y) y
-first_agrees n y i inside = get_or-take n y i false inside
-
--- it costs the problem what they do
+-- a state costs the problem what its first bits do
 decoded_cost : (link : BitsLink) (p : ProblemContent) (y : List Bool) → Fits link p
     → problem_cost p ((first_bits link).decoded y) ≡ problem_cost p y
 decoded_cost link p y fit =
@@ -247,16 +191,9 @@ decoded_agrees link p x y fit same =
 -- so many slack bits stand after the assignment
 length-bits : (x : List Bool) (ks : List Constraint)
     → length (flat_map (slack_state x) ks) ≡ sum_by slack_bits ks
-length-bits x [] = refl
-length-bits x (k ∷ ks) =
-    let r = slack_range k in
-    omega (
-      arith,
-      length-append (slack_state x k) (flat_map (slack_state x) ks),
-      length-value_bits r (clamped r (sum_of x k.products -ℤ k.bound)),
-      length-bits x ks,
-      sum_by-cons slack_bits k ks,
-    )
+length-bits x ks =
+    length-flat_map (slack_state x) ks
+    ∙ (λ i. sum_by (λ k. length-value_bits (slack_range k) (slack_of x k) i) ks)
 
 -- the extension has a bit for each node
 length-extension : (x : List Bool) (p : ProblemContent) → length x ≡ p.variables
@@ -297,8 +234,7 @@ extension_value link p x v fit width whole =
     let value = whole_value y p v cost in
     let none =
     squares_zero x y (penalty p) p.variables p.variables p.constraints
-    (decoded_agrees link p x y fit decoded)
-    (constraints-within p.variables p.constraints fit.normal.constraints) value.2
+    (decoded_agrees link p x y fit decoded) fit.normal.constraints value.2
     (clamped_extension x p width) in
     omega (arith, ints, value.0, none)
 
@@ -334,14 +270,6 @@ penalty_relaxes link p fit = relaxes_in_one (record {
   onto = λ x w. (extension p x, length-extension x p w, decoded_extension link p x fit w);
 })
 
--- of two states that decode to one assignment, the clauses cost the same
-clause-agrees : (n m : ℕ) (x y : List Bool) (cs : List Clause) → Agrees m x y → ClausesWithin m cs
-    → total_by (clause_cost x n) cs ≡ total_by (clause_cost y n) cs
-clause-agrees n m x y [] same below = refl
-clause-agrees n m x y (c ∷ cs) same below =
-    λ i. if_so (not (some_holds-agrees m x y c.literals same below.0 i)) (pos (unwrap_or c.weight n))
-    +ℤ clause-agrees n m x y cs same below.1 i
-
 -- No state that decodes to an assignment costs less than its extension. Their clauses and objective
 -- cost the same, and the extension's squares are least.
 extension_least : (link : BitsLink) (p : ProblemContent) (x z : List Bool) → Fits link p
@@ -352,19 +280,17 @@ extension_least link p x z fit width same =
     let n = p.variables in
     let at_y = decoded_agrees link p x y fit (decoded_extension link p x fit width) in
     let at_z = decoded_agrees link p x z fit same in
-    let products = products-within n p.objective fit.normal.objective in
-    let clauses = clauses-within n p.clauses fit.normal.clauses in
-    let constraints = constraints-within n p.constraints fit.normal.constraints in
+    let normal = fit.normal in
     omega (
       arith,
       ints,
       image_value y p,
       image_value z p,
-      sum_of-agrees n x y p.objective at_y products,
-      sum_of-agrees n x z p.objective at_z products,
-      clause-agrees (penalty p) n x y p.clauses at_y clauses,
-      clause-agrees (penalty p) n x z p.clauses at_z clauses,
-      squares_least x y z (penalty p) n n p.constraints at_y at_z constraints
+      sum_of-agrees n x y p.objective at_y normal.objective,
+      sum_of-agrees n x z p.objective at_z normal.objective,
+      clauses-agree (penalty p) n x y p.clauses at_y normal.clauses,
+      clauses-agree (penalty p) n x z p.clauses at_z normal.clauses,
+      squares_least x y z (penalty p) n n p.constraints at_y at_z normal.constraints
           (clamped_extension x p width),
     )
 

@@ -2,13 +2,8 @@
 --
 -- With w digits the first w - 1 weights reach 0 to 2 ^ (w - 1) - 1, and the last one moves that
 -- range up to r. The two ranges meet or overlap, since the last weight is at most 2 ^ (w - 1).
-use Rattle.std.proofs.Common.{◌≡◌, ◌≢◌, ℕ, zero, suc, ◌+◌, ◌-◌, ◌*◌, ◌/◌, ◌%◌, ◌^◌, ◌<◌, ◌≤◌, Bool, true, false, cond, ltb, refl, ap, arith, List, [], ◌∷◌, ◌++◌, length, get_or}
-use Rattle.std.specs.Prelude.{◌==◌, if◌then◌else◌}
-use Rattle.std.specs.Bool.{Decides}
-use Rattle.std.proofs.lemmas.Bool.Decides.{Decides-eqb, Decides-ltb}
-use Rattle.problem_form.specs.Limits.{binary_digits}
-use Rattle.problem_form.proofs.BinaryDigits.{digits_are_least}
-use Rattle.penalty_layer.specs.Slack.{doubled, last_weight, weights_for, slack_weights, slack_value, digit_bits, bits_for, value_bits}
+use Rattle.std.specs.Prelude.{◌≡◌, ◌+◌, ◌-◌, ◌*◌, ◌/◌, ◌%◌, ◌^◌, ◌<◌, ◌≤◌, ◌∷◌, ◌++◌, ◌==◌}
+use Rattle.penalty_layer.specs.laws.Common.{ℕ, zero, suc, Bool, true, false, cond, ltb, refl, ap, arith, List, [], length, get_or, binary_digits, digits_are_least, doubled, last_weight, weights_for, slack_weights, slack_value, digit_bits, bits_for, value_bits, nat_tests, cases_lt, inl, inr}
 
 -- ---- how many digits there are
 
@@ -35,18 +30,11 @@ HasDigits-binary_digits r = go (binary_digits r) (digits_are_least r).0 (digits_
 -- doubled weights from b on reach at most what their sum is
 doubled-le : (y : List Bool) (first b m last : ℕ)
     → slack_value y first (doubled b m last) + b ≤ b * 2 ^ m + last
-doubled-le y first b zero last = go (get_or y first false)
-  where
-    go : (t : Bool) → cond t last 0 + 0 + b ≤ b * 2 ^ 0 + last
-    go true = omega arith
-    go false = omega arith
+doubled-le y first b zero last = grind (arith, nat_tests)
 doubled-le y first b (suc m) last =
-    go (get_or y first false) (doubled-le y (suc first) (2 * b) m last)
-  where
-    go : (t : Bool) → slack_value y (suc first) (doubled (2 * b) m last) + 2 * b ≤ 2 * b * 2 ^ m + last
-        → cond t b 0 + slack_value y (suc first) (doubled (2 * b) m last) + b ≤ b * 2 ^ suc m + last
-    go true h = omega (arith, h, ap (λ x. b * x) (power_next m))
-    go false h = omega (arith, h, ap (λ x. b * x) (power_next m))
+    let rest = doubled-le y (suc first) (2 * b) m last in
+    let power = ap (λ x. b * x) (power_next m) in
+    grind (arith, nat_tests)
 
 -- No state gives the slack a value above r. This is one half of reaching exactly 0 to r.
 pub slack_value-le : (y : List Bool) (first r : ℕ) → slack_value y first (slack_weights r) ≤ r
@@ -82,16 +70,10 @@ HasBits-middle (x ∷ xs) bs rest =
 
 -- a digit of 0 or 1 counts as much as its bit
 digit_times : (b d : ℕ) → d < 2 → cond (d == 1) b 0 ≡ b * d
-digit_times b d h = go (d == 1) (Decides-eqb d 1)
-  where
-    go : (t : Bool) → Decides t (d ≡ 1) → cond t b 0 ≡ b * d
-    go true e = let one = e.0 refl in omega (arith, ap (λ x. b * x) one)
-    go false e =
-        let none : d ≡ 0 = zero_or_one d h (λ one. let yes = e.1 one in cc) in
-        omega (arith, ap (λ x. b * x) none)
-      where
-        zero_or_one : (d : ℕ) → d < 2 → d ≢ 1 → d ≡ 0
-        zero_or_one d h other = omega arith
+digit_times b d h = elim (cases_lt d 1) [
+  | inl none ↦ let same : d ≡ 0 = omega arith in rw same (omega arith)
+  | inr one ↦ let same : d ≡ 1 = omega arith in rw same (omega arith)
+]
 
 -- a number is its lowest digit, and twice what is left
 first_digit : (b v : ℕ) → cond (v % 2 == 1) b 0 + 2 * b * (v / 2) ≡ b * v
@@ -119,28 +101,21 @@ pub slack_reaches : (y : List Bool) (first r v : ℕ) → v ≤ r → HasBits y 
     → slack_value y first (slack_weights r) ≡ v
 slack_reaches y first r v within = go (binary_digits r) (HasDigits-binary_digits r)
   where
-    by_last : (m : ℕ) (t : Bool) → Decides t (2 ^ m - 1 < v) → 2 ^ m ≤ r → r < 2 ^ suc m
-        → HasBits y first (digit_bits m (if t then v - last_weight r m else v) t)
-        → slack_value y first (doubled 1 m (last_weight r m)) ≡ v
-    by_last m true d low high bits =
-        let far = d.0 refl in
-        let small : v - last_weight r m < 2 ^ m = omega (arith, power_next m) in
-        omega (
-          arith,
-          power_next m,
-          doubled-reach y first 1 m (v - last_weight r m) (last_weight r m) true small bits,
-        )
-    by_last m false d low high bits =
-        let near : v < 2 ^ m = not_far m low high (λ e. let yes = d.1 e in cc) in
-        omega (arith, doubled-reach y first 1 m v (last_weight r m) false near bits)
-      where
-        not_far : (m : ℕ) → 2 ^ m ≤ r → r < 2 ^ suc m → ¬ (2 ^ m - 1 < v) → v < 2 ^ m
-        not_far m low high near = omega (arith, power_next m)
-
     go : (w : ℕ) → HasDigits r w → HasBits y first (bits_for r w v)
         → slack_value y first (weights_for r w) ≡ v
     go zero h bits = omega arith
-    go (suc m) h bits = by_last m (ltb (2 ^ m - 1) v) (Decides-ltb (2 ^ m - 1) v) h.0 h.1 bits
+    go (suc m) h bits =
+        let low = h.0 in
+        let high = h.1 in
+        let power = power_next m in
+        let last = last_weight r m in elim (cases_lt (2 ^ m - 1) v) [
+          | inl far ↦
+              let e : ltb (2 ^ m - 1) v ≡ true = grind (arith, nat_tests) in
+              omega (arith, doubled-reach y first 1 m (v - last) last true (omega arith) (rw e at bits))
+          | inr near ↦
+              let e : ltb (2 ^ m - 1) v ≡ false = grind (arith, nat_tests) in
+              omega (arith, doubled-reach y first 1 m v last false (omega arith) (rw e at bits))
+        ]
 
 -- ---- how many there are
 

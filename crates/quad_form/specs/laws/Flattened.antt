@@ -2,25 +2,18 @@
 --
 -- Terms cost what they are multiplied out to, a table of sums costs what was added, and a term adds
 -- to the quadratic form where it is placed exactly what it costs.
-use Rattle.std.specs.Prelude.{◌≡◌, ℕ, zero, suc, ◌+◌, ◌<◌, ◌≤◌, ℤ, pos, neg_ℤ, ◌+ℤ◌, Bool, true, false, not, cond, ◌&&◌, ◌||◌, List, [], ◌∷◌, ◌++◌, length, All, replicate, slice_set, if◌then◌else◌}
-use Rattle.std.specs.List.{AllByRecursion, fold, slice_index_or}
+use Rattle.term_table.proofs.Common.{nat_tests, ℕ, zero, suc, ℤ, pos, neg_ℤ, Bool, true, false, cond, List, [], length, All, replicate, AllByRecursion, fold, arith, ap, sym, ◌∙◌, refl, subst, ints, All-nil, All-append, All-head, All-tail, All-from_recursion, recursion_from_All, total_by, if_so, total_by-append, all_hold, are_opposite, IsLiteralSet, Term, terms_cost, with_additions, IsTermSet, TableContent, IsTable, IsLow, plain, with_front, plain_terms, contributions, Literal}
+use Rattle.std.specs.Prelude.{not, ◌&&◌, slice_set, ◌≡◌, ◌+◌, ◌<◌, ◌≤◌, ◌+ℤ◌, ◌||◌, ◌∷◌, ◌++◌, if◌then◌else◌}
+use Rattle.std.specs.List.{slice_index_or}
 use Rattle.std.specs.List.Sorted.{IsStrictlySortedBy}
-use Rattle.std.proofs.Common.{arith, ap, sym, ◌∙◌, refl, subst}
-use Rattle.std.proofs.lemmas.Int.{ints}
 use Rattle.std.proofs.lemmas.List.{length-set, length-replicate}
-use Rattle.std.proofs.lemmas.List.Elements.{All-nil, All-append, All-head, All-tail, All-from_recursion, recursion_from_All}
-use Rattle.base.specs.Sums.{total_by, if_so}
-use Rattle.base.proofs.Totals.{total_by-append, total_by_push}
+use Rattle.base.proofs.Totals.{total_by_push}
 use Rattle.form_steps.specs.declared.layer.BitsLink.{BitsLink}
 use Rattle.base.specs.Costs.{IsNeverInfinite}
 use Rattle.bits_model.specs.Output.{bit_at, bits_energy}
 use Rattle.form_steps.specs.Relations.{Keeps, Extends, Joins}
-use Rattle.literal_lists.specs.declared.literal.Literal.{Literal}
-use Rattle.literal_lists.specs.Literals.{all_hold, are_opposite, IsLiteralSet}
-use Rattle.term_table.specs.Terms.{Term, term_cost, terms_cost, with_additions, IsTermSet}
-use Rattle.term_table.specs.Tables.{TableContent, IsTable, IsLow}
+use Rattle.term_table.specs.Terms.{term_cost}
 use Rattle.term_table.specs.Tables as tables
-use Rattle.term_table.specs.MultipliedOut.{plain, with_front, plain_terms, contributions}
 use Rattle.term_table.specs.laws.MultipliedOut.{terms_cost-contributions}
 use Rattle.term_table.proofs.SmallSets.{in_order}
 use Rattle.term_table.proofs.Additions.{terms_cost-with_additions}
@@ -35,13 +28,7 @@ pub two_in_order : (width : ℕ) (l k : Literal) → IsLiteralSet width (l ∷ k
     → l.variable < k.variable
 unfolding IsStrictlySortedBy
 two_in_order width l k set =
-    in_order l k set.ordered.0.0
-    (none_opposite (are_opposite l l) (are_opposite l k) _ set.apart)
-  where
-    none_opposite : (a b c : Bool) → ((a || (b || false)) || c) ≡ false → b ≡ false
-    none_opposite a false c none = refl
-    none_opposite true true c none = cc
-    none_opposite false true c none = cc
+    let apart = set.apart in in_order l k set.ordered.0.0 (grind (arith, nat_tests))
 
 -- all terms have such sets
 abbrev AreFlat : ℕ → List Term → Type 0
@@ -127,37 +114,20 @@ node_grown : (y : List Bool) (n i node : ℕ) (ws : List ℤ) (c : ℤ) → i < 
 node_grown y n i node [] c in' same = absurd (omega arith)
 node_grown y n zero node (w ∷ ws) c in' same =
     let first : n ≡ node = omega arith in
-    let bit : if_so (bit_at y n) c ≡ if_so (bit_at y node) c =
-    ap (λ k. if_so (bit_at y k) c) first in
-    omega (arith, ints, bit, grown (bit_at y n) w c)
-  where
-    grown : (b : Bool) (w c : ℤ) → if_so (b && b) (w +ℤ c) ≡ if_so (b && b) w +ℤ if_so b c
-    grown true w c = refl
-    grown false w c = refl
+    let bit = ap (bit_at y) first in
+    grind (arith, nat_tests, ints)
 node_grown y n (suc i) node (w ∷ ws) c in' same =
     omega (arith, ints, node_grown y (suc n) i node ws c (omega arith) (omega arith))
 
 -- a set of one variable is true where its bit is 1
 all_hold-one : (y : List Bool) (l : Literal) → l.negated ≡ false
     → all_hold y (l ∷ []) ≡ bit_at y l.variable
-all_hold-one y l is = go l.negated (bit_at y l.variable) is
-  where
-    go : (n v : Bool) → n ≡ false → (cond n (not v) v && true) ≡ v
-    go true v is = cc
-    go false true is = refl
-    go false false is = refl
+all_hold-one y l is = grind (arith, nat_tests)
 
 -- a set of two where both bits are
 all_hold-two : (y : List Bool) (l k : Literal) → l.negated ≡ false → k.negated ≡ false
     → all_hold y (l ∷ k ∷ []) ≡ (bit_at y l.variable && bit_at y k.variable)
-all_hold-two y l k is ks =
-    go l.negated (bit_at y l.variable) is (all_hold-one y k ks)
-  where
-    go : (n v : Bool) → n ≡ false → all_hold y (k ∷ []) ≡ bit_at y k.variable
-        → (cond n (not v) v && all_hold y (k ∷ [])) ≡ (v && bit_at y k.variable)
-    go true v is same = cc
-    go false true is same = same
-    go false false is same = refl
+all_hold-two y l k is ks = grind (arith, nat_tests)
 
 -- a placed term adds no node
 pub length-with_term : (q : QuadContent) (t : Term)
@@ -204,12 +174,11 @@ quad_value-fold : (y : List Bool) (q : QuadContent) (width : ℕ) (ts : List Ter
     → quad_value (fold with_term q ts) y ≡ quad_value q y +ℤ terms_cost y ts
 quad_value-fold y q width [] same flat = omega (arith, ints)
 quad_value-fold y q width (t ∷ ts) same flat =
-    let P : ℕ → Type 0 = λ n. IsFlat n t.0 in
     omega (
       arith,
       ints,
       quad_value-fold y (with_term q t) width ts (length-with_term q t ∙ same) flat.1,
-      quad_value-with_term y q t.0 t.1 (subst P (sym same) flat.0),
+      quad_value-with_term y q t.0 t.1 (rw same flat.0),
     )
 
 -- a form of zeros has the value 0
@@ -217,11 +186,7 @@ quad_value-zero : (y : List Bool) (n width : ℕ)
     → total_by (bits_energy y) (node_entries n (replicate width (pos 0)) ++ []) ≡ pos 0
 quad_value-zero y n zero = refl
 quad_value-zero y n (suc width) =
-    omega (arith, ints, quad_value-zero y (suc n) width, nothing (bit_at y n && bit_at y n))
-  where
-    nothing : (b : Bool) → if_so b (pos 0) ≡ pos 0
-    nothing true = refl
-    nothing false = refl
+    let rest = quad_value-zero y (suc n) width in grind (arith, nat_tests, ints)
 
 -- ---- the layer's laws
 

@@ -1,22 +1,8 @@
 -- One substitution never lowers a cost, and keeps it where the new node is the product of the pair.
 -- Nothing here has to be believed.
-use Rattle.std.specs.Prelude.{◌≡◌, ℕ, ◌+◌, Bool, true, false, not, cond, ◌&&◌, ◌||◌, List, [], ◌∷◌, ◌++◌, map, pos, ◌+ℤ◌, ◌≤ℤ◌, unsigned_abs, neg_ℤ, ◌*◌}
-use Rattle.std.specs.List.{filter, slice_index_or}
-use Rattle.std.specs.Ordering.{is_eq, ordering_then}
-use Rattle.std.specs.declared.cmp.Ordering.{Ordering}
-use Rattle.std.specs.declared.cmp.Ordering.TheVariants.{Equal}
-use Rattle.std.proofs.Common.{arith, sym, ap, ◌∙◌, refl, inl, inr}
-use Rattle.std.proofs.lemmas.Int.{ints}
-use Rattle.base.specs.Sums.{if_so}
-use Rattle.base.proofs.Totals.{total_by-append}
-use Rattle.literal_lists.specs.declared.literal.Literal.{Literal}
-use Rattle.literal_lists.specs.Literals.{holds, all_hold, literal_cmp}
-use Rattle.term_table.specs.Terms.{Term, term_cost, terms_cost}
-use Rattle.term_table.proofs.Additions.{terms_total-cons}
-use Rattle.term_table.proofs.SetOrder.{same_set}
-use Rattle.rosenberg_layer.specs.Rosenberg.{Pair, is_literal, has_literal, without, has_pair, new_term, pair_total, tie_terms, replaced}
+use Rattle.std.specs.Prelude.{◌||◌, ◌*◌, ◌≡◌, ◌+◌, ◌&&◌, ◌∷◌, ◌++◌, ◌+ℤ◌, ◌≤ℤ◌}
+use Rattle.rosenberg_layer.specs.laws.Common.{sym, not, if_so, neg_ℤ, ℕ, Bool, true, false, cond, List, [], map, pos, unsigned_abs, filter, slice_index_or, is_eq, ordering_then, Ordering, Equal, arith, ap, ◌∙◌, refl, inl, inr, ints, total_by-append, Literal, holds, all_hold, literal_cmp, Term, term_cost, terms_cost, terms_total-cons, same_set, Pair, is_literal, has_literal, without, has_pair, new_term, pair_total, tie_terms, replaced, nat_tests}
 use Rattle.rosenberg_layer.specs.laws.Ties.{tie, tie-zero, tie-apart, same_or_not, other_factor}
-use Rattle.std.proofs.lemmas.Bool.Decides.{nat_tests}
 
 -- ---- a literal taken out of a set
 

@@ -2,26 +2,10 @@
 --
 -- Each substitution keeps the cost of a state whose new bit is the product of the pair, and lowers
 -- that of no state. New bits stand after the old ones, so the first bits are those of the assignment.
-use Rattle.std.specs.Prelude.{◌≡◌, ℕ, zero, suc, ◌<◌, ◌≤◌, Bool, false, not, cond, ◌&&◌, List, [], ◌∷◌, ◌++◌, length, take, get_or, fold, pos, ◌+ℤ◌, ◌≤ℤ◌, Option, Some, None}
-use Rattle.std.specs.List.{AllByRecursion}
-use Rattle.std.proofs.Common.{arith, sym, ap, ◌∙◌, refl, subst}
-use Rattle.std.proofs.lemmas.Bool.Decides.{nat_tests}
-use Rattle.std.proofs.lemmas.Int.{ints}
-use Rattle.std.proofs.lemmas.List.{get_or_append_left, get_or_push, length_push, length-take, get_or-take, take-append-le, take_all}
-use Rattle.std.proofs.lemmas.List.Elements.{recursion_from_All}
-use Rattle.base.specs.Sums.{if_so}
-use Rattle.form_steps.specs.declared.layer.BitsLink.{BitsLink}
-use Rattle.base.specs.Costs.{IsNeverInfinite}
-use Rattle.form_steps.specs.Relations.{Keeps, Extends, Joins}
-use Rattle.form_steps.specs.Links.{first_bits, HasFirstBits}
-use Rattle.literal_lists.specs.declared.literal.Literal.{Literal}
-use Rattle.literal_lists.specs.Literals.{holds, all_hold}
-use Rattle.term_table.specs.Terms.{Term, terms_cost, IsTermSet}
-use Rattle.term_table.specs.Tables.{TableContent, form_of}
-use Rattle.term_table.proofs.Additions.{terms_cost-with_additions}
-use Rattle.rosenberg_layer.specs.Rosenberg.{node, Pair, next_pair, replaced, with_pair, with_next, substituted, run, excess, image, next_before, pairs_of, with_product, extension, Fits}
+use Rattle.std.specs.Prelude.{◌≡◌, ◌≤◌, ◌&&◌, ◌∷◌, ◌++◌, ◌≤ℤ◌}
+use Rattle.rosenberg_layer.specs.laws.Common.{ℕ, zero, suc, Bool, false, List, [], length, take, get_or, fold, pos, Option, Some, None, arith, sym, ◌∙◌, refl, subst, nat_tests, ints, get_or_push, length_push, length-take, take-append-le, take_all, BitsLink, IsNeverInfinite, Keeps, Extends, Joins, first_bits, HasFirstBits, holds, terms_cost, TableContent, form_of, terms_cost-with_additions, node, Pair, next_pair, replaced, with_pair, with_next, substituted, run, excess, image, next_before, pairs_of, with_product, extension, Fits, Agrees, first_agrees, longer_agrees, holds-agrees, terms_cost-agrees}
 use Rattle.rosenberg_layer.specs.laws.Costs.{product, replaced-le, replaced-same}
-use Rattle.rosenberg_layer.specs.laws.Sets.{Within, IsPair, IsSound, IsSound-substituted, found_in, pair_differs}
+use Rattle.rosenberg_layer.specs.laws.Sets.{IsPair, IsSound, IsSound-substituted, found_in, pair_differs}
 
 -- ---- no state costs less
 
@@ -53,41 +37,6 @@ run-le y (suc k) t sound =
       run-le y k (substituted t) (IsSound-substituted t sound),
     )
 
--- ---- two states that agree on the first bits
-
--- the first n bits of the two states are the same
-abbrev pub Agrees : ℕ → List Bool → List Bool → Type 0
-Agrees n x y = (i : ℕ) → i < n → get_or x i false ≡ get_or y i false
-
--- the variables of all terms lie below n
-abbrev pub AllWithin : ℕ → List Term → Type 0
-AllWithin n ts = AllByRecursion (λ t. Within n t.0) ts
-
-holds-agrees : (n : ℕ) (x y : List Bool) (l : Literal) → Agrees n x y → l.variable < n
-    → holds x l ≡ holds y l
-holds-agrees n x y l same below = ap (λ v. cond l.negated (not v) v) (same l.variable below)
-
-all_hold-agrees : (n : ℕ) (x y : List Bool) (ls : List Literal) → Agrees n x y → Within n ls
-    → all_hold x ls ≡ all_hold y ls
-all_hold-agrees n x y [] same below = refl
-all_hold-agrees n x y (l ∷ ls) same below =
-    λ i. holds-agrees n x y l same below.0 i && all_hold-agrees n x y ls same below.1 i
-
-cost-agrees : (n : ℕ) (x y : List Bool) (ts : List Term) → Agrees n x y → AllWithin n ts
-    → terms_cost x ts ≡ terms_cost y ts
-cost-agrees n x y [] same below = refl
-cost-agrees n x y (t ∷ ts) same below =
-    λ i. if_so (all_hold-agrees n x y t.0 same below.0 i) t.1
-    +ℤ cost-agrees n x y ts same below.1 i
-
-within_width : (t : TableContent) → IsSound t → AllWithin t.width t.terms
-within_width t sound = go t.terms (recursion_from_All _ _ sound.sets)
-  where
-    go : (ts : List Term) → AllByRecursion (λ (u : Term). IsTermSet t.width u.0) ts
-        → AllWithin t.width ts
-    go [] sets = tt
-    go (u ∷ us) sets = (recursion_from_All _ _ sets.0.set.within, go us sets.1)
-
 -- ---- one more bit
 
 product-agrees : (n : ℕ) (x y : List Bool) (pair : Pair) → Agrees n x y → IsPair n pair
@@ -98,9 +47,6 @@ product-agrees n x y pair same ok =
     λ i. holds-agrees n x y pair.0 same (omega arith) i
     && holds-agrees n x y pair.1 same inside i
 
-pushed_agrees : (y : List Bool) (b : Bool) → Agrees (length y) y (y ++ b ∷ [])
-pushed_agrees y b = λ i inside. sym (get_or_append_left y (b ∷ []) false i inside)
-
 -- a state with the product of the pair costs as much as before
 with_pair_reach : (t : TableContent) (pair : Pair) (y : List Bool) → IsSound t → IsPair t.width pair
     → length y ≡ t.width
@@ -109,14 +55,14 @@ with_pair_reach t pair y sound ok width =
     let b = product y pair in
     let z = y ++ b ∷ [] in
     let agrees : Agrees t.width y z =
-    subst (λ n. Agrees n y z) width (pushed_agrees y b) in
+    subst (λ n. Agrees n y z) width (longer_agrees y (b ∷ [])) in
     let bit : get_or z t.width false ≡ b = get_or_push y b false t.width width in
     let tied : holds z (node t.width) ≡ product z pair =
     bit ∙ product-agrees t.width y z pair agrees ok in
     let differ = pair_differs t.width pair ok in
     terms_cost-with_additions z (replaced pair (node t.width) t.terms)
     ∙ sym (replaced-same z pair (node t.width) t.terms differ tied)
-    ∙ sym (cost-agrees t.width y z t.terms agrees (within_width t sound))
+    ∙ sym (terms_cost-agrees t.width y z t.terms agrees sound.sets)
 
 -- ---- all bits
 
@@ -182,11 +128,10 @@ link_of k t = record { source_width = t.width; target_width = (run k t).width }
 run_bound : (k : ℕ) (t : TableContent) (y : List Bool) → IsSound t
     → terms_cost (take t.width y) t.terms ≤ℤ terms_cost y (run k t).terms
 run_bound k t y sound =
-    let agrees : Agrees t.width (take t.width y) y = λ i l. get_or-take t.width y i false l in
     omega (
       arith,
       ints,
-      cost-agrees t.width (take t.width y) y t.terms agrees (within_width t sound),
+      terms_cost-agrees t.width (take t.width y) y t.terms (first_agrees t.width y) sound.sets,
       run-le y k t sound,
     )
 

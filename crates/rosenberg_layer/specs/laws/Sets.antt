@@ -1,24 +1,7 @@
 -- A substitution leaves terms in order, of literal sets of one more variable. Nothing here has to be
 -- believed.
-use Rattle.std.specs.Prelude.{◌≡◌, ℕ, zero, suc, ◌+◌, ◌<◌, ◌≤◌, Bool, true, not, List, [], ◌∷◌, ◌++◌, map, length, get_or, Option, Some, None, All}
-use Rattle.std.specs.List.{AllByRecursion, filter, list_any}
-use Rattle.std.specs.List.Sorted.{IsStrictlySortedBy}
-use Rattle.std.specs.Ordering.{is_eq, bool_cmp, ordering_then}
-use Rattle.std.specs.Cmp.{nat_cmp_is}
-use Rattle.std.specs.declared.cmp.Ordering.TheVariants.{Less}
-use Rattle.std.proofs.Common.{arith, sym, ap, refl, subst}
-use Rattle.std.proofs.lemmas.Bool.Decides.{nat_tests}
-use Rattle.std.proofs.lemmas.List.{length-append}
-use Rattle.std.proofs.lemmas.Cmp.{tied_itself}
-use Rattle.std.proofs.lemmas.List.Elements.{All-append, All-from_recursion, recursion_from_All}
-use Rattle.literal_lists.specs.declared.literal.Literal.{Literal}
-use Rattle.literal_lists.specs.Literals.{literal_cmp, IsLiteralSet}
-use Rattle.literal_lists.proofs.LiteralSets.{Rises, no_clash, literal_total}
-use Rattle.term_table.specs.Terms.{Term, AreTerms, IsTermSet}
-use Rattle.term_table.specs.Tables.{TableContent}
-use Rattle.term_table.proofs.KeptTerms.{OfSet, AreTerms-with_additions}
-use Rattle.term_table.proofs.SmallSets.{IsBelow, Ascend, IsLiteralSet-ascends, IsTermSet-one, IsTermSet-two, IsTermSet-wider}
-use Rattle.rosenberg_layer.specs.Rosenberg.{node, Pair, is_literal, has_literal, without, is_long, has_pair, new_term, pair_total, tie_terms, replaced, with_pair, front_pair, next_pair, with_next, substituted, run}
+use Rattle.std.specs.Prelude.{◌≡◌, ◌+◌, ◌<◌, ◌≤◌, ◌∷◌, ◌++◌}
+use Rattle.rosenberg_layer.specs.laws.Common.{ℕ, zero, suc, Bool, true, not, List, [], map, length, get_or, Option, Some, None, All, AllByRecursion, filter, list_any, IsStrictlySortedBy, is_eq, bool_cmp, ordering_then, nat_cmp_is, Less, arith, sym, ap, refl, subst, nat_tests, length-append, tied_itself, All-append, All-from_recursion, recursion_from_All, Literal, literal_cmp, IsLiteralSet, Rises, no_clash, literal_total, Term, AreTerms, IsTermSet, TableContent, OfSet, AreTerms-with_additions, IsBelow, Ascend, IsLiteralSet-ascends, IsTermSet-one, IsTermSet-two, IsTermSet-wider, node, Pair, is_literal, has_literal, without, is_long, has_pair, new_term, pair_total, tie_terms, replaced, with_pair, front_pair, next_pair, with_next, substituted, run}
 use Rattle.rosenberg_layer.specs.laws.Costs.{literal_same, rest_of, Differ, three_true, has-without}
 
 -- ---- literals whose variables rise are a set
@@ -49,10 +32,8 @@ rises_at (l ∷ k ∷ ks) up zero d h = up.0.0
 rises_at (l ∷ k ∷ ks) up (suc i) d h = rises_at (k ∷ ks) up.1 i d (omega arith)
 
 rises : (ls : List Literal) → Ascend ls → Rises ls (length ls)
-rises ls up = λ i d h.
-    let place : suc i ≡ i + 1 = omega arith in
-    subst (λ n. (get_or ls i d).variable < (get_or ls n d).variable) place
-    (rises_at ls up i d (omega arith))
+rises ls up i d h =
+    let place : suc i ≡ i + 1 = omega arith in rw (← place) (rises_at ls up i d (omega arith))
 
 -- literals whose variables rise and lie below the width are a literal set
 pub IsLiteralSet-from_ascend : (width : ℕ) (ls : List Literal) → Ascend ls → Within width ls

@@ -1,10 +1,7 @@
 -- A tie of a node to the product of two literals: it costs nothing where the node is the product,
 -- and at least the tie's weight elsewhere. Nothing here has to be believed.
-use Rattle.std.specs.Prelude.{ℤ, ℕ, pos, ◌+ℤ◌, neg_ℤ, ◌*◌, Bool, ◌&&◌, ◌≤ℤ◌, ◌≡◌, ◌≢◌, true, false, unsigned_abs}
-use Rattle.std.proofs.Common.{arith, refl, ◌⊎◌, inl, inr}
-use Rattle.std.proofs.lemmas.Bool.Decides.{nat_tests}
-use Rattle.std.proofs.lemmas.Int.{ints}
-use Rattle.base.specs.Sums.{if_so}
+use Rattle.std.specs.Prelude.{◌+ℤ◌, ◌*◌, ◌&&◌, ◌≤ℤ◌, ◌≡◌, ◌≢◌, ◌⊎◌}
+use Rattle.rosenberg_layer.specs.laws.Common.{ℤ, ℕ, pos, neg_ℤ, Bool, true, false, unsigned_abs, arith, refl, inl, inr, nat_tests, ints, if_so}
 
 -- m * (p q - 2 p w - 2 q w + 3 w)
 abbrev pub tie : ℕ → Bool → Bool → Bool → ℤ
