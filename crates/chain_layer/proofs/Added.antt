@@ -53,8 +53,7 @@ added_more n es e within =
     let here = get_or-map-range_with_len (field_at es) 0 n k k (pos 0) l (omega arith) in
     let same = get_or-set_same old e.first (get_or old e.first (pos 0) +ℤ e.weight) (pos 0) in
     let other = get_or-set_other old e.first k (get_or old e.first (pos 0) +ℤ e.weight) (pos 0) in
-    let push = field_at-push es e k in
-    grind (arith, nat_tests, ints))
+    let push = field_at-push es e k in grind (arith, nat_tests, ints))
 
 fold_added : (n : ℕ) (es ds : List Entry) → AllByRecursion (λ e. e.first < n) ds
     → fold added (map (field_at es) (range_with_len 0 n)) ds ≡ map (field_at (es ++ ds)) (range_with_len 0 n)
@@ -116,8 +115,7 @@ sum_within f k (suc n) h =
     let up : suc n ≡ n + 1 = omega arith in
     let rest = sum_within f k n in
     let more = sum_range f n in
-    let cases = cases_eq k (suc n) in
-    grind (arith, nat_tests)
+    let cases = cases_eq k (suc n) in grind (arith, nat_tests)
 
 -- ---- node by node
 
@@ -161,8 +159,7 @@ first_strength hs xs i same =
     let past = get_or_past (map (λ h. unsigned_abs h + 1) hs) i 0 in
     let long = length-map hs (λ (h : ℤ). unsigned_abs h + 1) in
     let here = at_map (λ h. unsigned_abs h + 1) hs i in
-    let within = weights_within hs i (pos 0) in
-    rw same (grind arith)
+    let within = weights_within hs i (pos 0) in rw same (grind arith)
 
 -- a list after its items were changed as those of a slice
 pub changed : {X : Type 0} (xs ys : List X) (n : ℕ) → length xs ≡ n → length ys ≡ n

@@ -2,7 +2,7 @@
 --
 -- What is put together so far is in order before each of the two lists that are left. The lesser of
 -- their next entries is in order before both of them.
-use Rattle.chain_layer.proofs.Common.{◌≡◌, ℕ, zero, suc, ◌-◌, ◌<◌, ◌≤◌, ◌^◌, List, [], ◌∷◌, ◌++◌, length, get_or, refl, sym, ap, subst, ◌∙◌, arith, append_assoc, IsPermutation, IsNonDecreasingBy, IsPermutation-append_comm, IsPermutation-append_right, IsPermutation-trans, Entry, pair_number, placed, place_number, AreFrom, AreAbove, AreOrdered}
+use Rattle.chain_layer.proofs.Common.{◌≡◌, ℕ, zero, suc, ◌+◌, ◌-◌, ◌<◌, ◌≤◌, ◌^◌, List, [], ◌∷◌, ◌++◌, length, get_or, refl, sym, ap, subst, ◌∙◌, arith, append_assoc, IsPermutation, IsNonDecreasingBy, IsNonDecreasingBy-from_all_adjacent, AllAdjacentBelow, IsPermutation-append_comm, IsPermutation-append_right, IsPermutation-trans, Entry, pair_number, placed, place_number, AreFrom, AreAbove, AreOrdered}
 
 pub from_least : (n m : ℕ) (es : List Entry) → n ≤ m → AreFrom m es → AreFrom n es
 from_least n m [] less from = tt
@@ -33,22 +33,18 @@ ordered_from_sorted (e ∷ f ∷ es) sorted = (
   ordered_from_sorted (f ∷ es) (λ i j d le in'. sorted (suc i) (suc j) d (omega (arith, le)) (omega (arith, in'))),
 )
 
-from_first : (n : ℕ) (es : List Entry) → AreFrom n es → AreOrdered es → (j : ℕ) (d : Entry)
-    → j < length es → n ≤ pair_number (get_or es j d)
-from_first n [] from ordered j d in' = absurd (omega (arith, in'))
-from_first n (e ∷ es) from ordered zero d in' = from
-from_first n (e ∷ es) from ordered (suc j) d in' =
-    from_first n es (from_least n (pair_number e) es from ordered.0) ordered.1 j d (omega (arith, in'))
+neighbours : (es : List Entry) → AreOrdered es
+    → AllAdjacentBelow (λ e f. pair_number e ≤ pair_number f) es (length es)
+neighbours [] ordered k d in' = absurd (omega (arith, in'))
+neighbours (e ∷ []) ordered k d in' = absurd (omega (arith, in'))
+neighbours (e ∷ f ∷ es) ordered zero d in' = ordered.0
+neighbours (e ∷ f ∷ es) ordered (suc k) d in' =
+    let same : suc k + 1 ≡ suc (k + 1) = omega arith in
+    let rest = neighbours (f ∷ es) ordered.1 k d (omega (arith, in')) in
+    omega (arith, rest, ap (λ j. pair_number (get_or (e ∷ f ∷ es) j d)) same)
 
 pub sorted_from_ordered : (es : List Entry) → AreOrdered es → IsNonDecreasingBy pair_number es
-sorted_from_ordered [] ordered = λ i j d le in'. absurd (omega (arith, in'))
-sorted_from_ordered (e ∷ es) ordered = go (sorted_from_ordered es ordered.1)
-  where
-    go : IsNonDecreasingBy pair_number es → IsNonDecreasingBy pair_number (e ∷ es)
-    go rest zero zero d le in' = omega arith
-    go rest zero (suc j) d le in' = from_first (pair_number e) es ordered.0 ordered.1 j d (omega (arith, in'))
-    go rest (suc i) zero d le in' = absurd (omega (arith, le))
-    go rest (suc i) (suc j) d le in' = rest i j d (omega (arith, le)) (omega (arith, in'))
+sorted_from_ordered es ordered = IsNonDecreasingBy-from_all_adjacent pair_number es (neighbours es ordered)
 
 pub placed_ordered : (cs : List Entry) (ps : List (ℕ × ℕ)) → IsNonDecreasingBy place_number ps
     → AreOrdered (placed cs ps)
@@ -83,8 +79,7 @@ pub record IsMerged (all list ts left : List Entry) : Type 0 where
 pub merged_next : (all list ts left more later rest : List Entry) (t : Entry) → IsMerged all list ts left
     → ts ≡ t ∷ later → more ++ rest ≡ list ++ left → AreAbove (pair_number t) rest
     → ((es : List Entry) → AreFrom (pair_number t) es → AreOrdered (list ++ left) → AreOrdered (list ++ es)
-    → AreOrdered (more ++ es))
-    → IsMerged all (more ++ t ∷ []) later rest
+    → AreOrdered (more ++ es)) → IsMerged all (more ++ t ∷ []) later rest
 merged_next all list ts left more later rest t so_far steps moved above before =
     let next = t ∷ later in
     let here : list ++ (left ++ next) ≡ more ++ (rest ++ next) =

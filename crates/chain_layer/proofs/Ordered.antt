@@ -3,7 +3,7 @@
 -- A placed coupling has its ends in the two chains of its nodes, a tie in one chain, and a qubit is in
 -- one chain at most. So only two ties of one chain could have one pair. Then each of two qubits would
 -- be the parent of the other, and steps to the parent would never lead to the chain's first qubit.
-use Rattle.chain_layer.proofs.Common.{◌≡◌, ◌≢◌, ◌⊎◌, inl, inr, ℕ, zero, suc, ◌+◌, ◌*◌, ◌<◌, ◌≤◌, ◌^◌, Bool, true, false, cond, ◌&&◌, ◌||◌, List, [], ◌∷◌, ◌++◌, length, drop, ℤ, pos, neg_ℤ, refl, sym, ap, subst, ◌∙◌, arith, All, ◌==◌, nat_lt, count_by, ⊤, AllByRecursion, AllZip, range_with_len, flat_map, ints, nat_tests, IsPermutation, IsNonDecreasingBy, All-permutation, sum_by-IsPermutation, IsPermutation-append_comm, IsPermutation-trans, total_by-IsPermutation, cases_eq, ltb-true, ltb-false, recursion_from_All, All-from_recursion, length_all_zip, length-map-range_with_len, sum_by-cons, Entry, IsCoupler, pair_number, IsPair, weight_for, ArePairs, Before, Rises, same_pair, ordered_from_rising, rising_from_ordered, Before-further, same_entries, all_append, total_by-in_order, IsIsing, ising_total, is_in, first_of, Embedding, IsEmbedding, IsTie, parent_in, climbed, IsBetween, chain_of, strength, coupling_entry, ties, all_shares, all_ties, placed, field_at, inserted, in_order, image, in_first, in_rest, node_at, each_of_range, chain_within, one_chain, each_at, rest_in, Once, chain_once, AreOwn, apart_qubits, own_parents}
+use Rattle.chain_layer.proofs.Common.{◌≡◌, ◌≢◌, ◌⊎◌, inl, inr, ℕ, zero, suc, ◌+◌, ◌*◌, ◌<◌, ◌≤◌, ◌^◌, Bool, true, false, cond, ◌&&◌, ◌||◌, List, [], ◌∷◌, ◌++◌, length, drop, ℤ, pos, neg_ℤ, refl, sym, ap, subst, ◌∙◌, arith, All, ◌==◌, nat_lt, count_by, ⊤, AllByRecursion, AllZip, range_with_len, flat_map, ints, nat_tests, IsPermutation, IsNonDecreasingBy, All-permutation, sum_by-IsPermutation, IsPermutation-append_comm, IsPermutation-trans, total_by-IsPermutation, cases_eq, ltb-true, ltb-false, recursion_from_All, All-from_recursion, length_all_zip, length-map-range_with_len, sum_by-cons, Entry, IsCoupler, pair_number, IsPair, weight_for, ArePairs, Before, Rises, same_pair, ordered_from_rising, rising_from_ordered, Before-further, same_entries, all_append, total_by-in_order, IsIsing, ising_total, is_in, first_of, Embedding, IsEmbedding, IsTie, parent_in, climbed, IsBetween, chain_of, coupling_entry, ties, ties_by, by_node, all_shares, all_ties, placed, field_at, inserted, in_order, image, image_by, in_first, in_rest, node_at, each_of_range, chain_within, one_chain, each_at, rest_in, Once, chain_once, AreOwn, apart_qubits, own_parents}
 use Rattle.chain_layer.proofs.Sizes.{total_grows}
 
 -- ---- entries of different pairs, in order
@@ -19,8 +19,7 @@ all_inserted : (P : Entry → Type 0) (e : Entry) (es : List Entry) → P e → 
     → AllByRecursion P (inserted e es)
 all_inserted P e [] here all = (here, tt)
 all_inserted P e (f ∷ fs) here all =
-    let all_is = all_inserted P e fs here all.1 in
-    grind (arith, nat_tests)
+    let all_is = all_inserted P e fs here all.1 in grind (arith, nat_tests)
 
 pub all_in_order : (P : Entry → Type 0) (es : List Entry) → AllByRecursion P es
     → AllByRecursion P (in_order es)
@@ -39,7 +38,6 @@ rises_inserted e (f ∷ fs) apart rises =
     go true lt ge later =
         (all_inserted (λ g. pair_number f < pair_number g) e fs (lt refl) rises.0, later)
     go false lt ge later =
-        let other = apart.0 in
         let up = ge refl in
         let before : pair_number e < pair_number f = grind arith in
         ((before, Before-further e f fs before rises.0), rises)
@@ -75,8 +73,6 @@ one_owner e kept q i j i_in j_in here there =
 same_nodes : (e : Embedding) → IsEmbedding e → (i j k l : ℕ) (f g : Entry) → IsOf e i j f → IsOf e k l g
     → f.first ≡ g.first → f.second ≡ g.second → (i ≡ k) × (j ≡ l)
 same_nodes e kept i j k l f g of_f of_g first second =
-    let on_f = of_f.on in
-    let on_g = of_g.on in
     let i_in : i < length e.ising.fields = omega (arith, of_f.ordered, of_f.within) in
     let k_in : k < length e.ising.fields = omega (arith, of_g.ordered, of_g.within) in
     let ik = one_owner e kept f.first i k i_in k_in in
@@ -87,8 +83,6 @@ same_nodes e kept i j k l f g of_f of_g first second =
     let il2 = one_owner e kept f.second i l i_in of_g.within in
     let jk2 = one_owner e kept f.second j k of_f.within k_in in
     let jl2 = one_owner e kept f.second j l of_f.within of_g.within in
-    let up_f = of_f.ordered in
-    let up_g = of_g.ordered in
     (grind (arith, nat_tests), grind (arith, nat_tests))
 
 -- entries of one number are of one pair of nodes
@@ -96,8 +90,7 @@ numbers_apart : (e : Embedding) → IsEmbedding e → (i j k l : ℕ) (f g : Ent
     → IsOf e k l g → (i ≡ k → j ≡ l → ⊥) → pair_number f ≢ pair_number g
 numbers_apart e kept i j k l f g of_f of_g other same =
     let pair = same_pair f.first f.second g.first g.second (omega (arith, of_f.pair.within, kept.few)) (omega (arith, of_g.pair.within, kept.few)) same in
-    let nodes = same_nodes e kept i j k l f g of_f of_g pair.0 pair.1 in
-    other nodes.0 nodes.1
+    let nodes = same_nodes e kept i j k l f g of_f of_g pair.0 pair.1 in other nodes.0 nodes.1
 
 apart-append : (es fs : List Entry) → AreApart es → AreApart fs
     → AllByRecursion (λ e. Apart e fs) es → AreApart (es ++ fs)
@@ -204,19 +197,21 @@ tie_of e kept i q p w within q_in p_in apart =
 tie_weight : (q p : ℕ) (w : ℤ) → (coupling_entry q p w).weight ≡ w
 tie_weight q p w = grind (arith, nat_tests)
 
-negative : (n : ℕ) → neg_ℤ (pos (n + 1)) ≢ pos 0
-negative n same = omega (arith, ints, same)
+negative : (n : ℕ) → 0 < n → neg_ℤ (pos n) ≢ pos 0
+negative n some same = omega (arith, ints, same, some)
 
 ties_of_node : (e : Embedding) → IsEmbedding e → (i : ℕ) → i < length e.ising.fields
-    → (qs ps : List ℕ) (n : ℕ) → AllByRecursion (λ q. is_in (chain_of e.chains i) q ≡ true) qs
-    → AllZip (IsTie (chain_of e.chains i)) qs ps → AllByRecursion (IsTied e i) (ties (λ _. n + 1) qs ps)
-ties_of_node e kept i within [] ps n ins all = tt
-ties_of_node e kept i within (q ∷ qs) [] n ins all = tt
-ties_of_node e kept i within (q ∷ qs) (p ∷ ps) n ins all =
-    let tie = tie_of e kept i q p (neg_ℤ (pos (n + 1))) within ins.0 all.0.inside all.0.apart in
-    let weight = tie_weight q p (neg_ℤ (pos (n + 1))) in
-    let negative_is = negative n in
-    let node = ties_of_node e kept i within qs ps n ins.1 all.1 in
+    → (strong : ℕ → ℕ) → ((q : ℕ) → 0 < strong q)
+    → (qs ps : List ℕ) → AllByRecursion (λ q. is_in (chain_of e.chains i) q ≡ true) qs
+    → AllZip (IsTie (chain_of e.chains i)) qs ps → AllByRecursion (IsTied e i) (ties strong qs ps)
+ties_of_node e kept i within strong some [] ps ins all = tt
+ties_of_node e kept i within strong some (q ∷ qs) [] ins all = tt
+ties_of_node e kept i within strong some (q ∷ qs) (p ∷ ps) ins all =
+    let w = neg_ℤ (pos (strong q)) in
+    let tie = tie_of e kept i q p w within ins.0 all.0.inside all.0.apart in
+    let weight = tie_weight q p w in
+    let negative_is = negative (strong q) (some q) in
+    let node = ties_of_node e kept i within strong some qs ps ins.1 all.1 in
     grind (arith, nat_tests, ints)
 
 -- ---- two ties of one chain
@@ -232,10 +227,10 @@ round cs ds (suc n) q p up down =
     ]
 
 -- one pair of qubits as two ties
-same_ties : (q p r t : ℕ) (w : ℤ) → (coupling_entry q p w).first ≡ (coupling_entry r t w).first
-    → (coupling_entry q p w).second ≡ (coupling_entry r t w).second
+same_ties : (q p r t : ℕ) (v w : ℤ) → (coupling_entry q p v).first ≡ (coupling_entry r t w).first
+    → (coupling_entry q p v).second ≡ (coupling_entry r t w).second
     → ((q ≡ r) × (p ≡ t)) ⊎ ((q ≡ t) × (p ≡ r))
-same_ties q p r t w first second = grind (arith, nat_tests)
+same_ties q p r t v w first second = grind (arith, nat_tests)
 
 -- what is used of a chain: its qubits after the first are different from it, and all lead to it
 record IsRooted (first : ℕ) (cs ds : List ℕ) : Type 0 where
@@ -254,35 +249,36 @@ not_round first cs ds root q p q_in p_in up down =
 one_tie_apart : (e : Embedding) → IsEmbedding e → (i first : ℕ) (cs ds : List ℕ) → IsRooted first cs ds
     → i < length e.ising.fields
     → ((q : ℕ) → is_in cs q ≡ true → is_in (chain_of e.chains i) q ≡ true)
-    → (q p n : ℕ) → is_in cs q ≡ true → parent_in cs ds q ≡ p → IsTie (chain_of e.chains i) q p
-    → (qs ps : List ℕ) → ((r : ℕ) → is_in qs r ≡ true → is_in cs r ≡ true) → is_in qs q ≡ false
-    → AreOwn cs ds qs ps → AllZip (IsTie (chain_of e.chains i)) qs ps
-    → Apart (coupling_entry q p (neg_ℤ (pos n))) (ties (λ _. n) qs ps)
-one_tie_apart e kept i first cs ds root within inside q p n q_in own tie [] ps ins out owns all = tt
-one_tie_apart e kept i first cs ds root within inside q p n q_in own tie (r ∷ rs) [] ins out owns all = tt
-one_tie_apart e kept i first cs ds root within inside q p n q_in own tie (r ∷ rs) (t ∷ ts) ins out owns all =
+    → (q p : ℕ) (v : ℤ) → is_in cs q ≡ true → parent_in cs ds q ≡ p → IsTie (chain_of e.chains i) q p
+    → (strong : ℕ → ℕ) (qs ps : List ℕ) → ((r : ℕ) → is_in qs r ≡ true → is_in cs r ≡ true)
+    → is_in qs q ≡ false → AreOwn cs ds qs ps → AllZip (IsTie (chain_of e.chains i)) qs ps
+    → Apart (coupling_entry q p v) (ties strong qs ps)
+one_tie_apart e kept i first cs ds root within inside q p v q_in own tie strong [] ps ins out owns all = tt
+one_tie_apart e kept i first cs ds root within inside q p v q_in own tie strong (r ∷ rs) [] ins out owns all = tt
+one_tie_apart e kept i first cs ds root within inside q p v q_in own tie strong (r ∷ rs) (t ∷ ts) ins out owns all =
     let first_is = in_first r rs in
-    let tie_is = tie_of e kept i q p (neg_ℤ (pos n)) within (inside q q_in) tie.inside tie.apart in
-    let fact = tie_of e kept i r t (neg_ℤ (pos n)) within in
-    let same_is = same_ties q p r t (neg_ℤ (pos n)) in
+    let w = neg_ℤ (pos (strong r)) in
+    let tie_is = tie_of e kept i q p v within (inside q q_in) tie.inside tie.apart in
+    let fact = tie_of e kept i r t w within in
+    let same_is = same_ties q p r t v w in
     let apart = apart_qubits q r (r ∷ rs) in
     let not = not_round first cs ds root q p q_in in
     let rest = in_rest r in
     let rest_is = in_rest r q rs in
-    let one = one_tie_apart e kept i first cs ds root within inside q p n q_in own tie rs ts in
+    let one = one_tie_apart e kept i first cs ds root within inside q p v q_in own tie strong rs ts in
     grind (arith, nat_tests, ints)
 
 ties_apart : (e : Embedding) → IsEmbedding e → (i first : ℕ) (cs ds : List ℕ) → IsRooted first cs ds
     → i < length e.ising.fields
     → ((q : ℕ) → is_in cs q ≡ true → is_in (chain_of e.chains i) q ≡ true)
-    → (n : ℕ) (qs ps : List ℕ) → ((r : ℕ) → is_in qs r ≡ true → is_in cs r ≡ true) → Once qs
-    → AreOwn cs ds qs ps → AllZip (IsTie (chain_of e.chains i)) qs ps → AreApart (ties (λ _. n) qs ps)
-ties_apart e kept i first cs ds root within inside n [] ps ins once owns all = tt
-ties_apart e kept i first cs ds root within inside n (q ∷ qs) [] ins once owns all = tt
-ties_apart e kept i first cs ds root within inside n (q ∷ qs) (p ∷ ps) ins once owns all = (
-  one_tie_apart e kept i first cs ds root within inside q p n (ins q (in_first q qs)) owns.0 all.0 qs ps
+    → (strong : ℕ → ℕ) (qs ps : List ℕ) → ((r : ℕ) → is_in qs r ≡ true → is_in cs r ≡ true) → Once qs
+    → AreOwn cs ds qs ps → AllZip (IsTie (chain_of e.chains i)) qs ps → AreApart (ties strong qs ps)
+ties_apart e kept i first cs ds root within inside strong [] ps ins once owns all = tt
+ties_apart e kept i first cs ds root within inside strong (q ∷ qs) [] ins once owns all = tt
+ties_apart e kept i first cs ds root within inside strong (q ∷ qs) (p ∷ ps) ins once owns all = (
+  one_tie_apart e kept i first cs ds root within inside q p _ (ins q (in_first q qs)) owns.0 all.0 strong qs ps
       (λ r in'. ins r (in_rest q r qs in')) once.0 owns.1 all.1,
-  ties_apart e kept i first cs ds root within inside n qs ps (λ r in'. ins r (in_rest q r qs in')) once.1 owns.1 all.1,
+  ties_apart e kept i first cs ds root within inside strong qs ps (λ r in'. ins r (in_rest q r qs in')) once.1 owns.1 all.1,
 )
 
 -- ---- all couplings of an image
@@ -295,33 +291,25 @@ rest_inside : (chain : List ℕ) (q : ℕ) → is_in (drop 1 chain) q ≡ true �
 rest_inside [] q in' = in'
 rest_inside (p ∷ ps) q in' = in_rest p q ps in'
 
-node_ties_apart : (e : Embedding) → IsEmbedding e → (i : ℕ) → i < length e.ising.fields
-    → AreApart (ties (λ _. strength e i) (drop 1 (chain_of e.chains i)) (chain_of e.parents i))
-node_ties_apart e kept i within =
+-- the ties of a node, by how strong they are
+abbrev ties_of : (ℕ → ℕ → ℕ) → Embedding → ℕ → List Entry
+ties_of strong e i = ties (strong i) (drop 1 (chain_of e.chains i)) (chain_of e.parents i)
+
+-- with ties as strong as the node asks
+abbrev pub ties_at : Embedding → ℕ → List Entry
+ties_at e i = ties_of (by_node e) e i
+
+node_ties_apart : (strong : ℕ → ℕ → ℕ) (e : Embedding) → IsEmbedding e → (i : ℕ)
+    → i < length e.ising.fields → AreApart (ties_of strong e i)
+node_ties_apart strong e kept i within =
     let node = node_at e kept i within in
     let chain = chain_of e.chains i in
     let parents = chain_of e.parents i in
     let once = rest_apart chain node.filled (chain_once e kept i within) in
     ties_apart e kept i (first_of chain) (drop 1 chain) parents
     (record { apart = once.0; leads = λ q in'. node.tree.rooted q (rest_inside chain q in') })
-    within (rest_inside chain) (strength e i) (drop 1 chain) parents (λ r in'. in') once.1
+    within (rest_inside chain) (strong i) (drop 1 chain) parents (λ r in'. in') once.1
     (own_parents (drop 1 chain) parents once.1 (length_all_zip _ _ _ node.tree.ties)) node.tree.ties
-
--- the ties of a node
-abbrev pub ties_at : Embedding → ℕ → List Entry
-ties_at e i = ties (λ _. strength e i) (drop 1 (chain_of e.chains i)) (chain_of e.parents i)
-
-tied_node : (e : Embedding) → IsEmbedding e → (i : ℕ) → i < length e.ising.fields
-    → AllByRecursion (IsTied e i) (ties_at e i)
-tied_node e kept i within =
-    ties_of_node e kept i within (drop 1 (chain_of e.chains i)) (chain_of e.parents i) _
-    (rest_in (chain_of e.chains i)) (node_at e kept i within).tree.ties
-
-tied_nodes : (e : Embedding) → IsEmbedding e → (a n : ℕ) → a + n ≤ length e.ising.fields
-    → AllByRecursion (IsTiedFrom e a) (flat_map (ties_at e) (range_with_len a n))
-tied_nodes e kept a n high =
-    each_of_range (IsTiedFrom e a) (ties_at e) a n
-    (λ i low below. each (λ f tied. (i, low, tied)) (ties_at e i) (tied_node e kept i (omega (arith, below, high))))
 
 -- entries of two kinds that are apart
 apart_kinds : (P Q : Entry → Type 0) → ((f g : Entry) → P f → Q g → pair_number f ≢ pair_number g)
@@ -330,18 +318,6 @@ apart_kinds : (P Q : Entry → Type 0) → ((f g : Entry) → P f → Q g → pa
 apart_kinds P Q differ [] fs p q = tt
 apart_kinds P Q differ (e ∷ es) fs p q =
     (each (λ g h. differ e g p.0 h) fs q, apart_kinds P Q differ es fs p.1 q)
-
-all_ties_apart : (e : Embedding) → IsEmbedding e → (a n : ℕ) → a + n ≤ length e.ising.fields
-    → AreApart (flat_map (ties_at e) (range_with_len a n))
-all_ties_apart e kept a zero high = tt
-all_ties_apart e kept a (suc n) high =
-    let within : a < length e.ising.fields = omega (arith, high) in
-    apart-append (ties_at e a) (flat_map (ties_at e) (range_with_len (a + 1) n))
-    (node_ties_apart e kept a within) (all_ties_apart e kept (a + 1) n (omega (arith, high)))
-    (apart_kinds (IsTied e a) (IsTiedFrom e (a + 1))
-    (λ f g tied from. numbers_apart e kept a a from.0 from.0 f g tied.0 from.2.0 (λ same again. omega (arith, same, from.1)))
-    (ties_at e a) (flat_map (ties_at e) (range_with_len (a + 1) n)) (tied_node e kept a within)
-    (tied_nodes e kept (a + 1) n (omega (arith, high))))
 
 -- couplings of the first n qubits are pairs of the first m
 pub as_pairs : (m n : ℕ) (es : List Entry) → n ≤ m → AllByRecursion (IsCoupler n) es
@@ -352,28 +328,11 @@ as_pairs m n (e ∷ es) few all =
     let below = all.0.within in
     (record { upward = up; within = omega (arith, below, few) }, as_pairs m n es few all.1)
 
--- no two of them have one pair
-pub couplings_apart : (e : Embedding) → IsEmbedding e
-    → AreApart (placed e.ising.couplings e.places ++ all_ties e)
-couplings_apart e kept =
-    let pairs = recursion_from_All _ _ kept.ising.couplings in
-    let n = length e.ising.fields in
-    apart-append (placed e.ising.couplings e.places) (all_ties e)
-    (placed_apart e kept e.ising.couplings e.places pairs kept.placed
-    (rising_from_ordered e.ising.couplings (as_pairs (2 ^ 32) n e.ising.couplings (omega (arith, kept.ising.narrow)) pairs) kept.ising.ordered))
-    (all_ties_apart e kept 0 n (omega arith)) (apart_kinds (IsPlaced e) (IsTiedFrom e 0)
-    (λ f g one from. numbers_apart e kept one.0 one.1 from.0 from.0 f g one.3 from.2.0 (λ same again. omega (arith, same, again, one.2)))
-    (placed e.ising.couplings e.places) (all_ties e)
-    (all_placed e kept e.ising.couplings e.places pairs kept.placed)
-    (tied_nodes e kept 0 n (omega arith)))
-
--- each is a coupling of two qubits, and not 0
-pub all_couplers : (e : Embedding) → IsEmbedding e
-    → AllByRecursion (IsCoupler e.qubits) (placed e.ising.couplings e.places ++ all_ties e)
-all_couplers e kept =
+-- placed couplings are couplings of two qubits, and not 0
+pub couplers_placed : (e : Embedding) → IsEmbedding e
+    → AllByRecursion (IsCoupler e.qubits) (placed e.ising.couplings e.places)
+couplers_placed e kept =
     let all = all_placed e kept e.ising.couplings e.places in
-    let tied = tied_nodes e kept 0 (length e.ising.fields) in
-    let append = all_append (IsCoupler e.qubits) (placed e.ising.couplings e.places) (all_ties e) in
     grind (arith, nat_tests, recursion_from_All, each)
 
 -- couplings of different pairs, put in order
@@ -384,21 +343,78 @@ in_order_rises n es few all apart =
     let here = all_in_order (IsCoupler n) es all in
     (as_pairs (2 ^ 32) n (in_order es) (omega (arith, few)) here, rises_in_order es apart, here)
 
--- the image is an Ising form
+-- ties of any strength but 0
+module _ (strong : ℕ → ℕ → ℕ) (some : (i q : ℕ) → 0 < strong i q) (e : Embedding) (kept : IsEmbedding e) where
+  tied_node : (i : ℕ) → i < length e.ising.fields → AllByRecursion (IsTied e i) (ties_of strong e i)
+  tied_node i within =
+      ties_of_node e kept i within (strong i) (some i) (drop 1 (chain_of e.chains i)) (chain_of e.parents i)
+      (rest_in (chain_of e.chains i)) (node_at e kept i within).tree.ties
+
+  tied_nodes : (a n : ℕ) → a + n ≤ length e.ising.fields
+      → AllByRecursion (IsTiedFrom e a) (flat_map (ties_of strong e) (range_with_len a n))
+  tied_nodes a n high =
+      each_of_range (IsTiedFrom e a) (ties_of strong e) a n
+      (λ i low below. each (λ f tied. (i, low, tied)) (ties_of strong e i) (tied_node i (omega (arith, below, high))))
+
+  all_ties_apart : (a n : ℕ) → a + n ≤ length e.ising.fields
+      → AreApart (flat_map (ties_of strong e) (range_with_len a n))
+  all_ties_apart a zero high = tt
+  all_ties_apart a (suc n) high =
+      let within : a < length e.ising.fields = omega (arith, high) in
+      apart-append (ties_of strong e a) (flat_map (ties_of strong e) (range_with_len (a + 1) n))
+      (node_ties_apart strong e kept a within) (all_ties_apart (a + 1) n (omega (arith, high)))
+      (apart_kinds (IsTied e a) (IsTiedFrom e (a + 1))
+      (λ f g tied from. numbers_apart e kept a a from.0 from.0 f g tied.0 from.2.0 (λ same again. omega (arith, same, from.1)))
+      (ties_of strong e a) (flat_map (ties_of strong e) (range_with_len (a + 1) n)) (tied_node a within)
+      (tied_nodes (a + 1) n (omega (arith, high))))
+
+  -- no two of them have one pair
+  pub couplings_apart : AreApart (placed e.ising.couplings e.places ++ ties_by strong e)
+  couplings_apart =
+      let pairs = recursion_from_All _ _ kept.ising.couplings in
+      let n = length e.ising.fields in
+      apart-append (placed e.ising.couplings e.places) (ties_by strong e)
+      (placed_apart e kept e.ising.couplings e.places pairs kept.placed
+      (rising_from_ordered e.ising.couplings (as_pairs (2 ^ 32) n e.ising.couplings (omega (arith, kept.ising.narrow)) pairs) kept.ising.ordered))
+      (all_ties_apart 0 n (omega arith)) (apart_kinds (IsPlaced e) (IsTiedFrom e 0)
+      (λ f g one from. numbers_apart e kept one.0 one.1 from.0 from.0 f g one.3 from.2.0 (λ same again. omega (arith, same, again, one.2)))
+      (placed e.ising.couplings e.places) (ties_by strong e)
+      (all_placed e kept e.ising.couplings e.places pairs kept.placed)
+      (tied_nodes 0 n (omega arith)))
+
+  -- each is a coupling of two qubits, and not 0
+  pub all_couplers : AllByRecursion (IsCoupler e.qubits) (placed e.ising.couplings e.places ++ ties_by strong e)
+  all_couplers =
+      let pairs = couplers_placed e kept in
+      let tied = tied_nodes 0 (length e.ising.fields) in
+      let append = all_append (IsCoupler e.qubits) (placed e.ising.couplings e.places) (ties_by strong e) in
+      grind (arith, nat_tests, recursion_from_All, each)
+
+  -- the image is an Ising form
+  pub by_is_ising : ising_total (image_by strong e) ≤ 2 ^ 124 → IsIsing (image_by strong e)
+  by_is_ising small =
+      let width = length-map-range_with_len (field_at (all_shares e)) 0 e.qubits in
+      let ordered =
+      in_order_rises e.qubits (placed e.ising.couplings e.places ++ ties_by strong e) kept.few all_couplers
+      couplings_apart in
+      record {
+        ordered = ordered_from_rising (image_by strong e).couplings ordered.0 ordered.1;
+        couplings =
+            subst (λ n. All (IsCoupler n) (image_by strong e).couplings) (sym width)
+            (All-from_recursion _ _ ordered.2);
+        narrow = omega (arith, width, kept.few);
+        small = small;
+      }
+
+-- a strength is not 0
+some_strength : (e : Embedding) (i q : ℕ) → 0 < by_node e i q
+some_strength e i q = omega arith
+
+-- so it is with ties as strong as their nodes ask
 pub image_is_ising : (e : Embedding) → IsEmbedding e → (ising_total e.ising + 1) * 2 ^ 21 ≤ 2 ^ 124
     → IsIsing (image e)
 image_is_ising e kept small =
-    let width = length-map-range_with_len (field_at (all_shares e)) 0 e.qubits in
-    let ordered = in_order_rises e.qubits (placed e.ising.couplings e.places ++ all_ties e) kept.few
-    (all_couplers e kept) (couplings_apart e kept) in
-    record {
-      ordered = ordered_from_rising (image e).couplings ordered.0 ordered.1;
-      couplings =
-          subst (λ n. All (IsCoupler n) (image e).couplings) (sym width)
-          (All-from_recursion _ _ ordered.2);
-      narrow = omega (arith, width, kept.few);
-      small = omega (arith, total_grows e kept, small);
-    }
+    by_is_ising (by_node e) (some_strength e) e kept (omega (arith, total_grows e kept, small))
 
 -- ---- what sorting makes of the couplings
 
@@ -415,7 +431,6 @@ none_numbered : (n : ℕ) (es : List Entry) → AllByRecursion (λ f. n ≢ pair
 none_numbered n [] all = refl
 none_numbered n (e ∷ es) all =
     let rest = none_numbered n es all.1 in
-    let here = all.0 in
     simp sum_by-cons (grind (arith, nat_tests))
 
 -- entries of different pairs have each number at most once
@@ -433,10 +448,8 @@ below_all : (n : ℕ) (es : List Entry) → AllByRecursion (λ f. n ≤ pair_num
     → numbered n es ≡ 0 → AllByRecursion (λ f. n < pair_number f) es
 below_all n [] up none = tt
 below_all n (e ∷ es) up none =
-    let here = up.0 in
     let parts : (cond {A = ℕ} (pair_number e == n) 1 0 ≡ 0) × (numbered n es ≡ 0) =
     (omega (arith, numbered-cons n e es), omega (arith, numbered-cons n e es)) in
-    let other = parts.0 in
     (grind (arith, nat_tests), below_all n es up.1 parts.1)
 
 -- sorted entries of different pairs rise
@@ -486,5 +499,6 @@ sorted_is_image e kept to moved sorted =
     let places = placed e.ising.couplings e.places in
     let swapped = IsPermutation-trans (places ++ all_ties e) (all_ties e ++ places) to
     (IsPermutation-append_comm places (all_ties e)) moved in
-    sorted_is_in_order e.qubits (places ++ all_ties e) to kept.few (all_couplers e kept)
-    (couplings_apart e kept) swapped sorted
+    sorted_is_in_order e.qubits (places ++ all_ties e) to kept.few
+    (all_couplers (by_node e) (some_strength e) e kept)
+    (couplings_apart (by_node e) (some_strength e) e kept) swapped sorted

@@ -81,16 +81,14 @@ pub weights_placed : (cs : List Entry) (ps : List (ℕ × ℕ)) → weight_total
 weights_placed [] ps = omega arith
 weights_placed (c ∷ cs) [] = omega arith
 weights_placed (c ∷ cs) (p ∷ ps) =
-    let rest = weights_placed cs ps in
-    simp sum_by-cons (grind (arith, nat_tests, ints))
+    let rest = weights_placed cs ps in simp sum_by-cons (grind (arith, nat_tests, ints))
 
 weights_of_ties : (strong : ℕ → ℕ) (qs ps : List ℕ)
     → weight_total (ties strong qs ps) ≤ sum_by strong qs
 weights_of_ties strong [] ps = omega arith
 weights_of_ties strong (q ∷ qs) [] = omega arith
 weights_of_ties strong (q ∷ qs) (p ∷ ps) =
-    let rest = weights_of_ties strong qs ps in
-    simp sum_by-cons (grind (arith, nat_tests, ints))
+    let rest = weights_of_ties strong qs ps in simp sum_by-cons (grind (arith, nat_tests, ints))
 
 pub sums_le : (f g : ℕ → ℕ) (a n : ℕ) → ((i : ℕ) → i < a + n → f i ≤ g i)
     → sum_by f (range_with_len a n) ≤ sum_by g (range_with_len a n)
@@ -181,8 +179,7 @@ lengths_of chains =
     total_by-map (λ (c : List ℕ). pos (length c)) f (range_with_len 0 (length chains)) in
     let same = ap (total_by (λ (c : List ℕ). pos (length c))) listed in
     let sum = sum_is (λ (c : List ℕ). length c) chains in
-    let more = sum_is (λ i. length (f i)) (range_with_len 0 (length chains)) in
-    omega (arith, ints)
+    let more = sum_is (λ i. length (f i)) (range_with_len 0 (length chains)) in omega (arith, ints)
 
 -- the qubits of all chains, node by node
 pub few_qubits : (e : Embedding) → IsEmbedding e
@@ -249,8 +246,7 @@ pub sizes_of_couplers : (n : ℕ) (cs : List Entry) → AllByRecursion (IsCouple
     → sum_by entry_size cs ≡ 4 * length cs
 sizes_of_couplers n [] h = refl
 sizes_of_couplers n (c ∷ cs) h =
-    let rest = sizes_of_couplers n cs h.1 in
-    simp sum_by-cons (grind (arith, nat_tests, ints))
+    let rest = sizes_of_couplers n cs h.1 in simp sum_by-cons (grind (arith, nat_tests, ints))
 
 pub length-placed : (cs : List Entry) (ps : List (ℕ × ℕ)) → length (placed cs ps) ≤ length cs
 length-placed [] ps = omega arith
@@ -284,8 +280,7 @@ sizes-in_order es =
 pub sizes_of_nodes : (ws : List ℤ) (n : ℕ) → sum_by entry_size (node_entries n ws) ≤ length ws
 sizes_of_nodes [] n = omega arith
 sizes_of_nodes (w ∷ ws) n =
-    let rest = sizes_of_nodes ws (suc n) in
-    simp sum_by-cons (grind (arith, nat_tests, ints))
+    let rest = sizes_of_nodes ws (suc n) in simp sum_by-cons (grind (arith, nat_tests, ints))
 
 pub size_grows : (e : Embedding) → IsEmbedding e → ising_size (image e) ≤ embedding_size e * 2
 size_grows e kept =

@@ -140,8 +140,7 @@ sum_once h F w a (suc n) once none =
 is_other : (a b : ℕ) → a ≢ b → ◌≡◌ {A = ℕ} (if a == b then 1 else 0) 0
 is_other a b e = grind (arith, nat_tests)
 
-count_path : (graph : Chimera) (i k q : ℕ)
-    → count_by (λ p. p == q) (path_of graph i k)
+count_path : (graph : Chimera) (i k q : ℕ) → count_by (λ p. p == q) (path_of graph i k)
     ≡ count_by (λ p. p == q) (map (down_qubit graph i k) (range_with_len 0 (i + 1)))
     + count_by (λ p. p == q) (map (along_qubit graph i k) (range_with_len i (diagonal_of graph - i)))
 count_path graph i k q =
@@ -232,8 +231,7 @@ all_chains graph nodes P fits each = λ v d below.
 
 -- the later one goes down its column through the cell that the earlier one goes along its row through
 path_coupled : (graph : Chimera) (i j k l : ℕ) → i ≤ j → j < diagonal_of graph → k < graph.shore
-    → l < graph.shore
-    → (pair : ℕ × ℕ)
+    → l < graph.shore → (pair : ℕ × ℕ)
     × IsCrossing (λ a b. are_joined (place_of graph a) (place_of graph b)) (path_of graph i k) (path_of graph j l) pair
 path_coupled graph i j k l before cell at at' =
     let a = down_qubit graph j l i in

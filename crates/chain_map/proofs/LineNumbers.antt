@@ -56,8 +56,7 @@ blank_passed text a b lt le blank =
     let first = slice_at text a b 0 (omega arith) in
     let cons = drop-cons bs 0 0 (omega arith) in
     let pass = words_blank (get_or bs 0 0) (drop 1 bs) in
-    let rest = slice_dropped text a 1 b (omega arith) in
-    grind (arith, nat_tests)
+    let rest = slice_dropped text a 1 b (omega arith) in grind (arith, nat_tests)
 
 -- the first word, where it ends, and the words after it
 pub first_word : (text : List ℕ) (a b n line : ℕ) → a < b → b ≤ length text
@@ -67,8 +66,7 @@ pub first_word : (text : List ℕ) (a b n line : ℕ) → a < b → b ≤ length
     ∷ map (word line) (words (slice_range text (a + n) b)))
 first_word text a b n line lt le ink e =
     let t = taken text a b n lt le ink e in
-    let cut = slice_taken text a n b t.1 in
-    (t.0, t.1, cc (t.2, e))
+    let cut = slice_taken text a n b t.1 in (t.0, t.1, cc (t.2, e))
 
 -- ---- lines
 
@@ -104,8 +102,7 @@ line_comment text a b n line ab le first lt c =
 -- another line has its first word, and the words after it
 pub line_tokens : (text : List ℕ) (a b n m line : ℕ) → a ≤ b → b ≤ length text
     → n ≡ position_or_len (λ c. not (is_blank c)) (slice_range text a b) → a + n < b
-    → (get_or text (a + n) 0 ≡ 99 → ⊥)
-    → m ≡ position_or_len is_blank (slice_range text (a + n) b)
+    → (get_or text (a + n) 0 ≡ 99 → ⊥) → m ≡ position_or_len is_blank (slice_range text (a + n) b)
     → (0 < m) × (a + n + m ≤ b) × (tokens_of_line Plain line (slice_range text a b)
     ≡ word line (take (position_or_len is_blank (slice_range text (a + n) b)) (slice_range text (a + n) b))
     ∷ map (word line) (words (slice_range text (a + n + m) b)))

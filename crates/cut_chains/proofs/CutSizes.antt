@@ -2,9 +2,8 @@
 --
 -- The two sides of a tie weigh no more than all qubits do, and these no more than twice the total.
 -- So the lesser one weighs at most the total.
-use Rattle.cut_chains.proofs.Common.{in_order_rises, nat_tests, ◌≡◌, ℕ, zero, suc, ◌+◌, ◌*◌, ◌<◌, ◌≤◌, ◌^◌, Bool, true, not, List, [], ◌∷◌, ◌++◌, length, drop, ℤ, pos, ◌+ℤ◌, ◌≤ℤ◌, unsigned_abs, refl, ap, ◌∙◌, arith, mul-le-mul_left, AllByRecursion, range_with_len, sum_by, min-le_left, min-le_right, ints, length-drop, drop_at, All-from_recursion, length-map-range_with_len, sum_by-cons, total_by, if_so, total_by-plus, Entry, weight_total, is_in, IsCoupler, weights-append, ordered_from_rising, IsIsing, ising_total, ising_size, Embedding, IsEmbedding, embedding_size, chain_of, nodes_of, couplings_at, all_shares, placed, field_at, range-le, range-same, marked_ends, couplers_of, node_at, filled_lengths, chain_within, shares_within, sum_is, size, weights-in_order, weights-flat_map, fields_small, weights_of_shares, weights_of_image_fields, weights_placed, sums_le, few_qubits, sizes-append, sizes-in_order, sizes-le, sizes_of_nodes, sizes_of_couplers, weights_of_ties_by, length-placed, length-ties_by, is_below, weight_of, side_weight, cut_strength, ties, cut_ties, cut_image, cut_cost, cut_offset, Once, chain_once, node_ties, couplers_placed}
+use Rattle.cut_chains.proofs.Common.{by_is_ising, nat_tests, ◌≡◌, ℕ, zero, suc, ◌+◌, ◌*◌, ◌<◌, ◌≤◌, ◌^◌, Bool, true, not, List, [], ◌∷◌, ◌++◌, length, drop, ℤ, pos, ◌+ℤ◌, ◌≤ℤ◌, unsigned_abs, refl, ap, ◌∙◌, arith, mul-le-mul_left, AllByRecursion, range_with_len, sum_by, min-le_left, min-le_right, ints, length-drop, drop_at, length-map-range_with_len, sum_by-cons, total_by, if_so, total_by-plus, Entry, weight_total, is_in, IsCoupler, weights-append, IsIsing, ising_total, ising_size, Embedding, IsEmbedding, embedding_size, chain_of, nodes_of, couplings_at, all_shares, placed, field_at, range-le, range-same, marked_ends, couplers_of, node_at, filled_lengths, chain_within, shares_within, sum_is, size, weights-in_order, weights-flat_map, fields_small, weights_of_shares, weights_of_image_fields, weights_placed, sums_le, few_qubits, sizes-append, sizes-in_order, sizes-le, sizes_of_nodes, sizes_of_couplers, weights_of_ties_by, length-placed, length-ties_by, is_below, weight_of, side_weight, cut_strength, ties, cut_ties, cut_image, cut_cost, cut_offset, Once, chain_once, node_ties, couplers_placed}
 use Rattle.cut_chains.proofs.Subtrees.{once_spread}
-use Rattle.cut_chains.proofs.CutPairs.{cut_couplers, cut_apart}
 
 -- ---- how much qubits weigh
 
@@ -145,17 +144,12 @@ cut_size_grows e kept =
     let ties = length-ties_by (cut_strength e) e kept in
     omega (arith, length-map-range_with_len, sizes-append, sizes_of_nodes, sizes-in_order, sizes-le)
 
+-- the strength of a tie is not 0
+pub cut_some : (e : Embedding) (i q : ℕ) → 0 < cut_strength e i q
+cut_some e i q = omega arith
+
 -- the image is an Ising form
 pub cut_is_ising : (e : Embedding) → IsEmbedding e → (ising_total e.ising + 1) * 2 ^ 21 ≤ 2 ^ 124
     → IsIsing (cut_image e)
 cut_is_ising e kept small =
-    let width = length-map-range_with_len (field_at (all_shares e)) 0 e.qubits in
-    let ordered =
-    in_order_rises e.qubits (placed e.ising.couplings e.places ++ cut_ties e) kept.few
-    (cut_couplers e kept) (cut_apart e kept) in
-    record {
-      ordered = ordered_from_rising (cut_image e).couplings ordered.0 ordered.1;
-      couplings = rw width (All-from_recursion _ _ ordered.2);
-      narrow = omega (arith, width, kept.few);
-      small = omega (arith, cut_total_grows e kept, small);
-    }
+    by_is_ising (cut_strength e) (cut_some e) e kept (omega (arith, cut_total_grows e kept, small))

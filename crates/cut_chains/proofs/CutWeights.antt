@@ -8,8 +8,7 @@ field_within hs i =
     let here = at_map (λ h. unsigned_abs h) hs i in
     let within = weights_within hs i (pos 0) in
     let past = get_or_past (map (λ h. unsigned_abs h) hs) i 0 in
-    let long = length-map hs (λ (h : ℤ). unsigned_abs h) in
-    grind arith
+    let long = length-map hs (λ (h : ℤ). unsigned_abs h) in grind arith
 
 abbrev image_fields : Embedding → List ℤ
 image_fields e = map (field_at (all_shares e)) (range_with_len 0 e.qubits)

@@ -1,6 +1,5 @@
 pub mod Common
 pub mod Members
-pub mod CutPairs
 pub mod CutSizes
 pub mod CutWeights
 pub mod Joined

@@ -33,6 +33,5 @@ in_more order i q within =
 pub once_more : (qs : List ℕ) (q : ℕ) → Once qs → is_in qs q ≡ false → Once (qs ++ q ∷ [])
 once_more [] q once out = (refl, tt)
 once_more (r ∷ rs) q once out =
-    let first = once.0 in
     let pushed = is_in-push rs q r in
     (grind (arith, nat_tests), once_more rs q once.1 (grind (arith, nat_tests)))

@@ -44,8 +44,7 @@ pub record AreSummed (old new chain parents : List ℕ) : Type 0 where
 module _ (e : Embedding) (i : ℕ) (old chain parents : List ℕ)
     (next : IsNext e i old chain parents) where
   pub next_tree : IsOnceTree chain parents
-  next_tree =
-      rw (next.chain_is, next.parents_is) (once_tree e next.kept i next.within)
+  next_tree = rw (next.chain_is, next.parents_is) (once_tree e next.kept i next.within)
 
   pub next_small : sum_by (λ q. get_or old q 0) chain < 2 ^ 127
   next_small =

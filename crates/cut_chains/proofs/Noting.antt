@@ -40,8 +40,7 @@ parent_in_chain : (chain cs ps : List ℕ) (q : ℕ) → AllZip (IsTie chain) cs
 parent_in_chain chain [] ps q ties in' = absurd cc
 parent_in_chain chain (c ∷ cs) [] q ties in' = absurd ties
 parent_in_chain chain (c ∷ cs) (p ∷ ps) q ties in' =
-    let rest = parent_in_chain chain cs ps q ties.1 in
-    grind (arith, nat_tests)
+    let rest = parent_in_chain chain cs ps q ties.1 in grind (arith, nat_tests)
 
 -- ---- a chain, as its first qubit and the others
 

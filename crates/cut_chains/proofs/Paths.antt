@@ -34,8 +34,7 @@ reached_more first up order p reached listed new = record {
         let same = get_or_append_left order (p ∷ []) 0 j in
         let old = before j in
         let whole = take-append_seam order (p ∷ []) in
-        let end = get_or-append_seam order p [] 0 in
-        grind (arith, nat_tests)
+        let end = get_or-append_seam order p [] 0 in grind (arith, nat_tests)
 
 -- ---- a path, listed from its end on
 

@@ -32,8 +32,7 @@ module _ (up : List ℕ) (before : List Bool) (first : ℕ) (cs : List ℕ)
       → AllByRecursion (λ p. is_in cs p ≡ true) path × (is_in (first ∷ cs) q ≡ true)
   path_inside order [] from q climb in' others = (tt, ap (is_in (first ∷ cs)) (sym climb) ∙ in')
   path_inside order (p ∷ ps) from q climb in' others =
-      let p_in : is_in cs p ≡ true =
-      let same = climb.0 in let out = others.0 in grind (arith, nat_tests) in
+      let p_in : is_in cs p ≡ true = let out = others.0 in grind (arith, nat_tests) in
       let rest = path_inside order ps (parent_at p) q climb.1
       (ap (is_in (first ∷ cs)) (parent_same p p_in) ∙ t.closed p p_in) others.1 in
       ((p_in, rest.0), rest.1)
@@ -52,8 +51,7 @@ module _ (up : List ℕ) (before : List Bool) (first : ℕ) (cs : List ℕ)
       let later = no_round ps (parent_at p) q climb.1 all.1 in
       let round = not_again first cs t.ps t.root (length ps) p all.0 in
       let steps = steps_of ps (parent_at p) q climb.1 all.1 in
-      let up = parent_same p all.0 in
-      grind (arith, nat_tests)
+      let up = parent_same p all.0 in grind (arith, nat_tests)
 
   -- what is not marked is a qubit
   fresh_within : (seen : List Bool) (q : ℕ) → get_or seen q true ≡ false → q < length seen
@@ -108,8 +106,7 @@ module _ (up : List ℕ) (before : List Bool) (first : ℕ) (cs : List ℕ)
       → q < length before → is_in (first ∷ cs) q ≡ false → get_or seen q true ≡ get_or before q true
   reach_others seen order done reaching q within out =
       let now = reaching.marked q within in
-      let inside = reaching.inside q in
-      grind (arith, nat_tests)
+      let inside = reaching.inside q in grind (arith, nat_tests)
 
 -- a chain is its first qubit and the others
 pub chain_parts : (chain : List ℕ) → (chain ≢ []) → (first_of chain ∷ drop 1 chain) ≡ chain

@@ -38,8 +38,7 @@ module _ (up sums order xs : List ℕ) (t : Sinkable up sums order) where
     pub giver_below : get_or order a 0 < length xs
     giver_below =
         let giver = giver_in in
-        let inside = inside_of (get_or order a 0) in
-        grind (arith, nat_tests)
+        let inside = inside_of (get_or order a 0) in grind (arith, nat_tests)
 
     pub giver_known : get_or order a 0 < length up
     giver_known = each_at (λ p. p < length up) t.cs (get_or order a 0) t.known giver_in

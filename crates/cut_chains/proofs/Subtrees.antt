@@ -70,7 +70,6 @@ module _ (first : ℕ) (cs ps order : List ℕ) (root : IsRooted first cs ps)
       → is_in (front first order i) (parent_in cs ps q) ≡ true
   parent_in_front zero q few in' =
       let out = parent_outside cs ps q in
-      let apart = root.apart in
       grind (arith, nat_tests)
   parent_in_front (suc i) q few in' =
       let here = in_front_suc i q few in
@@ -123,8 +122,7 @@ module _ (first : ℕ) (cs ps order : List ℕ) (root : IsRooted first cs ps)
       let inside = front_inside i x in
       let below = is_below_first first cs ps root q in
       let below_first = is_below_first first cs ps root (parent_in cs ps q) up in
-      let side = same_side first cs ps root x q in
-      grind (arith, nat_tests)
+      let side = same_side first cs ps root x q in grind (arith, nat_tests)
 
   once_front : (i : ℕ) → i ≤ length order → Once (front first order i)
   once_front zero few = (refl, tt)
@@ -168,8 +166,7 @@ module _ (first : ℕ) (cs ps order : List ℕ) (root : IsRooted first cs ps)
       let here = in_more order i p within in
       let whole = sinking.left p (grind (arith, nat_tests)) in
       let more = held_more below held i within in
-      let part = one_held below held p (front first order i) p_in itself in
-      grind arith
+      let part = one_held below held p (front first order i) p_in itself in grind arith
 
   pub sink_one : (weight held next : ℕ → ℕ) (i : ℕ) → i < length order
       → IsSinking weight held (i + 1) → next (parent_in cs ps (get_or order i 0))
@@ -189,8 +186,7 @@ module _ (first : ℕ) (cs ps order : List ℕ) (root : IsRooted first cs ps)
             let gets = more_held below held next (parent_in cs ps q) (held q) (front first order i)
             (once_front i (omega (arith, within))) p_in gives keeps in
             let whole = sinking.left x (grind (arith, nat_tests)) in
-            let rest = held_more below held i within in
-            grind arith;
+            let rest = held_more below held i within in grind arith;
         done = λ j from in'.
             elim (cases_eq j i) [
               | inl same ↦

@@ -1,5 +1,6 @@
 -- The entries of nodes on chains, beside those of all nodes.
-use Rattle.ising_form.proofs.Common.{cases_lt, cases_Bool, nat_tests, ◌≡◌, inl, inr, ℕ, suc, ◌+◌, ◌<◌, ◌≤◌, ◌==◌, Bool, true, false, cond, ◌&&◌, ◌||◌, ℤ, pos, unsigned_abs, List, [], ◌∷◌, ◌++◌, length, length-append, length-set, length-take-le, append-nil, take, take_more_set, get_or, get_or-set_other, set, All, refl, sym, ap, ◌∙◌, arith, AllByRecursion, filter, list_any, slice_index_or, IsStrictlySortedBy, ints, sum_by-cons, recursion_from_All, total_by, Entry, spins_energy, entry_cmp, has_node, is_chained, weight_total, listed_entries, node_entries, IsCoupler, node_entries_more, is_marked, is_on_chain, energy_of_node, cases_eq, leb, ltb}
+use Rattle.std.proofs.lemmas.List.Folds.{list_any-append}
+use Rattle.ising_form.proofs.Common.{cases_lt, cases_Bool, nat_tests, ◌≡◌, inl, inr, ℕ, suc, ◌+◌, ◌<◌, ◌≤◌, ◌==◌, Bool, true, false, cond, ◌&&◌, ℤ, pos, unsigned_abs, List, [], ◌∷◌, ◌++◌, length, length-append, length-set, length-take-le, append-nil, take, take_more_set, get_or, get_or-set_other, set, All, refl, sym, ap, ◌∙◌, arith, AllByRecursion, filter, list_any, slice_index_or, IsStrictlySortedBy, ints, sum_by-cons, recursion_from_All, total_by, Entry, spins_energy, entry_cmp, has_node, is_chained, weight_total, listed_entries, node_entries, IsCoupler, node_entries_more, is_marked, is_on_chain, energy_of_node, cases_eq, leb, ltb}
 use Rattle.std.specs.declared.cmp.Ordering.TheVariants.{Less}
 
 -- ---- some of a list, and then another list
@@ -15,18 +16,12 @@ unfolding IsStrictlySortedBy
 sorted-filter p [] cs sorted = sorted
 sorted-filter p (x ∷ xs) cs sorted =
     let before = AllRec-filter (λ e. entry_cmp x e ≡ Less) p xs cs sorted.0 in
-    let rest = sorted-filter p xs cs sorted.1 in
-    grind (arith, before, rest)
+    let rest = sorted-filter p xs cs sorted.1 in grind (arith, before, rest)
 
 -- ---- which nodes have entries
 
 abbrev is_of : ℕ → Entry → Bool
 is_of q e = (e.first == q) && (e.second == q)
-
-any-append : {X : Type 0} (p : X → Bool) (xs ys : List X)
-    → list_any p (xs ++ ys) ≡ (list_any p xs || list_any p ys)
-any-append p [] ys = refl
-any-append p (x ∷ xs) ys = grind (arith, nat_tests, any-append p xs ys)
 
 no_coupler_is_node : (q : ℕ) (n : ℕ) (cs : List Entry) → AllByRecursion (IsCoupler n) cs
     → list_any (is_of q) cs ≡ false
@@ -40,8 +35,7 @@ chained_from : (chains : List (List ℕ)) (q n : ℕ) (ws : List ℤ)
 chained_from chains q n [] = grind (arith, nat_tests)
 chained_from chains q n (w ∷ ws) =
     let cases = cases_eq n q in
-    let rest = chained_from chains q (suc n) ws in
-    grind (arith, nat_tests)
+    let rest = chained_from chains q (suc n) ws in grind (arith, nat_tests)
 
 not_in_chain : (n q : ℕ) (chain : List ℕ) → n ≤ q → AllByRecursion (λ p. p < n) chain
     → list_any (λ p. p == q) chain ≡ false
@@ -61,7 +55,7 @@ pub chained_listed : (chains : List (List ℕ)) (ws : List ℤ) (cs : List Entry
     → has_node (filter (is_on_chain chains) (node_entries 0 ws) ++ cs) q ≡ is_chained chains q
 chained_listed chains ws cs placed couplers q =
     let nodes = filter (is_on_chain chains) (node_entries 0 ws) in
-    let both = any-append (is_of q) nodes cs in
+    let both = list_any-append (is_of q) nodes cs in
     let none = no_coupler_is_node q (length ws) cs (recursion_from_All _ cs couplers) in
     let own = chained_from chains q 0 ws in
     elim (cases_lt q (length ws)) [
@@ -94,8 +88,7 @@ chained_energy y chains n [] none = refl
 chained_energy y chains n (w ∷ ws) none =
     let rest = chained_energy y chains (suc n) ws (unchained-rest chains n w ws none) in
     let zero = unchained-first chains n w ws none in
-    let own = energy_of_node y n w in
-    grind (arith, ints, rest, zero, own)
+    let own = energy_of_node y n w in grind (arith, ints, rest, zero, own)
 
 -- what holds of 0 and of the weights of chained nodes holds of all
 pub all_from_chained : (P : ℤ → Type 0) (chains : List (List ℕ)) (n : ℕ) (ws : List ℤ) (cs : List Entry)

@@ -39,8 +39,7 @@ unfolding added_size
 size-one j n c [] = omega arith
 size-one j n c (w ∷ ws) =
     let cases = cases_eq j n in
-    let rest = size-one j (suc n) c ws in
-    grind (arith, nat_tests, ints)
+    let rest = size-one j (suc n) c ws in grind (arith, nat_tests, ints)
 
 size-nothing : (n : ℕ) (ws : List ℤ) → added_size (λ i. pos 0) n ws ≡ 0
 unfolding added_size
@@ -56,8 +55,7 @@ size-coupled (e ∷ cs) n ws =
     let first = size-one e.first n e.weight ws in
     let second = size-one e.second n e.weight ws in
     let rest = size-coupled cs n ws in
-    let whole = sum_by-cons size e cs in
-    grind (arith, nat_tests)
+    let whole = sum_by-cons size e cs in grind (arith, nat_tests)
 
 -- the fields are at most twice the weights, in size
 pub size-fields : (ws : List ℤ) (cs : List Entry)
@@ -68,8 +66,7 @@ size-sum : (n : ℕ) (ws : List ℤ) → unsigned_abs (total_by (λ (w : ℤ). w
 size-sum n [] = omega arith
 size-sum n (w ∷ ws) = omega (arith, size-plus, node_total-cons, size-sum (suc n) ws)
 
-pub size-constant : (c : ℤ) (ws : List ℤ) (cs : List Entry)
-    → unsigned_abs (spins_constant c ws cs)
+pub size-constant : (c : ℤ) (ws : List ℤ) (cs : List Entry) → unsigned_abs (spins_constant c ws cs)
     ≤ 4 * unsigned_abs c + (2 * node_total 0 ws + weight_total cs)
 size-constant c ws cs =
     let nodes = total_by (λ (w : ℤ). w) ws in
@@ -169,13 +166,10 @@ fields_coupled ws cs i d h first second =
     let less = coupled (take i cs) in
     let one : ℕ → ℤ = λ k. less k +ℤ if_so (e.first == k) c in
     let whole : (k : ℕ) → coupled (take (i + 1) cs) k ≡ one k +ℤ if_so (e.second == k) c =
-    λ k. total_by_more (end_weight k) cs i d h ∙ grouped (less k) (if_so (e.first == k) c) (if_so (e.second == k) c) in
+    λ k. omega (arith, ints, total_by_more (end_weight k) cs i d h) in
     fields_raised one (coupled (take (i + 1) cs)) 0 e.second e.second c ws whole (omega arith) second
     ∙ ap (λ hs. raised hs e.second c)
     (fields_raised less one 0 e.first e.first c ws (λ k. refl) (omega arith) first)
-  where
-    grouped : (a b c : ℤ) → a +ℤ (b +ℤ c) ≡ (a +ℤ b) +ℤ c
-    grouped a b c = omega (arith, ints)
 
 -- ---- raised fields
 

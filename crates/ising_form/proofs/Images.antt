@@ -54,8 +54,7 @@ size-nodes n (w ∷ ws) =
     let rest0 = size-nodes (suc n) ws in simp sum_by-cons (grind (arith, nat_tests, ints, eq-eqb))
 
 -- the constant counts only where the form has a term
-size-image_constant : (q : QuadContent)
-    → counts (image q).constant
+size-image_constant : (q : QuadContent) → counts (image q).constant
     ≤ counts q.constant + (sum_by entry_size (node_entries 0 q.diagonal) + sum_by entry_size q.couplers)
 size-image_constant q =
     let nodes = node_entries 0 q.diagonal in

@@ -70,8 +70,7 @@ written_total f kind chains = grind (arith, nat_tests, chained_total)
 
 pub written_relaxes : (source : Form) (f : IsingContent) (d : Decoding) (variables : ℕ)
     (figures : Figures) (unit : ℤ) (kind : Kind) (chains : List (List ℕ))
-    → FitsOutput kind chains variables f
-    → (unit ≡ pos 1) ⊎ (f.constant ≡ pos 0)
+    → FitsOutput kind chains variables f → (unit ≡ pos 1) ⊎ (f.constant ≡ pos 0)
     → ((y : List Bool) → d.decoded y ≡ read_off kind variables chains y)
     → Relaxes source (form_of f) d unit figures
     → RelaxesAsWritten source (written_of f variables figures unit kind chains)

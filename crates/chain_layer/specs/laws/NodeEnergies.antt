@@ -2,21 +2,14 @@
 --
 -- Where no tie is broken they cost what the field costs, less the strength of each tie. Where one is,
 -- it costs twice its strength more, and the shares give back at most twice the field.
-use Rattle.std.specs.Prelude.{◌≡◌, ◌≢◌, ℕ, suc, ◌+◌, ◌*◌, ◌<◌, ◌≤◌, ◌/◌, ℤ, pos, negsuc, neg_ℤ, ◌+ℤ◌, ◌*ℤ◌, ◌≤ℤ◌, unsigned_abs, Bool, true, false, cond, ◌&&◌, List, [], ◌∷◌, length, take, drop, nat_lt}
-use Rattle.std.specs.List.{AllByRecursion, AllZip}
+use Rattle.embedding_check.proofs.Common.{AllZip, nat_tests, length-drop, sum_by-cons, Entry, IsTie}
+use Rattle.ising_form.proofs.Common.{AllByRecursion, ints, length-take-le, sum_by-append, total_by, total_by-append, times_spin, weight_total, size-times_spin}
+use Rattle.std.specs.Prelude.{◌≡◌, ◌≢◌, ℕ, ◌+◌, ◌*◌, ◌<◌, ◌≤◌, ◌/◌, ℤ, pos, negsuc, neg_ℤ, ◌+ℤ◌, ◌*ℤ◌, ◌≤ℤ◌, unsigned_abs, Bool, true, false, cond, List, [], ◌∷◌, length, take, drop, sum_by}
 use Rattle.std.specs.Int.{int_div_euclid, int_rem_euclid}
-use Rattle.std.proofs.Common.{arith, ap, sym, ◌∙◌, refl, mod-lt, div-add-mod'}
-use Rattle.std.proofs.lemmas.Int.{ints}
-use Rattle.std.proofs.lemmas.Bool.{ltb-true, ltb-false, and_parts}
-use Rattle.std.proofs.lemmas.List.{length-drop, length-take-le}
+use Rattle.std.proofs.Common.{arith, ap, sym, ◌∙◌, refl, inl, inr, mod-lt, div-add-mod'}
+use Rattle.std.proofs.lemmas.Bool.{and_parts, and_cases}
 use Rattle.std.proofs.lemmas.List.Elements.{All-from_recursion, recursion_from_All, All-take, All-drop}
-use Rattle.std.proofs.lemmas.List.Sums.{sum_by-cons, sum_by-append}
-use Rattle.base.specs.Sums.{total_by}
 use Rattle.base.proofs.Products.{times-plus, plus-times}
-use Rattle.base.proofs.Totals.{total_by-append}
-use Rattle.bits_model.specs.declared.output.Entry.{Entry}
-use Rattle.bits_model.specs.Output.{times_spin, weight_total}
-use Rattle.embedding_check.specs.Embeddings.{IsTie}
 use Rattle.chain_layer.specs.Image.{coupling_entry, field_entry, equal_shares, shares, ties}
 use Rattle.chain_layer.specs.laws.SpinSums.{all_append, spin_energy, pair_energy, times_spin-plus, times_spin-comm, times_spin-zero, IsUpward}
 use Rattle.chain_layer.specs.laws.Whole.{are_same, is_whole, HasBit, each_in}
@@ -26,88 +19,68 @@ use Rattle.chain_layer.specs.laws.Whole.{are_same, is_whole, HasBit, each_in}
 -- a coupling of two qubits costs its weight times both spins, whichever qubit is the lesser one
 pub coupling_energy : (s : ℕ → Bool) (q p : ℕ) (w : ℤ)
     → pair_energy s (coupling_entry q p w) ≡ times_spin (s q) (times_spin (s p) w)
-coupling_energy s q p w = go (nat_lt q p)
-  where
-    go : (b : Bool)
-        → pair_energy s (cond b (record { first = q; second = p; weight = w }) (record { first = p; second = q; weight = w }))
-        ≡ times_spin (s q) (times_spin (s p) w)
-    go true = refl
-    go false = times_spin-comm (s p) (s q) w
+coupling_energy s q p w = let turned = times_spin-comm (s p) (s q) w in grind (arith, nat_tests)
 
 -- a coupling of two different qubits has the lesser one first
 pub coupling_upward : (q p : ℕ) (w : ℤ) → (q ≢ p) → IsUpward (coupling_entry q p w)
-coupling_upward q p w apart = go (nat_lt q p) (λ e. ltb-true q p e) (λ e. ltb-false q p e)
-  where
-    go : (b : Bool) → (b ≡ true → q < p) → (b ≡ false → p ≤ q)
-        → IsUpward (cond b (record { first = q; second = p; weight = w }) (record { first = p; second = q; weight = w }))
-    go true lt ge = lt refl
-    go false lt ge = let h = ge refl in grind arith
+coupling_upward q p w apart = grind (arith, nat_tests)
 
 -- each tie of a qubit to its parent is of two different qubits, the lesser one first
-pub ties_upward : (chain qs ps : List ℕ) (strong : ℕ) → AllZip (IsTie chain) qs ps
-    → AllByRecursion IsUpward (ties (λ _. strong) qs ps)
+pub ties_upward : (chain qs ps : List ℕ) (strong : ℕ → ℕ) → AllZip (IsTie chain) qs ps
+    → AllByRecursion IsUpward (ties strong qs ps)
 ties_upward chain [] ps strong h = tt
 ties_upward chain (q ∷ qs) [] strong h = tt
 ties_upward chain (q ∷ qs) (p ∷ ps) strong h =
     (coupling_upward q p _ h.0.apart, ties_upward chain qs ps strong h.1)
 
 -- a tie of strength n costs -n where it holds and n where it is broken
-pub tie_energy : (a b : Bool) (n : ℕ)
-    → times_spin a (times_spin b (neg_ℤ (pos n))) ≡ cond (are_same a b) (neg_ℤ (pos n)) (pos n)
-tie_energy true true n = refl
-tie_energy true false n = omega (arith, ints)
-tie_energy false true n = omega (arith, ints)
-tie_energy false false n = omega (arith, ints)
+tie_energy : (s : ℕ → Bool) (q p n : ℕ) → pair_energy s (coupling_entry q p (neg_ℤ (pos n)))
+    ≡ cond (are_same (s q) (s p)) (neg_ℤ (pos n)) (pos n)
+tie_energy s q p n = coupling_energy s q p (neg_ℤ (pos n)) ∙ grind (arith, ints)
 
 -- where no tie is broken, each one lowers the energy by its strength
-pub ties_whole : (s : ℕ → Bool) (qs ps : List ℕ) (n : ℕ) → length qs ≡ length ps
+pub ties_whole : (s : ℕ → Bool) (qs ps : List ℕ) (strong : ℕ → ℕ) → length qs ≡ length ps
     → is_whole s qs ps ≡ true
-    → total_by (pair_energy s) (ties (λ _. n) qs ps) ≡ neg_ℤ (pos (n * length qs))
-ties_whole s [] ps n same h = omega (arith, ints)
-ties_whole s (q ∷ qs) [] n same h = absurd (omega (arith, same))
-ties_whole s (q ∷ qs) (p ∷ ps) n same h =
+    → total_by (pair_energy s) (ties strong qs ps) ≡ neg_ℤ (pos (sum_by strong qs))
+ties_whole s [] ps strong same h = refl
+ties_whole s (q ∷ qs) [] strong same h = absurd (omega (arith, same))
+ties_whole s (q ∷ qs) (p ∷ ps) strong same h =
     let parts = and_parts (are_same (s q) (s p)) (is_whole s qs ps) h in
-    let tie : pair_energy s (coupling_entry q p (neg_ℤ (pos n))) ≡ neg_ℤ (pos n) =
-    coupling_energy s q p (neg_ℤ (pos n)) ∙ tie_energy (s q) (s p) n
-    ∙ ap (λ t. cond t (neg_ℤ (pos n)) (pos n)) parts.0 in
-    omega (arith, ints, tie, ties_whole s qs ps n (omega (arith, same)) parts.1)
+    let n = strong q in
+    let tie = tie_energy s q p n ∙ ap (λ t. cond t (neg_ℤ (pos n)) (pos n)) parts.0 in
+    let rest = ties_whole s qs ps strong (omega (arith, same)) parts.1 in
+    omega (arith, ints, tie, sum_by-cons strong q qs, rest)
 
--- whatever the spins are, ties lower the energy at most by their strengths
+-- whatever the spins are, a tie lowers the energy at most by its strength
+tie_low : (s : ℕ → Bool) (q p n : ℕ)
+    → neg_ℤ (pos n) ≤ℤ pair_energy s (coupling_entry q p (neg_ℤ (pos n)))
+tie_low s q p n = let cost = tie_energy s q p n in grind (arith, ints)
+
+-- and ties of one strength by their strengths
 ties_low : (s : ℕ → Bool) (qs ps : List ℕ) (n : ℕ) → length qs ≡ length ps
-    → neg_ℤ (pos (n * length qs)) ≤ℤ total_by (pair_energy s) (ties (λ _. n) qs ps)
+    → neg_ℤ (pos (sum_by (λ _. n) qs)) ≤ℤ total_by (pair_energy s) (ties (λ _. n) qs ps)
 ties_low s [] ps n same = omega (arith, ints)
 ties_low s (q ∷ qs) [] n same = absurd (omega (arith, same))
 ties_low s (q ∷ qs) (p ∷ ps) n same =
-    let tie = coupling_energy s q p (neg_ℤ (pos n)) ∙ tie_energy (s q) (s p) n in
-    omega (arith, ints, tie, low (are_same (s q) (s p)), ties_low s qs ps n (omega (arith, same)))
-  where
-    low : (t : Bool) → neg_ℤ (pos n) ≤ℤ cond t (neg_ℤ (pos n)) (pos n)
-    low true = omega (arith, ints)
-    low false = omega (arith, ints)
+    let rest = ties_low s qs ps n (omega (arith, same)) in
+    omega (arith, ints, tie_low s q p n, sum_by-cons (λ _. n) q qs, rest)
 
 -- one of them is broken: then they cost at least twice the strength more than where none is
 pub ties_broken : (s : ℕ → Bool) (qs ps : List ℕ) (n : ℕ) → length qs ≡ length ps
     → is_whole s qs ps ≡ false
-    → (neg_ℤ (pos (n * length qs)) +ℤ pos (2 * n)) ≤ℤ total_by (pair_energy s) (ties (λ _. n) qs ps)
+    → (neg_ℤ (pos (sum_by (λ _. n) qs)) +ℤ pos (2 * n)) ≤ℤ total_by (pair_energy s) (ties (λ _. n) qs ps)
 ties_broken s [] ps n same h = absurd (cc)
 ties_broken s (q ∷ qs) [] n same h = absurd (omega (arith, same))
 ties_broken s (q ∷ qs) (p ∷ ps) n same h =
-    let tie = coupling_energy s q p (neg_ℤ (pos n)) ∙ tie_energy (s q) (s p) n in
-    go (are_same (s q) (s p)) (is_whole s qs ps) h tie (ties_low s qs ps n (omega (arith, same)))
-    (ties_broken s qs ps n (omega (arith, same)))
-  where
-    rest : ℤ
-    rest = total_by (pair_energy s) (ties (λ _. n) qs ps)
-
-    go : (t u : Bool) → (t && u) ≡ false
-        → pair_energy s (coupling_entry q p (neg_ℤ (pos n))) ≡ cond t (neg_ℤ (pos n)) (pos n)
-        → neg_ℤ (pos (n * length qs)) ≤ℤ total_by (pair_energy s) (ties (λ _. n) qs ps)
-        → (u ≡ false → (neg_ℤ (pos (n * length qs)) +ℤ pos (2 * n)) ≤ℤ total_by (pair_energy s) (ties (λ _. n) qs ps))
-        → (neg_ℤ (pos (n * suc (length qs))) +ℤ pos (2 * n))
-        ≤ℤ (pair_energy s (coupling_entry q p (neg_ℤ (pos n))) +ℤ total_by (pair_energy s) (ties (λ _. n) qs ps))
-    go true true h e low broken = absurd (cc)
-    go true false h e low broken = omega (arith, ints, e, broken refl)
-    go false u h e low broken = omega (arith, ints, e, low)
+    let sums = sum_by-cons (λ _. n) q qs in
+    elim (and_cases (are_same (s q) (s p)) (is_whole s qs ps) h) [
+      | inl here ↦
+          let tie = tie_energy s q p n ∙ ap (λ t. cond t (neg_ℤ (pos n)) (pos n)) here in
+          omega (arith, ints, tie, sums, ties_low s qs ps n (omega (arith, same)))
+      | inr later ↦
+          let rest = ties_broken s qs ps n (omega (arith, same)) later in
+          omega (arith, ints, tie_low s q p n, sums, rest)
+    ]
 
 -- ---- shares
 
@@ -136,8 +109,7 @@ equal_total (q ∷ qs) share =
 
 -- the quotient and the rest of a field: the rest is from 0 to n - 1, also for a negative field, and
 -- quotient times n plus rest is the field
-pub split_of : (h : ℤ) (n : ℕ) → 0 < n
-    → (unsigned_abs (int_rem_euclid h (pos n)) < n)
+pub split_of : (h : ℤ) (n : ℕ) → 0 < n → (unsigned_abs (int_rem_euclid h (pos n)) < n)
     × (int_div_euclid h (pos n) *ℤ pos n +ℤ pos (unsigned_abs (int_rem_euclid h (pos n))) ≡ h)
 split_of (pos a) n some = (mod-lt a some, omega (arith, ints, div-add-mod' a n))
 split_of (negsuc a) n some = (omega (arith, mod-lt a some), omega (arith, ints, mod-lt a some, div-add-mod' a n))
@@ -147,13 +119,8 @@ one_spin : (s : ℕ → Bool) (b : Bool) (es : List Entry) → AllByRecursion (�
     → total_by (spin_energy s) es ≡ times_spin b (total_by (λ e. e.weight) es)
 one_spin s b [] h = sym (times_spin-zero b)
 one_spin s b (e ∷ es) h =
-    omega (
-      arith,
-      ints,
-      ap (λ t. times_spin t e.weight) h.0,
-      one_spin s b es h.1,
-      times_spin-plus b e.weight (total_by (λ e. e.weight) es),
-    )
+    let split = times_spin-plus b e.weight (total_by (λ e. e.weight) es) in
+    omega (arith, ints, ap (λ t. times_spin t e.weight) h.0, one_spin s b es h.1, split)
 
 -- a chain that is not empty has a qubit or more
 pub filled_length : (chain : List ℕ) → (chain ≢ []) → 0 < length chain
@@ -175,21 +142,15 @@ shares_total chain h filled =
     let parts = cut chain rest (omega (arith, split.0)) in
     let front = length (take rest chain) in
     let back = length (drop rest chain) in
-    omega (
-      arith,
-      ints,
-      total_by-append (λ (e : Entry). e.weight) (equal_shares (take rest chain) (share +ℤ pos 1)) (equal_shares (drop rest chain) share),
-      equal_total (take rest chain) (share +ℤ pos 1),
-      equal_total (drop rest chain) share,
-      plus-times (pos front) share (pos 1),
-      times-plus share (pos front) (pos back),
-      ap (λ m. share *ℤ pos m) (sum_of front back rest n parts.0 parts.1),
-      parts.0,
-      split.1,
-    )
-  where
-    sum_of : (f b r n : ℕ) → f ≡ r → b + r ≡ n → f + b ≡ n
-    sum_of f b r n p q = omega (arith, p, q)
+    let whole : front + back ≡ n = omega (arith, parts.0, parts.1) in
+    let joined =
+    total_by-append (λ (e : Entry). e.weight) (equal_shares (take rest chain) (share +ℤ pos 1)) (equal_shares (drop rest chain) share) in
+    let shares_are = equal_total (take rest chain) (share +ℤ pos 1) in
+    let back_total = equal_total (drop rest chain) share in
+    let front_split = plus-times (pos front) share (pos 1) in
+    let both_split = times-plus share (pos front) (pos back) in
+    let same = ap (λ m. share *ℤ pos m) whole in
+    omega (arith, ints, joined, shares_are, back_total, front_split, both_split, same, parts.0, split.1)
 
 -- on a chain of one bit the shares cost what the field costs at that bit
 pub shares_whole : (s : ℕ → Bool) (chain : List ℕ) (h : ℤ) (b : Bool) → (chain ≢ [])
@@ -203,11 +164,9 @@ pub weights_of_equal : (qubits : List ℕ) (share : ℤ)
     → weight_total (equal_shares qubits share) ≡ length qubits * unsigned_abs share
 weights_of_equal [] share = omega arith
 weights_of_equal (q ∷ qs) share =
-    omega (
-      arith,
-      sum_by-cons (λ (e : Entry). unsigned_abs e.weight) (field_entry q share) (equal_shares qs share),
-      weights_of_equal qs share,
-    )
+    let sizes_are =
+    sum_by-cons (λ (e : Entry). unsigned_abs e.weight) (field_entry q share) (equal_shares qs share) in
+    omega (arith, sizes_are, weights_of_equal qs share)
 
 -- The shares of a field have one sign, so together they have its size. So splitting a field makes
 -- no weight of the model larger than it was.
@@ -238,14 +197,5 @@ pub spins_low : (s : ℕ → Bool) (es : List Entry)
     → neg_ℤ (pos (weight_total es)) ≤ℤ total_by (spin_energy s) es
 spins_low s [] = omega (arith, ints)
 spins_low s (e ∷ es) =
-    omega (
-      arith,
-      ints,
-      sum_by-cons (λ (e : Entry). unsigned_abs e.weight) e es,
-      low (s e.first) e.weight,
-      spins_low s es,
-    )
-  where
-    low : (b : Bool) (w : ℤ) → neg_ℤ (pos (unsigned_abs w)) ≤ℤ times_spin b w
-    low true w = omega (arith, ints)
-    low false w = omega (arith, ints)
+    let sizes_are = sum_by-cons (λ (e : Entry). unsigned_abs e.weight) e es in
+    omega (arith, ints, sizes_are, size-times_spin (s e.first) e.weight, spins_low s es)

@@ -1,13 +1,8 @@
 -- Chains without a qubit twice, and the parents of their qubits.
+use Rattle.embedding_check.proofs.Common.{AllZip, sum_by-cons, is_in, Embedding, IsEmbedding, parent_in, chain_of, occurrences-chain-le}
 use Rattle.std.proofs.Common.{◌≡◌, ◌≢◌, ℕ, ◌<◌, ◌≤◌, true, false, cond, List, [], ◌∷◌, length, refl, sym, ap, ◌∙◌, arith}
 use Rattle.std.specs.Prelude.{◌==◌, count_by, ⊤}
-use Rattle.std.specs.List.{AllZip}
 use Rattle.std.proofs.lemmas.Bool.{eq-eqb, ne_eqb, false_from_ne_true}
-use Rattle.std.proofs.lemmas.List.Sums.{sum_by-cons}
-use Rattle.bits_model.specs.Walks.{is_in}
-use Rattle.embedding_check.specs.Embeddings.{Embedding, IsEmbedding, parent_in}
-use Rattle.chain_map.specs.Chains.{chain_of}
-use Rattle.chain_map.proofs.Occurrences.{occurrences-chain-le}
 use Rattle.chain_layer.specs.laws.Whole.{in_first, in_rest}
 use Rattle.chain_layer.specs.laws.Kept.{counted_in}
 
@@ -46,8 +41,18 @@ AreOwn cs ds qs ps = AllZip (λ q p. parent_in cs ds q ≡ p) qs ps
 -- a qubit that is in a list is another one than a qubit that is not
 pub apart_qubits : (q c : ℕ) (cs : List ℕ) → is_in cs c ≡ false → is_in cs q ≡ true → (c ≢ q)
 apart_qubits q c cs out in' same =
-    let both : true ≡ false = sym in' ∙ sym (ap (is_in cs) same) ∙ out in
-    cc
+    let both : true ≡ false = sym in' ∙ sym (ap (is_in cs) same) ∙ out in cc
+
+-- what holds of two lists, place by place, and implies something for a qubit of the first list
+pub zip_weaker : (R S : ℕ → ℕ → Type 0) (qs ps : List ℕ)
+    → ((q p : ℕ) → is_in qs q ≡ true → R q p → S q p) → AllZip R qs ps → AllZip S qs ps
+zip_weaker R S [] [] over all = tt
+zip_weaker R S [] (p ∷ ps) over all = all
+zip_weaker R S (q ∷ qs) [] over all = all
+zip_weaker R S (q ∷ qs) (p ∷ ps) over all = (
+  over q p (in_first q qs) all.0,
+  zip_weaker R S qs ps (λ r t in'. over r t (in_rest q r qs in')) all.1,
+)
 
 -- Where the qubits of a list are different, a look-up gives each of them the parent at its place.
 -- So a tie can be named by its qubit alone.
@@ -57,15 +62,7 @@ own_parents [] (d ∷ ds) once same = absurd (omega (arith, same))
 own_parents (c ∷ cs) [] once same = absurd (omega (arith, same))
 own_parents (c ∷ cs) (d ∷ ds) once same = (
   ap (λ b. cond b d (parent_in cs ds c)) (eq-eqb c c refl),
-  further cs ds (λ q in'. in') (own_parents cs ds once.1 (omega (arith, same))),
+  zip_weaker (λ q p. parent_in cs ds q ≡ p) (λ q p. parent_in (c ∷ cs) (d ∷ ds) q ≡ p) cs ds
+      (λ q p in' own. ap (λ b. cond b d (parent_in cs ds q)) (ne_eqb c q (apart_qubits q c cs once.0 in')) ∙ own)
+      (own_parents cs ds once.1 (omega (arith, same))),
 )
-  where
-    further : (qs ps : List ℕ) → ((q : ℕ) → is_in qs q ≡ true → is_in cs q ≡ true) → AreOwn cs ds qs ps
-        → AreOwn (c ∷ cs) (d ∷ ds) qs ps
-    further [] [] ins all = tt
-    further [] (p ∷ ps) ins all = all
-    further (q ∷ qs) [] ins all = all
-    further (q ∷ qs) (p ∷ ps) ins all = (
-      ap (λ b. cond b d (parent_in cs ds q)) (ne_eqb c q (apart_qubits q c cs once.0 (ins q (in_first q qs)))) ∙ all.0,
-      further qs ps (λ r in'. ins r (in_rest q r qs in')) all.1,
-    )

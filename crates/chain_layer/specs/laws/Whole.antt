@@ -3,13 +3,10 @@
 --
 -- Each qubit has the bit of its parent, and steps to the parent lead to the first qubit; so all
 -- have its bit, and the majority of a chain of one bit is that bit.
-use Rattle.std.specs.Prelude.{◌≡◌, ◌≢◌, ℕ, zero, suc, ◌+◌, ◌*◌, ◌==◌, Bool, true, false, not, cond, ◌&&◌, List, [], ◌∷◌, length, drop, nat_lt}
-use Rattle.std.specs.List.{AllByRecursion}
-use Rattle.std.proofs.Common.{arith, ap, sym, ◌∙◌, refl}
-use Rattle.std.proofs.lemmas.Bool.{eq-eqb, eqb-true, lt-ltb, le-ltb, and_parts, or_left, or_right}
-use Rattle.std.proofs.lemmas.List.Sums.{sum_by-cons}
-use Rattle.bits_model.specs.Output.{bit_at, ones_in, majority}
-use Rattle.bits_model.specs.Walks.{is_in, first_of}
+use Rattle.std.specs.Prelude.{◌≡◌, ◌≢◌, ◌&&◌, ◌∷◌, ◌==◌}
+use Rattle.bits_model.proofs.Common.{ℕ, zero, suc, Bool, true, false, cond, List, [], length, drop, AllByRecursion, arith, ap, sym, ◌∙◌, refl, nat_tests, sum_by-cons, bit_at, ones_in, majority}
+use Rattle.chain_map.proofs.Common.{not, is_in, first_of}
+use Rattle.std.proofs.lemmas.Bool.{eq-eqb, and_parts, or_left, or_right}
 use Rattle.embedding_check.specs.Embeddings.{parent_in, climbed, IsTree}
 
 -- two equal bits, as a test
@@ -47,10 +44,7 @@ each_in P (q ∷ qs) h = (h q (in_first q qs), each_in P qs (λ p in'. h p (in_r
 
 -- bits that pass the test are equal
 same_bits : (a b : Bool) → are_same a b ≡ true → b ≡ a
-same_bits true true h = refl
-same_bits true false h = h
-same_bits false true h = sym h
-same_bits false false h = refl
+same_bits a b h = grind arith
 
 -- on such ties a qubit's parent has its bit
 parent_same : (s : ℕ → Bool) (cs ps : List ℕ) (q : ℕ) → is_whole s cs ps ≡ true
@@ -59,13 +53,8 @@ parent_same s [] ps q h = refl
 parent_same s (c ∷ cs) [] q h = refl
 parent_same s (c ∷ cs) (p ∷ ps) q h =
     let parts = and_parts (are_same (s c) (s p)) (is_whole s cs ps) h in
-    go (c == q) (λ e. same_bits (s c) (s p) parts.0 ∙ ap s (eqb-true c q e))
-    (parent_same s cs ps q parts.1)
-  where
-    go : (t : Bool) → (t ≡ true → s p ≡ s q) → s (parent_in cs ps q) ≡ s q
-        → s (cond t p (parent_in cs ps q)) ≡ s q
-    go true here rest = here refl
-    go false here rest = rest
+    let here = same_bits (s c) (s p) parts.0 in
+    let rest = parent_same s cs ps q parts.1 in grind (arith, nat_tests)
 
 -- and so has the qubit that any number of steps leads to
 climbed_same : (s : ℕ → Bool) (cs ps : List ℕ) (n q : ℕ) → is_whole s cs ps ≡ true
@@ -89,14 +78,7 @@ ones_of : (y : List Bool) (qs : List ℕ) (b : Bool) → AllByRecursion (λ q. b
     → ones_in y qs ≡ cond b (length qs) 0
 ones_of y [] true h = refl
 ones_of y [] false h = refl
-ones_of y (q ∷ qs) b h =
-    sum_by-cons (λ p. cond (bit_at y p) 1 0) q qs ∙ ap (λ t. cond t 1 0 + ones_in y qs) h.0
-    ∙ more b (ones_of y qs b h.1)
-  where
-    more : (b : Bool) → ones_in y qs ≡ cond b (length qs) 0
-        → cond b 1 0 + ones_in y qs ≡ cond b (suc (length qs)) 0
-    more true e = omega (arith, e)
-    more false e = omega (arith, e)
+ones_of y (q ∷ qs) b h = let rest = ones_of y qs b h.1 in simp sum_by-cons (grind arith)
 
 -- the majority of a chain that is not empty is the bit that all of its qubits have
 pub majority_of : (y : List Bool) (chain : List ℕ) (b : Bool) → (chain ≢ []) → HasBit (bit_at y) chain b
@@ -104,11 +86,4 @@ pub majority_of : (y : List Bool) (chain : List ℕ) (b : Bool) → (chain ≢ [
 majority_of y [] b filled h = absurd (filled refl)
 majority_of y (q ∷ qs) b filled h =
     let ones = ones_of y (q ∷ qs) b (each_in (λ p. bit_at y p ≡ b) (q ∷ qs) h) in
-    rw ones (go b)
-  where
-    go : (b : Bool)
-        → cond (nat_lt (suc (length qs)) (2 * cond b (suc (length qs)) 0)) true
-        (cond (nat_lt (2 * cond b (suc (length qs)) 0) (suc (length qs))) false (bit_at y q))
-        ≡ b
-    go true = rw (lt-ltb (suc (length qs)) (2 * suc (length qs)) (omega arith)) refl
-    go false = rw (le-ltb (suc (length qs)) (2 * 0) (omega arith), lt-ltb (2 * 0) (suc (length qs)) (omega arith)) refl
+    grind (arith, nat_tests)

@@ -4,24 +4,9 @@
 -- it gives back at most twice its size. What is summed here is exactly that: twice the sizes of the
 -- fields and placed couplings at flipped qubits, and the ties, of which just the broken one
 -- changes.
-use Rattle.chain_layer.specs.laws.NodeEnergies.{coupling_energy}
-use Rattle.std.specs.Prelude.{◌≡◌, ◌≢◌, ℕ, ◌*◌, ◌<◌, ◌==◌, ℤ, pos, neg_ℤ, ◌+ℤ◌, ◌≤ℤ◌, unsigned_abs, Bool, true, false, not, cond, ◌&&◌, ◌||◌, List, [], ◌∷◌}
-use Rattle.std.specs.List.{AllByRecursion, AllZip, range_with_len}
-use Rattle.std.proofs.Common.{arith, ap, sym, ◌∙◌, refl, inl, inr}
-use Rattle.std.proofs.lemmas.Int.{ints}
-use Rattle.std.proofs.lemmas.Bool.{cases_eq, eq-eqb, ne_eqb, eqb-true, or_left, or_right, or_parts, both_ways, and_cases}
-use Rattle.std.proofs.lemmas.List.Sums.{sum_by-cons}
-use Rattle.base.specs.Sums.{total_by, if_so}
-use Rattle.base.proofs.Totals.{total_by-plus}
-use Rattle.bits_model.specs.declared.output.Entry.{Entry}
-use Rattle.bits_model.specs.Output.{times_spin}
-use Rattle.bits_model.specs.Walks.{is_in}
-use Rattle.quad_form.specs.Quads.{IsCoupler}
-use Rattle.chain_layer.specs.Image.{couplings_at, ties}
-use Rattle.chain_layer.specs.laws.SpinSums.{pair_energy, range-le, range-zero, hit, marked_ends}
-use Rattle.chain_layer.specs.laws.Whole.{are_same, is_whole}
+use Rattle.std.specs.Prelude.{◌≡◌, ◌≢◌, ◌*◌, ◌<◌, ◌==◌, ◌+ℤ◌, ◌≤ℤ◌, ◌&&◌, ◌∷◌}
+use Rattle.chain_layer.proofs.Common.{coupling_energy, ℕ, ℤ, pos, neg_ℤ, unsigned_abs, Bool, true, false, not, cond, List, [], AllByRecursion, AllZip, range_with_len, arith, ap, sym, ◌∙◌, refl, inl, inr, ints, nat_tests, cases_eq, eq-eqb, or_left, or_right, or_parts, both_ways, and_cases, sum_by-cons, total_by, if_so, total_by-plus, Entry, times_spin, is_in, IsCoupler, couplings_at, coupling_entry, ties, pair_energy, range-le, range-zero, hit, marked_ends, are_same, is_whole, Once}
 use Rattle.cut_chains.specs.Sides.{side_weight}
-use Rattle.chain_layer.specs.laws.OnceChains.{Once}
 
 -- The spins with those of a side turned over. A side is a test of qubits. Bits are spins: 1 is up,
 -- 0 is down.
@@ -33,9 +18,7 @@ flipped side s q = cond (side q) (not (s q)) (s q)
 -- a field gives back at most twice its size when its spin is flipped, and nothing otherwise
 field_flip : (t b : Bool) (w : ℤ)
     → times_spin (cond t (not b) b) w ≤ℤ (times_spin b w +ℤ if_so t (pos (2 * unsigned_abs w)))
-field_flip true true w = omega (arith, ints)
-field_flip true false w = omega (arith, ints)
-field_flip false b w = omega (arith, ints)
+field_flip t b w = grind (arith, ints)
 
 -- and all of those on the side together twice the sum of their sizes. The sums go over all n qubits
 -- of the graph, and those not on the side count 0
@@ -46,13 +29,10 @@ pub fields_flip : (side s : ℕ → Bool) (f : ℕ → ℤ) (n : ℕ)
 fields_flip side s f n =
     let before : ℕ → ℤ = λ q. times_spin (s q) (f q) in
     let due : ℕ → ℤ = λ q. if_so (side q) (pos (2 * unsigned_abs (f q))) in
-    omega (
-      arith,
-      ints,
-      range-le (λ q. times_spin (flipped side s q) (f q)) (λ q. before q +ℤ due q) 0 n
-          (λ q l. field_flip (side q) (s q) (f q)),
-      total_by-plus before due (range_with_len 0 n),
-    )
+    let each =
+    range-le (λ q. times_spin (flipped side s q) (f q)) (λ q. before q +ℤ due q) 0 n
+    (λ q l. field_flip (side q) (s q) (f q)) in
+    omega (arith, ints, each, total_by-plus before due (range_with_len 0 n))
 
 -- ---- placed couplings
 
@@ -62,22 +42,7 @@ pair_flip : (t u a b : Bool) (w : ℤ)
     → times_spin (cond t (not a) a) (times_spin (cond u (not b) b) w)
     ≤ℤ (times_spin a (times_spin b w)
     +ℤ (if_so t (pos (2 * unsigned_abs w)) +ℤ if_so u (pos (2 * unsigned_abs w))))
-pair_flip true true a b w = omega (arith, ints, both a b)
-  where
-    both : (a b : Bool) → times_spin (not a) (times_spin (not b) w) ≡ times_spin a (times_spin b w)
-    both true true = omega (arith, ints)
-    both true false = omega (arith, ints)
-    both false true = omega (arith, ints)
-    both false false = omega (arith, ints)
-pair_flip true false true true w = omega (arith, ints)
-pair_flip true false true false w = omega (arith, ints)
-pair_flip true false false true w = omega (arith, ints)
-pair_flip true false false false w = omega (arith, ints)
-pair_flip false true true true w = omega (arith, ints)
-pair_flip false true true false w = omega (arith, ints)
-pair_flip false true false true w = omega (arith, ints)
-pair_flip false true false false w = omega (arith, ints)
-pair_flip false false a b w = omega (arith, ints)
+pair_flip t u a b w = grind (arith, ints)
 
 -- What couplings give back for their ends on the side. A coupling with both ends on the side counts
 -- twice, which is more than is needed.
@@ -87,23 +52,17 @@ ends_due side c =
     +ℤ if_so (side c.second) (pos (2 * unsigned_abs c.weight))
 
 -- so all couplings together give back at most what their ends on the side are due
-pairs_flip : (side s : ℕ → Bool) (cs : List Entry)
-    → total_by (pair_energy (flipped side s)) cs
+pairs_flip : (side s : ℕ → Bool) (cs : List Entry) → total_by (pair_energy (flipped side s)) cs
     ≤ℤ (total_by (pair_energy s) cs +ℤ total_by (ends_due side) cs)
 pairs_flip side s [] = omega (arith, ints)
 pairs_flip side s (c ∷ cs) =
-    omega (
-      arith,
-      ints,
-      pair_flip (side c.first) (side c.second) (s c.first) (s c.second) c.weight,
-      pairs_flip side s cs,
-    )
+    let here = pair_flip (side c.first) (side c.second) (s c.first) (s c.second) c.weight in
+    omega (arith, ints, here, pairs_flip side s cs)
 
 -- The same, counted by qubits in place of couplings: twice the sizes of the couplings at the qubits
 -- of the side. So the bound is a sum over qubits, like the weight of a side.
 pub couplings_flip : (side s : ℕ → Bool) (n : ℕ) (cs : List Entry) → AllByRecursion (IsCoupler n) cs
-    → total_by (pair_energy (flipped side s)) cs
-    ≤ℤ (total_by (pair_energy s) cs
+    → total_by (pair_energy (flipped side s)) cs ≤ℤ (total_by (pair_energy s) cs
     +ℤ total_by (λ q. if_so (side q) (pos (2 * couplings_at q cs))) (range_with_len 0 n))
 couplings_flip side s n cs couplers =
     omega (arith, ints, pairs_flip side s cs, marked_ends side n cs couplers)
@@ -121,63 +80,34 @@ side_counted weight is_on n [] within = omega (arith, ints, range-zero 0 n)
 side_counted weight is_on n (c ∷ cs) within =
     let here : ℕ → ℤ = λ q. if_so (q == c) (pos (2 * cond (is_on q) (weight q) 0)) in
     let rest : ℕ → ℤ = λ q. if_so (is_in cs q && is_on q) (pos (2 * weight q)) in
-    omega (
-      arith,
-      ints,
-      range-le (λ q. if_so (is_in (c ∷ cs) q && is_on q) (pos (2 * weight q)))
-          (λ q. here q +ℤ rest q) 0 n
-          (λ q l. one (c == q) (q == c) (is_in cs q) (is_on q) (weight q) (turned c q)),
-      total_by-plus here rest (range_with_len 0 n),
-      hit (λ q. pos (2 * cond (is_on q) (weight q) 0)) c 0 n (omega arith)
-          (omega (arith, within.0)),
-      side_counted weight is_on n cs within.1,
-      sum_by-cons (λ r. cond (is_on r) (weight r) 0) c cs,
-    )
-  where
-    turned : (a b : ℕ) → (a == b) ≡ true → (b == a) ≡ true
-    turned a b h = eq-eqb b a (sym (eqb-true a b h))
-
-    one : (a b i t : Bool) (w : ℕ) → (a ≡ true → b ≡ true)
-        → if_so ((a || i) && t) (pos (2 * w))
-        ≤ℤ (if_so b (pos (2 * cond t w 0)) +ℤ if_so (i && t) (pos (2 * w)))
-    one true true true true w h = omega (arith, ints)
-    one true true true false w h = omega (arith, ints)
-    one true true false true w h = omega (arith, ints)
-    one true true false false w h = omega (arith, ints)
-    one true false i t w h = absurd (let both : false ≡ true = h refl in cc)
-    one false true true true w h = omega (arith, ints)
-    one false true true false w h = omega (arith, ints)
-    one false true false true w h = omega (arith, ints)
-    one false true false false w h = omega (arith, ints)
-    one false false i t w h = omega (arith, ints)
+    let each_is =
+    range-le (λ q. if_so (is_in (c ∷ cs) q && is_on q) (pos (2 * weight q)))
+    (λ q. here q +ℤ rest q) 0 n
+    (λ q l. grind (arith, ints, nat_tests)) in
+    let parts = total_by-plus here rest (range_with_len 0 n) in
+    let found =
+    hit (λ q. pos (2 * cond (is_on q) (weight q) 0)) c 0 n (omega arith)
+    (omega (arith, within.0)) in
+    let sum = sum_by-cons (λ r. cond (is_on r) (weight r) 0) c cs in
+    omega (arith, ints, each_is, parts, found, side_counted weight is_on n cs within.1, sum)
 
 -- ---- ties
 
 -- a tie with both ends on the side, or none of them, costs what it cost
-kept_flip : (t u a b : Bool) (w : ℤ) → t ≡ u
-    → times_spin (cond t (not a) a) (times_spin (cond u (not b) b) w)
-    ≡ times_spin a (times_spin b w)
-kept_flip true true true true w same = omega (arith, ints)
-kept_flip true true true false w same = omega (arith, ints)
-kept_flip true true false true w same = omega (arith, ints)
-kept_flip true true false false w same = omega (arith, ints)
-kept_flip true false a b w same = absurd (cc)
-kept_flip false true a b w same = absurd (cc)
-kept_flip false false a b w same = refl
+kept_flip : (side s : ℕ → Bool) (q p : ℕ) (w : ℤ) → side q ≡ side p
+    → pair_energy (flipped side s) (coupling_entry q p w) ≡ pair_energy s (coupling_entry q p w)
+kept_flip side s q p w same =
+    let now = coupling_energy (flipped side s) q p w in
+    let before = coupling_energy s q p w in grind (arith, ints)
 
 -- a broken tie of strength n with one end on the side becomes whole, and costs 2 * n less: n
 -- before, -n after
-mended_flip : (t u a b : Bool) (n : ℕ) → u ≡ not t → are_same a b ≡ false
-    → times_spin (cond t (not a) a) (times_spin (cond u (not b) b) (neg_ℤ (pos n))) +ℤ pos (2 * n)
-    ≡ times_spin a (times_spin b (neg_ℤ (pos n)))
-mended_flip true true a b n other broken = absurd (cc)
-mended_flip false false a b n other broken = absurd (cc)
-mended_flip t u true true n other broken = absurd (cc)
-mended_flip t u false false n other broken = absurd (cc)
-mended_flip true false true false n other broken = omega (arith, ints)
-mended_flip true false false true n other broken = omega (arith, ints)
-mended_flip false true true false n other broken = omega (arith, ints)
-mended_flip false true false true n other broken = omega (arith, ints)
+mended_flip : (side s : ℕ → Bool) (q p n : ℕ) → side p ≡ not (side q) → are_same (s q) (s p) ≡ false
+    → pair_energy (flipped side s) (coupling_entry q p (neg_ℤ (pos n))) +ℤ pos (2 * n)
+    ≡ pair_energy s (coupling_entry q p (neg_ℤ (pos n)))
+mended_flip side s q p n other broken =
+    let now = coupling_energy (flipped side s) q p (neg_ℤ (pos n)) in
+    let before = coupling_energy s q p (neg_ℤ (pos n)) in grind (arith, ints)
 
 -- The ends of these ties are on one side. A tie is a qubit of the first list with the parent at the
 -- same place of the second.
@@ -191,15 +121,8 @@ pub ties_kept : (side s : ℕ → Bool) (strong : ℕ → ℕ) (qs ps : List ℕ
 ties_kept side s strong [] ps kept = refl
 ties_kept side s strong (q ∷ qs) [] kept = refl
 ties_kept side s strong (q ∷ qs) (p ∷ ps) kept =
-    let w = neg_ℤ (pos (strong q)) in
-    omega (
-      arith,
-      ints,
-      coupling_energy (flipped side s) q p w,
-      coupling_energy s q p w,
-      kept_flip (side q) (side p) (s q) (s p) w kept.0,
-      ties_kept side s strong qs ps kept.1,
-    )
+    let here = kept_flip side s q p (neg_ℤ (pos (strong q))) kept.0 in
+    omega (arith, ints, here, ties_kept side s strong qs ps kept.1)
 
 -- What is known of the ties when one of them is broken, and a side of it is turned over. It is said
 -- of each tie, from q to its parent p, where c is the qubit of the broken one.
@@ -231,43 +154,25 @@ pub ties_mended : (side s : ℕ → Bool) (strong : ℕ → ℕ) (c : ℕ) (qs p
     ≡ total_by (pair_energy s) (ties strong qs ps)
 ties_mended side s strong c [] ps once in' cuts = absurd cc
 ties_mended side s strong c (q ∷ qs) [] once in' cuts = absurd cuts
-ties_mended side s strong c (q ∷ qs) (p ∷ ps) once in' cuts =
-    let w = neg_ℤ (pos (strong q)) in
-    elim (cases_eq q c) [
-      | inl same ↦
-          omega (
-            arith,
-            ints,
-            coupling_energy (flipped side s) q p w,
-            coupling_energy s q p w,
-            mended_flip (side q) (side p) (s q) (s p) (strong q) (cuts.0.cut same)
-                (cuts.0.broken same),
-            ap strong same,
-            ties_kept side s strong qs ps
-                (kept_of_cut side s c qs ps (sym (ap (is_in qs) same) ∙ once.0) cuts.1),
-          )
-      | inr other ↦
-          omega (
-            arith,
-            ints,
-            coupling_energy (flipped side s) q p w,
-            coupling_energy s q p w,
-            kept_flip (side q) (side p) (s q) (s p) w (cuts.0.same other),
-            ties_mended side s strong c qs ps once.1 (later (q == c) (ne_eqb q c other) in') cuts.1,
-          )
-    ]
-  where
-    later : (b : Bool) → b ≡ false → (b || is_in qs c) ≡ true → is_in qs c ≡ true
-    later true out h = absurd cc
-    later false out h = h
+ties_mended side s strong c (q ∷ qs) (p ∷ ps) once in' cuts = elim (cases_eq q c) [
+  | inl same ↦
+      let mended_here = mended_flip side s q p (strong q) (cuts.0.cut same) (cuts.0.broken same) in
+      let others =
+      ties_kept side s strong qs ps
+      (kept_of_cut side s c qs ps (sym (ap (is_in qs) same) ∙ once.0) cuts.1) in
+      omega (arith, ints, mended_here, ap strong same, others)
+  | inr other ↦
+      let here = kept_flip side s q p (neg_ℤ (pos (strong q))) (cuts.0.same other) in
+      let later = ties_mended side s strong c qs ps once.1 (grind (arith, nat_tests)) cuts.1 in
+      omega (arith, ints, here, later)
+]
 
 -- ---- broken ties
 
 -- where ties are not whole, one of them is broken: some qubit of the chain has a bit other than its
 -- parent's
 pub broken_tie : (s : ℕ → Bool) (up : ℕ → ℕ) (qs ps : List ℕ) → AllZip (λ q p. up q ≡ p) qs ps
-    → is_whole s qs ps ≡ false
-    → (c : ℕ) × (is_in qs c ≡ true) × (are_same (s c) (s (up c)) ≡ false)
+    → is_whole s qs ps ≡ false → (c : ℕ) × (is_in qs c ≡ true) × (are_same (s c) (s (up c)) ≡ false)
 broken_tie s up [] ps owns h = absurd cc
 broken_tie s up (q ∷ qs) [] owns h = absurd cc
 broken_tie s up (q ∷ qs) (p ∷ ps) owns h =

@@ -3,54 +3,24 @@
 --
 -- The fields and placed couplings of that side give back at most twice its weight. The tie itself
 -- gives twice its strength, which is one more than the weight, and no other tie changes.
-use Rattle.std.specs.Prelude.{◌≡◌, ◌≢◌, ℕ, ◌+◌, ◌*◌, ◌<◌, ◌≤◌, ◌==◌, ℤ, pos, ◌+ℤ◌, ◌≤ℤ◌, unsigned_abs, Bool, true, false, not, ◌&&◌, List, [], ◌∷◌, ◌++◌, length, drop}
-use Rattle.std.specs.List.{AllByRecursion, AllZip, range_with_len}
-use Rattle.std.proofs.Common.{arith, ap, sym, ◌∙◌, refl, inl, inr, subst}
-use Rattle.std.proofs.Math.Nat.{min-eq_left, min-eq_right}
-use Rattle.std.proofs.lemmas.Int.{ints}
-use Rattle.std.proofs.lemmas.Bool.{cases_eq, cases_lt, eq-eqb, ne_eqb, and_left, false_from_ne_true}
-use Rattle.std.proofs.lemmas.List.Elements.{length_all_zip}
-use Rattle.base.specs.Sums.{total_by, if_so}
-use Rattle.base.proofs.Totals.{total_by-plus}
-use Rattle.bits_model.specs.declared.output.Entry.{Entry}
-use Rattle.bits_model.specs.Output.{times_spin}
-use Rattle.bits_model.specs.Walks.{is_in}
-use Rattle.quad_form.specs.Quads.{IsCoupler}
-use Rattle.chain_map.specs.Chains.{chain_of}
-use Rattle.embedding_check.specs.Embeddings.{Embedding, IsEmbedding, IsTie, IsTree, parent_in}
-use Rattle.chain_layer.specs.Image.{nodes_of, couplings_at, all_shares, ties, all_ties, field_at, placed}
-use Rattle.chain_layer.proofs.Ordered.{all_couplers}
-use Rattle.chain_layer.specs.laws.SpinSums.{pair_energy, range-same, hit}
-use Rattle.chain_layer.specs.laws.Whole.{are_same, in_first, in_rest}
-use Rattle.chain_layer.specs.laws.Aligned.{node_at, whole_at}
-use Rattle.chain_layer.specs.laws.Kept.{chain_within, each_at, one_chain, rest_in}
+use Rattle.std.specs.Prelude.{◌≡◌, ◌≢◌, ◌+◌, ◌*◌, ◌<◌, ◌==◌, ◌+ℤ◌, ◌≤ℤ◌, ◌&&◌, ◌∷◌}
+use Rattle.chain_layer.proofs.Common.{ℕ, ℤ, pos, unsigned_abs, Bool, true, false, not, List, [], length, drop, AllZip, range_with_len, arith, ap, sym, ◌∙◌, refl, inl, inr, ints, cases_eq, cases_lt, eq-eqb, ne_eqb, and_left, false_from_ne_true, length_all_zip, total_by, if_so, total_by-plus, Entry, is_in, chain_of, Embedding, IsEmbedding, IsTie, IsTree, parent_in, nodes_of, couplings_at, all_shares, ties, field_at, placed, range-same, hit, are_same, in_first, in_rest, node_at, whole_at, tied_energy, free_energy, chains_energy, chain_within, fields_spread, each_at, one_chain, rest_in, Once, AreOwn, own_parents, chain_once}
+use Rattle.chain_layer.proofs.Ordered.{couplers_placed}
 use Rattle.cut_chains.specs.Sides.{is_below, weight_of, side_weight, tie_strength, cut_strength}
 use Rattle.cut_chains.specs.laws.Trees.{IsRooted, same_side, tied_below, parent_above}
-use Rattle.chain_layer.specs.laws.OnceChains.{Once, AreOwn, own_parents, chain_once}
 use Rattle.cut_chains.specs.laws.Flips.{flipped, fields_flip, couplings_flip, side_counted, AreKept, ties_kept, IsCut, ties_mended, broken_tie}
 
 -- ---- energies over spins
-
--- What the fields of the qubits and the placed couplings cost. These are all parts of the energy
--- but the ties and the constant.
-abbrev pub free_energy : Embedding → (ℕ → Bool) → ℤ
-free_energy e s =
-    total_by (λ q. times_spin (s q) (field_at (all_shares e) q)) (range_with_len 0 e.qubits)
-    +ℤ total_by (pair_energy s) (placed e.ising.couplings e.places)
 
 -- The ties of a node's chain. Each qubit of the chain after the first is tied to its parent by the
 -- strength of its own tie.
 abbrev pub node_ties : Embedding → ℕ → List Entry
 node_ties e i = ties (cut_strength e i) (drop 1 (chain_of e.chains i)) (chain_of e.parents i)
 
--- what the ties of a node's chain cost for these spins
-abbrev pub tied_energy : Embedding → (ℕ → Bool) → ℕ → ℤ
-tied_energy e s i = total_by (pair_energy s) (node_ties e i)
-
 -- what fields, placed couplings and the ties of all chains cost: the energy of the image, but for
 -- the constant
 abbrev pub cut_energy : Embedding → (ℕ → Bool) → ℤ
-cut_energy e s = free_energy e s +ℤ total_by (tied_energy e s) (nodes_of e)
+cut_energy e s = chains_energy (cut_strength e) e s
 
 -- ---- the chain of a node
 
@@ -76,8 +46,10 @@ rooted_tree first cs ps t = record {
 }
 
 -- its parents are those that a look-up gives
-pub parents_of_tree : (first : ℕ) (cs ps : List ℕ) → IsOnceTree (first ∷ cs) ps → AreOwn cs ps cs ps
-parents_of_tree first cs ps t = own_parents cs ps t.once.1 (length_all_zip _ _ _ t.tree.ties)
+parents_of_tree : (chain ps : List ℕ) → IsOnceTree chain ps
+    → AreOwn (drop 1 chain) ps (drop 1 chain) ps
+parents_of_tree [] ps t = absurd (t.filled refl)
+parents_of_tree (first ∷ cs) ps t = own_parents cs ps t.once.1 (length_all_zip _ _ _ t.tree.ties)
 
 -- ---- the lighter side of a tie
 
@@ -109,8 +81,7 @@ others_are_side chain parents c is_on side = record {
 -- the strength of the tie is one more than the weight of one of its sides: of the one below where
 -- both weigh the same
 lighter_side : (weight : ℕ → ℕ) (first : ℕ) (cs ps : List ℕ) (c : ℕ) → IsRooted first cs ps
-    → is_in cs c ≡ true
-    → (is_on : ℕ → Bool) × IsSide (first ∷ cs) ps c is_on
+    → is_in cs c ≡ true → (is_on : ℕ → Bool) × IsSide (first ∷ cs) ps c is_on
     × (side_weight weight (first ∷ cs) is_on + 1 ≡ tie_strength weight (first ∷ cs) ps c)
 lighter_side weight first cs ps c root c_in =
     let below = is_below (first ∷ cs) ps c in
@@ -118,16 +89,10 @@ lighter_side weight first cs ps c root c_in =
     let under : ℕ = side_weight weight (first ∷ cs) below in
     let over : ℕ = side_weight weight (first ∷ cs) (λ r. not (below r)) in
     elim (cases_lt over under) [
-      | inl less ↦ (
-        (λ r. not (below r)),
-        others_are_side (first ∷ cs) ps c below side,
-        ap (λ n. n + 1) (sym (min-eq_right (weaker over under less))),
-      )
-      | inr more ↦ (below, side, ap (λ n. n + 1) (sym (min-eq_left more)))
+      | inl less ↦
+          ((λ r. not (below r)), others_are_side (first ∷ cs) ps c below side, omega (arith, less))
+      | inr more ↦ (below, side, omega (arith, more))
     ]
-  where
-    weaker : (m n : ℕ) → m < n → m ≤ n
-    weaker m n less = omega arith
 
 -- ---- what flipping it does
 
@@ -144,8 +109,7 @@ chosen chain is_on q in' = ap (λ b. b && is_on q) in'
 -- of the list is as `IsCut` says. It goes along the qubits after the first and their parents, of
 -- which a rest is left
 cut_ties_of_chain : (s : ℕ → Bool) (chain parents : List ℕ) (c : ℕ) (is_on : ℕ → Bool)
-    → IsSide chain parents c is_on
-    → are_same (s c) (s (parent_in (drop 1 chain) parents c)) ≡ false
+    → IsSide chain parents c is_on → are_same (s c) (s (parent_in (drop 1 chain) parents c)) ≡ false
     → (qs ps : List ℕ) → ((q : ℕ) → is_in qs q ≡ true → is_in (drop 1 chain) q ≡ true)
     → ((q : ℕ) → is_in (drop 1 chain) q ≡ true → is_in chain q ≡ true)
     → AreOwn (drop 1 chain) parents qs ps → AllZip (IsTie chain) qs ps
@@ -159,60 +123,43 @@ cut_ties_of_chain s chain parents c is_on side broken (q ∷ qs) (p ∷ ps) ins 
     let at_p = chosen chain is_on p ties.0.inside in (
       record {
         same = λ other. at_q ∙ side.same q q_in other ∙ ap is_on owns.0 ∙ sym at_p;
-        cut = λ same.
-            at_p ∙ ap is_on (sym owns.0)
-            ∙ ap (λ r. is_on (parent_in (drop 1 chain) parents r)) same
-            ∙ side.cut
-            ∙ ap (λ r. not (is_on r)) (sym same)
-            ∙ ap not (sym at_q);
-        broken = λ same.
-            ap (λ r. are_same (s q) (s r)) (sym owns.0)
-            ∙ ap (λ r. are_same (s r) (s (parent_in (drop 1 chain) parents r))) same
-            ∙ broken;
+        cut = λ same. let cut = side.cut in let own = owns.0 in cc;
+        broken = λ same. let own = owns.0 in cc;
       },
       cut_ties_of_chain s chain parents c is_on side broken qs ps
           (λ r in'. ins r (in_rest q r qs in')) rest owns.1 ties.1,
     )
 
 -- A broken tie and a side of it: the strength of the tie is one more than the weight of the side.
--- This is all that the flip needs to know of the chain of node i.
-pub record IsLight (e : Embedding) (s : ℕ → Bool) (i c : ℕ) (is_on : ℕ → Bool) : Type 0 where
+-- This is all that the flip needs to know of a chain and its parents.
+pub record IsLight (weight : ℕ → ℕ) (s : ℕ → Bool) (chain parents : List ℕ) (c : ℕ)
+    (is_on : ℕ → Bool) : Type 0 where
   -- what is flipped are the chain's qubits on the side, and of its ties just that of c has one end
   -- there
-  pub cuts : AllZip (IsCut (on_chain (chain_of e.chains i) is_on) s c)
-      (drop 1 (chain_of e.chains i)) (chain_of e.parents i)
+  pub cuts : AllZip (IsCut (on_chain chain is_on) s c) (drop 1 chain) parents
   -- c is a qubit after the first, so it has a tie
-  pub inside : is_in (drop 1 (chain_of e.chains i)) c ≡ true
+  pub inside : is_in (drop 1 chain) c ≡ true
   -- the qubits after the first are different, so c has just one
-  pub once : Once (drop 1 (chain_of e.chains i))
+  pub once : Once (drop 1 chain)
   -- flipping the side gives back at most twice its weight, which is 2 less than twice the strength
-  pub light : side_weight (weight_of e) (chain_of e.chains i) is_on + 1 ≡ cut_strength e i c
+  pub light : side_weight weight chain is_on + 1 ≡ tie_strength weight chain parents c
 
--- the same for a chain and its parents alone
-light_of : (weight : ℕ → ℕ) (s : ℕ → Bool) (chain parents : List ℕ) → IsOnceTree chain parents
+-- of the broken tie of the qubit c in the chain of node i
+abbrev IsLightAt : Embedding → (ℕ → Bool) → ℕ → ℕ → (ℕ → Bool) → Type 0
+IsLightAt e s i = IsLight (weight_of e) s (chain_of e.chains i) (chain_of e.parents i)
+
+-- each broken tie has such a side
+light_side : (weight : ℕ → ℕ) (s : ℕ → Bool) (chain parents : List ℕ) → IsOnceTree chain parents
     → (c : ℕ) → is_in (drop 1 chain) c ≡ true
     → are_same (s c) (s (parent_in (drop 1 chain) parents c)) ≡ false
-    → (is_on : ℕ → Bool) × AllZip (IsCut (on_chain chain is_on) s c) (drop 1 chain) parents
-    × (side_weight weight chain is_on + 1 ≡ tie_strength weight chain parents c)
-    × Once (drop 1 chain)
-light_of weight s [] parents t c c_in broken = absurd (t.filled refl)
-light_of weight s (first ∷ cs) parents t c c_in broken =
+    → (is_on : ℕ → Bool) × IsLight weight s chain parents c is_on
+light_side weight s [] parents t c c_in broken = absurd (t.filled refl)
+light_side weight s (first ∷ cs) parents t c c_in broken =
     let light = lighter_side weight first cs parents c (rooted_tree first cs parents t) c_in in
     let cuts =
     cut_ties_of_chain s (first ∷ cs) parents c light.0 light.1 broken cs parents (λ q in'. in')
-    (λ q in'. in_rest first q cs in') (parents_of_tree first cs parents t) t.tree.ties in
-    (light.0, cuts, light.2, t.once.1)
-
--- each broken tie of an embedding has such a side
-pub light_side : (e : Embedding) → IsEmbedding e → (s : ℕ → Bool) (i c : ℕ)
-    → i < length e.ising.fields → is_in (drop 1 (chain_of e.chains i)) c ≡ true
-    → are_same (s c) (s (parent_in (drop 1 (chain_of e.chains i)) (chain_of e.parents i) c)) ≡ false
-    → (is_on : ℕ → Bool) × IsLight e s i c is_on
-light_side e kept s i c within c_in broken =
-    let found =
-    light_of (weight_of e) s (chain_of e.chains i) (chain_of e.parents i)
-    (once_tree e kept i within) c c_in broken in
-    (found.0, record { cuts = found.1; inside = c_in; once = found.3; light = found.2 })
+    (λ q in'. in_rest first q cs in') (parents_of_tree (first ∷ cs) parents t) t.tree.ties in
+    (light.0, record { cuts = cuts; inside = c_in; once = t.once.1; light = light.2 })
 
 -- The ties of another chain, of which no qubit is flipped. Each of its ties has no end on the side,
 -- so both ends are alike.
@@ -240,21 +187,17 @@ not_on_other e kept i j i_in j_in other is_on q in' =
 -- the ties of one node, before and after: those of node i cost less by twice the strength of the
 -- broken tie, and those of every other node what they cost
 tied_flip : (e : Embedding) → IsEmbedding e → (s : ℕ → Bool) (i c : ℕ) (is_on : ℕ → Bool)
-    → IsLight e s i c is_on → i < length e.ising.fields → (j : ℕ) → j < length e.ising.fields
-    → tied_energy e (flipped (on_chain (chain_of e.chains i) is_on) s) j
-    +ℤ if_so (j == i) (pos (2 * cut_strength e i c))
-    ≡ tied_energy e s j
+    → IsLightAt e s i c is_on → i < length e.ising.fields → (j : ℕ) → j < length e.ising.fields
+    → tied_energy (cut_strength e) e (flipped (on_chain (chain_of e.chains i) is_on) s) j
+    +ℤ if_so (j == i) (pos (2 * cut_strength e i c)) ≡ tied_energy (cut_strength e) e s j
 tied_flip e kept s i c is_on light i_in j j_in =
     let side = on_chain (chain_of e.chains i) is_on in
     elim (cases_eq j i) [
       | inl same ↦
-          subst (λ k. tied_energy e (flipped side s) k
-          +ℤ if_so (k == i) (pos (2 * cut_strength e i c)) ≡ tied_energy e s k)
-          (sym same)
-          (ap (λ b. tied_energy e (flipped side s) i +ℤ if_so b (pos (2 * cut_strength e i c)))
-          (eq-eqb i i refl)
-          ∙ ties_mended side s (cut_strength e i) c (drop 1 (chain_of e.chains i))
-          (chain_of e.parents i) light.once light.inside light.cuts)
+          let mended =
+          ties_mended side s (cut_strength e i) c (drop 1 (chain_of e.chains i)) (chain_of e.parents i)
+          light.once light.inside light.cuts in
+          rw (same, eq-eqb i i refl) mended
       | inr other ↦
           let node = node_at e kept j j_in in
           let kept_ties =
@@ -264,59 +207,35 @@ tied_flip e kept s i c is_on light i_in j j_in =
           (λ q in'. each_at (λ p. is_in (chain_of e.chains j) p ≡ true)
           (drop 1 (chain_of e.chains j)) q (rest_in (chain_of e.chains j)) in')
           node.tree.ties in
-          let none : if_so (j == i) (pos (2 * cut_strength e i c)) ≡ pos 0 =
-          ap (λ b. if_so b (pos (2 * cut_strength e i c))) (ne_eqb j i other) in
-          omega (
-            arith,
-            ints,
-            none,
-            ties_kept side s (cut_strength e j) (drop 1 (chain_of e.chains j))
-                (chain_of e.parents j) kept_ties,
-          )
+          let stays =
+          ties_kept side s (cut_strength e j) (drop 1 (chain_of e.chains j)) (chain_of e.parents j)
+          kept_ties in
+          rw (ne_eqb j i other) (omega (arith, ints, stays))
     ]
 
 -- All ties cost less by twice the strength of the broken one. It is the sum over all nodes of what
 -- a flip does to the ties of one.
 all_ties_flip : (e : Embedding) → IsEmbedding e → (s : ℕ → Bool) (i c : ℕ) (is_on : ℕ → Bool)
-    → IsLight e s i c is_on → i < length e.ising.fields
-    → total_by (tied_energy e (flipped (on_chain (chain_of e.chains i) is_on) s)) (nodes_of e)
-    +ℤ pos (2 * cut_strength e i c)
-    ≡ total_by (tied_energy e s) (nodes_of e)
+    → IsLightAt e s i c is_on → i < length e.ising.fields
+    → total_by (tied_energy (cut_strength e) e (flipped (on_chain (chain_of e.chains i) is_on) s)) (nodes_of e)
+    +ℤ pos (2 * cut_strength e i c) ≡ total_by (tied_energy (cut_strength e) e s) (nodes_of e)
 all_ties_flip e kept s i c is_on light within =
     let n = length e.ising.fields in
-    let after : ℕ → ℤ = tied_energy e (flipped (on_chain (chain_of e.chains i) is_on) s) in
+    let after : ℕ → ℤ = tied_energy (cut_strength e) e (flipped (on_chain (chain_of e.chains i) is_on) s) in
     let won : ℕ → ℤ = λ j. if_so (j == i) (pos (2 * cut_strength e i c)) in
-    omega (
-      arith,
-      ints,
-      range-same (λ j. after j +ℤ won j) (tied_energy e s) 0 n
-          (λ j l. tied_flip e kept s i c is_on light within j (omega (arith, l))),
-      total_by-plus after won (nodes_of e),
-      hit (λ j. pos (2 * cut_strength e i c)) i 0 n (omega arith) (omega (arith, within)),
-    )
+    let each =
+    range-same (λ j. after j +ℤ won j) (tied_energy (cut_strength e) e s) 0 n
+    (λ j l. tied_flip e kept s i c is_on light within j (omega (arith, l))) in
+    let found =
+    hit (λ j. pos (2 * cut_strength e i c)) i 0 n (omega arith) (omega (arith, within)) in
+    omega (arith, ints, each, total_by-plus after won (nodes_of e), found)
 
 -- ---- fields and placed couplings
-
--- what holds of each entry of two lists, one after the other, holds of each entry of both
-pub all_parts : (P : Entry → Type 0) (es ds : List Entry) → AllByRecursion P (es ++ ds)
-    → AllByRecursion P es × AllByRecursion P ds
-all_parts P [] ds all = (tt, all)
-all_parts P (e ∷ es) ds all =
-    let rest = all_parts P es ds all.1 in
-    ((all.0, rest.0), rest.1)
-
--- placed couplings are couplings of two qubits, and not 0
-pub couplers_placed : (e : Embedding) → IsEmbedding e
-    → AllByRecursion (IsCoupler e.qubits) (placed e.ising.couplings e.places)
-couplers_placed e kept =
-    (all_parts (IsCoupler e.qubits) (placed e.ising.couplings e.places) (all_ties e)
-    (all_couplers e kept)).0
 
 -- What fields and placed couplings give back is at most twice the weight of the side. So the whole
 -- flip saves 2 or more: the ties save twice the strength, which is one more than the weight.
 free_flip : (e : Embedding) → IsEmbedding e → (s : ℕ → Bool) (i : ℕ) (is_on : ℕ → Bool)
-    → i < length e.ising.fields
-    → free_energy e (flipped (on_chain (chain_of e.chains i) is_on) s)
+    → i < length e.ising.fields → free_energy e (flipped (on_chain (chain_of e.chains i) is_on) s)
     ≤ℤ (free_energy e s +ℤ pos (2 * side_weight (weight_of e) (chain_of e.chains i) is_on))
 free_flip e kept s i is_on within =
     let chain = chain_of e.chains i in
@@ -325,17 +244,17 @@ free_flip e kept s i is_on within =
     let pairs = placed e.ising.couplings e.places in
     let of_field : ℕ → ℤ = λ q. if_so (side q) (pos (2 * unsigned_abs (f q))) in
     let of_pairs : ℕ → ℤ = λ q. if_so (side q) (pos (2 * couplings_at q pairs)) in
-    omega (
-      arith,
-      ints,
-      fields_flip side s f e.qubits,
-      couplings_flip side s e.qubits pairs (couplers_placed e kept),
-      total_by-plus of_field of_pairs (range_with_len 0 e.qubits),
-      range-same (λ q. of_field q +ℤ of_pairs q) (λ q. if_so (side q) (pos (2 * weight_of e q))) 0
-          e.qubits
-          (λ q l. both (side q) (unsigned_abs (f q)) (couplings_at q pairs)),
-      side_counted (weight_of e) is_on e.qubits chain (chain_within e kept i within),
-    )
+    let of_fields = fields_flip side s f e.qubits in
+    let after = fields_spread e kept (flipped side s) in
+    let before = fields_spread e kept s in
+    let pairs_low = couplings_flip side s e.qubits pairs (couplers_placed e kept) in
+    let parts = total_by-plus of_field of_pairs (range_with_len 0 e.qubits) in
+    let each =
+    range-same (λ q. of_field q +ℤ of_pairs q) (λ q. if_so (side q) (pos (2 * weight_of e q))) 0
+    e.qubits
+    (λ q l. both (side q) (unsigned_abs (f q)) (couplings_at q pairs)) in
+    let counted = side_counted (weight_of e) is_on e.qubits chain (chain_within e kept i within) in
+    omega (arith, ints, of_fields, after, before, pairs_low, parts, each, counted)
   where
     both : (b : Bool) (m n : ℕ)
         → if_so b (pos (2 * m)) +ℤ if_so b (pos (2 * n)) ≡ if_so b (pos (2 * (m + n)))
@@ -347,17 +266,16 @@ free_flip e kept s i is_on within =
 -- The spins of a side of a broken tie can be flipped so that the energy falls. The state after the
 -- flip is a bit for each qubit again, so no least state has a broken tie.
 pub flip_lowers : (e : Embedding) → IsEmbedding e → (s : ℕ → Bool) (i : ℕ)
-    → i < length e.ising.fields → whole_at e s i ≡ false
-    → (is_on : ℕ → Bool)
+    → i < length e.ising.fields → whole_at e s i ≡ false → (is_on : ℕ → Bool)
     × ((cut_energy e (flipped (on_chain (chain_of e.chains i) is_on) s) +ℤ pos 2) ≤ℤ cut_energy e s)
 flip_lowers e kept s i within broken =
     let chain = chain_of e.chains i in
     let parents = chain_of e.parents i in
     let t = once_tree e kept i within in
     let found =
-    broken_tie s (parent_in (drop 1 chain) parents) (drop 1 chain) parents (own_of chain parents t)
+    broken_tie s (parent_in (drop 1 chain) parents) (drop 1 chain) parents (parents_of_tree chain parents t)
     broken in
-    let light = light_side e kept s i found.0 within found.1 found.2 in (
+    let light = light_side (weight_of e) s chain parents t found.0 found.1 found.2 in (
       light.0,
       omega (
         arith,
@@ -367,8 +285,3 @@ flip_lowers e kept s i within broken =
         light.1.light,
       ),
     )
-  where
-    own_of : (chain parents : List ℕ) → IsOnceTree chain parents
-        → AreOwn (drop 1 chain) parents (drop 1 chain) parents
-    own_of [] parents t = absurd (t.filled refl)
-    own_of (first ∷ cs) parents t = parents_of_tree first cs parents t

@@ -3,21 +3,14 @@
 --
 -- Steps to the parent lead from each qubit of a chain to the first one, where they stay. So no
 -- qubit is met again, and fewer steps than the chain has qubits are enough.
-use Rattle.chain_layer.specs.laws.Kept.{any_of_range}
-use Rattle.std.specs.Prelude.{◌≡◌, ◌≢◌, ◌⊎◌, ℕ, zero, suc, ◌+◌, ◌-◌, ◌*◌, ◌<◌, ◌≤◌, ◌==◌, Bool, true, false, not, cond, ◌||◌, List, [], ◌∷◌, length, count_by}
-use Rattle.std.specs.List.{list_any, range_with_len}
-use Rattle.std.proofs.Common.{arith, ap, sym, ◌∙◌, refl, inl, inr}
-use Rattle.std.proofs.lemmas.Bool.{cases_eq, or_left, or_right, or_cases, eqb-true, eq-eqb, ne_eqb, false_from_ne_true, true_from_ne_false}
-use Rattle.std.proofs.lemmas.List.Sums.{sum_by-cons, count_by-le-length}
-use Rattle.bits_model.specs.Walks.{is_in}
-use Rattle.embedding_check.specs.Embeddings.{parent_in, climbed}
+use Rattle.std.specs.Prelude.{◌≡◌, ◌≢◌, ◌⊎◌, ◌+◌, ◌-◌, ◌*◌, ◌<◌, ◌≤◌, ◌==◌, ◌∷◌}
+use Rattle.chain_layer.proofs.Common.{any_of_range, apart_qubits, ℕ, zero, suc, Bool, true, false, not, List, [], length, count_by, list_any, range_with_len, arith, ap, sym, ◌∙◌, refl, inl, inr, nat_tests, cases_eq, eqb-true, eq-eqb, false_from_ne_true, true_from_ne_false, length-range_with_len, get_or-range_with_len, sum_by-cons, count_by-le-length, is_in, parent_in, climbed}
+use Rattle.std.proofs.lemmas.List.Folds.{Any-from_list_any}
 use Rattle.cut_chains.specs.Sides.{is_below}
 
 -- two tests that each imply the other
 pub same_answer : (a b : Bool) → (a ≡ true → b ≡ true) → (b ≡ true → a ≡ true) → a ≡ b
-same_answer true b to from = sym (to refl)
-same_answer false true to from = from refl
-same_answer false false to from = refl
+same_answer a b to from = grind arith
 
 -- ---- steps to the parent
 
@@ -25,12 +18,8 @@ same_answer false false to from = refl
 pub parent_outside : (cs ps : List ℕ) (q : ℕ) → is_in cs q ≡ false → parent_in cs ps q ≡ q
 parent_outside [] ps q out = refl
 parent_outside (c ∷ cs) [] q out = refl
-parent_outside (c ∷ cs) (p ∷ ps) q out = go (c == q) out (parent_outside cs ps q)
-  where
-    go : (b : Bool) → (b || is_in cs q) ≡ false → (is_in cs q ≡ false → parent_in cs ps q ≡ q)
-        → cond b p (parent_in cs ps q) ≡ q
-    go true h later = absurd (cc)
-    go false h later = later h
+parent_outside (c ∷ cs) (p ∷ ps) q out =
+    let rest = parent_outside cs ps q in grind (arith, nat_tests)
 
 -- and steps do not lead it anywhere
 pub climbed_outside : (cs ps : List ℕ) (n q : ℕ) → is_in cs q ≡ false → climbed cs ps n q ≡ q
@@ -41,9 +30,7 @@ climbed_outside cs ps (suc n) q out =
 -- some steps, and then more; m steps from where n steps lead are m + n steps.
 pub climbed-plus : (cs ps : List ℕ) (m n q : ℕ)
     → climbed cs ps (m + n) q ≡ climbed cs ps m (climbed cs ps n q)
-climbed-plus cs ps m zero q =
-    let none : m + 0 ≡ m = omega arith in
-    ap (λ k. climbed cs ps k q) none
+climbed-plus cs ps m zero q = let none : m + 0 ≡ m = omega arith in ap (λ k. climbed cs ps k q) none
 climbed-plus cs ps m (suc n) q =
     let moved : m + suc n ≡ suc (m + n) = omega arith in
     ap (λ k. climbed cs ps k q) moved ∙ climbed-plus cs ps m n (parent_in cs ps q)
@@ -67,20 +54,12 @@ stays first cs ps apart m n q more here =
 -- where m steps lead from a qubit back to it, 2 * m, 3 * m and so on do as well: it goes round a
 -- circle
 turns : (cs ps : List ℕ) (m q : ℕ) → climbed cs ps m q ≡ q → (k : ℕ) → climbed cs ps (k * m) q ≡ q
-turns cs ps m q back zero =
-    let none : 0 * m ≡ 0 = omega arith in
-    ap (λ k. climbed cs ps k q) none
+turns cs ps m q back zero = let none : 0 * m ≡ 0 = omega arith in ap (λ k. climbed cs ps k q) none
 turns cs ps m q back (suc k) =
     let split : suc k * m ≡ k * m + m = omega arith in
     ap (λ n. climbed cs ps n q) split ∙ climbed-plus cs ps (k * m) m q
     ∙ ap (climbed cs ps (k * m)) back
     ∙ turns cs ps m q back k
-
--- a qubit in a list and a qubit outside it are two
-in_or_out : (cs : List ℕ) (q c : ℕ) → is_in cs q ≡ true → is_in cs c ≡ false → q ≡ c → ⊥
-in_or_out cs q c in' out same =
-    let both : true ≡ false = sym in' ∙ ap (is_in cs) same ∙ out in
-    cc
 
 -- steps from a qubit after the first do not lead back to it. Else they went round for ever, but
 -- some number of steps leads to the first qubit, where they stay
@@ -89,43 +68,15 @@ pub not_again : (first : ℕ) (cs ps : List ℕ) → IsRooted first cs ps → (m
 not_again first cs ps root m q in' back =
     let way = root.leads q in' in
     let enough : way.0 ≤ way.0 * suc m = omega arith in
-    in_or_out cs q first in' root.apart
-    (sym (turns cs ps (suc m) q back way.0)
-    ∙ stays first cs ps root.apart way.0 (way.0 * suc m) q enough way.1)
+    apart_qubits q first cs root.apart in'
+    (sym (stays first cs ps root.apart way.0 (way.0 * suc m) q enough way.1)
+    ∙ turns cs ps (suc m) q back way.0)
 
 -- ---- how many steps are enough
 
 -- so many steps do not lead from this qubit to the first
 abbrev is_far : (first : ℕ) (cs ps : List ℕ) → ℕ → ℕ → Bool
 is_far first cs ps k q = not (climbed cs ps k q == first)
-
--- One of the qubits from which k steps do not lead to the first, but one step more does. They stand
--- on the edge of what k steps reach.
-record IsEdge (first : ℕ) (cs ps : List ℕ) (k r : ℕ) : Type 0 where
-  inside : is_in cs r ≡ true
-  far : climbed cs ps k r ≢ first
-  near : climbed cs ps (suc k) r ≡ first
-
--- where a qubit is far, there is such a one on its way
-edge : (first : ℕ) (cs ps : List ℕ) → is_in cs first ≡ false → (k n q : ℕ)
-    → (climbed cs ps k q ≢ first) → climbed cs ps n q ≡ first
-    → (r : ℕ) × IsEdge first cs ps k r
-edge first cs ps apart k zero q far here =
-    absurd (far (ap (climbed cs ps k) here ∙ climbed_outside cs ps k first apart))
-edge first cs ps apart k (suc n) q far here =
-    elim (cases_eq (climbed cs ps (suc k) q) first) [
-      | inl near ↦ (
-        q,
-        record {
-          inside = true_from_ne_false _ (λ out.
-              far (climbed_outside cs ps k q out ∙ sym (climbed_outside cs ps (suc k) q out)
-              ∙ near));
-          far = far;
-          near = near;
-        },
-      )
-      | inr further ↦ edge first cs ps apart k n (parent_in cs ps q) further here
-    ]
 
 -- How many of these qubits are far. With each further step it falls, until it is 0.
 abbrev far_count : (first : ℕ) (cs ps : List ℕ) → ℕ → List ℕ → ℕ
@@ -136,154 +87,71 @@ fewer : (first : ℕ) (cs ps : List ℕ) → is_in cs first ≡ false → (k : �
     → far_count first cs ps (suc k) qs ≤ far_count first cs ps k qs
 fewer first cs ps apart k [] = omega arith
 fewer first cs ps apart k (q ∷ qs) =
-    omega (
-      arith,
-      sum_by-cons (λ r. cond (is_far first cs ps k r) 1 0) q qs,
-      sum_by-cons (λ r. cond (is_far first cs ps (suc k) r) 1 0) q qs,
-      fewer first cs ps apart k qs,
-      one (climbed cs ps k q == first) (climbed cs ps (suc k) q == first) (λ here.
-          eq-eqb _ first (stays first cs ps apart k (suc k) q (omega arith)
-          (eqb-true _ first here))),
-    )
-  where
-    one : (a b : Bool) → (a ≡ true → b ≡ true) → cond (not b) 1 0 ≤ cond (not a) 1 0
-    one true true h = omega arith
-    one true false h = absurd (let both : false ≡ true = h refl in cc)
-    one false true h = omega arith
-    one false false h = omega arith
+    let stay = stays first cs ps apart k (suc k) q (omega arith) in
+    let rest = fewer first cs ps apart k qs in simp sum_by-cons (grind (arith, nat_tests))
 
--- and where one is on the edge, at least one less is far
+-- and where one stands on the edge of what k steps reach, at least one less is far
 fewer_by_one : (first : ℕ) (cs ps : List ℕ) → is_in cs first ≡ false → (k r : ℕ)
-    → IsEdge first cs ps k r → (qs : List ℕ) → is_in qs r ≡ true
-    → far_count first cs ps (suc k) qs < far_count first cs ps k qs
-fewer_by_one first cs ps apart k r at_edge [] in' = absurd cc
-fewer_by_one first cs ps apart k r at_edge (q ∷ qs) in' =
-    elim (cases_eq q r) [
-      | inl same ↦
-          let far : is_far first cs ps k q ≡ true =
-          ap not (ne_eqb _ first (λ here. at_edge.far (ap (climbed cs ps k) (sym same) ∙ here))) in
-          let near : is_far first cs ps (suc k) q ≡ false =
-          ap not (eq-eqb _ first (ap (climbed cs ps (suc k)) same ∙ at_edge.near)) in
-          omega (
-            arith,
-            sum_by-cons (λ s. cond (is_far first cs ps k s) 1 0) q qs,
-            sum_by-cons (λ s. cond (is_far first cs ps (suc k) s) 1 0) q qs,
-            fewer first cs ps apart k qs,
-            ap (λ b. cond {A = ℕ} b 1 0) far,
-            ap (λ b. cond {A = ℕ} b 1 0) near,
-          )
-      | inr other ↦
-          omega (
-            arith,
-            fewer_by_one first cs ps apart k r at_edge qs (later (q == r) (ne_eqb q r other) in'),
-            fewer first cs ps apart k (q ∷ []),
-            sum_by-cons (λ s. cond (is_far first cs ps k s) 1 0) q qs,
-            sum_by-cons (λ s. cond (is_far first cs ps (suc k) s) 1 0) q qs,
-            sum_by-cons (λ s. cond (is_far first cs ps k s) 1 0) q [],
-            sum_by-cons (λ s. cond (is_far first cs ps (suc k) s) 1 0) q [],
-          )
+    → (climbed cs ps k r ≢ first) → climbed cs ps (suc k) r ≡ first → (qs : List ℕ)
+    → is_in qs r ≡ true → far_count first cs ps (suc k) qs < far_count first cs ps k qs
+fewer_by_one first cs ps apart k r far near [] in' = absurd cc
+fewer_by_one first cs ps apart k r far near (q ∷ qs) in' =
+    let stay = stays first cs ps apart k (suc k) q (omega arith) in
+    let others = fewer first cs ps apart k qs in
+    let rest = fewer_by_one first cs ps apart k r far near qs in
+    simp sum_by-cons (grind (arith, nat_tests))
+
+-- where a qubit is far, there is such a one on its way to the first
+less_far : (first : ℕ) (cs ps : List ℕ) → is_in cs first ≡ false → (k n q : ℕ)
+    → (climbed cs ps k q ≢ first) → climbed cs ps n q ≡ first
+    → far_count first cs ps (suc k) cs < far_count first cs ps k cs
+less_far first cs ps apart k zero q far here =
+    absurd (far (ap (climbed cs ps k) here ∙ climbed_outside cs ps k first apart))
+less_far first cs ps apart k (suc n) q far here =
+    elim (cases_eq (climbed cs ps (suc k) q) first) [
+      | inl near ↦
+          fewer_by_one first cs ps apart k q far near cs (true_from_ne_false _ (λ out.
+          far (climbed_outside cs ps k q out ∙ sym (climbed_outside cs ps (suc k) q out) ∙ near)))
+      | inr further ↦ less_far first cs ps apart k n (parent_in cs ps q) further here
     ]
-  where
-    later : (b : Bool) → b ≡ false → (b || is_in qs r) ≡ true → is_in qs r ≡ true
-    later true out h = absurd cc
-    later false out h = h
 
 -- none of these qubits is far
 abbrev AreNear : (first : ℕ) (cs ps : List ℕ) → ℕ → Type 0
 AreNear first cs ps k = (q : ℕ) → is_in cs q ≡ true → climbed cs ps k q ≡ first
 
--- None is far, or one of them is. It looks through a list of qubits for one that k steps don't
--- bring to the first.
-near_or_far : (first : ℕ) (cs ps : List ℕ) (k : ℕ) (qs : List ℕ)
-    → ((q : ℕ) → is_in qs q ≡ true → climbed cs ps k q ≡ first)
-    ⊎ ((q : ℕ) × (is_in qs q ≡ true) × (climbed cs ps k q ≢ first))
-near_or_far first cs ps k [] = inl (λ q in'. absurd cc)
-near_or_far first cs ps k (q ∷ qs) =
-    elim (cases_eq (climbed cs ps k q) first) [
-      | inr far ↦ inr (q, or_left (q == q) (is_in qs q) (eq-eqb q q refl), far)
-      | inl near ↦
-          elim (near_or_far first cs ps k qs) [
-            | inl others ↦ inl (λ r in'.
-                elim (or_cases (q == r) (is_in qs r) in') [
-                  | inl same ↦ ap (climbed cs ps k) (sym (eqb-true q r same)) ∙ near
-                  | inr later ↦ others r later
-                ])
-            | inr (r, in', far) ↦ inr (r, or_right (q == r) (is_in qs r) in', far)
-          ]
-    ]
-
--- with each step that leaves one far, fewer are: so either none is far after k steps, or at most as
--- many as the qubits less k
-near_in_time : (first : ℕ) (cs ps : List ℕ) → IsRooted first cs ps → (k : ℕ)
-    → AreNear first cs ps k ⊎ (far_count first cs ps k cs + k ≤ length cs)
-near_in_time first cs ps root zero =
-    inr (omega (arith, count_by-le-length (is_far first cs ps 0) cs))
-near_in_time first cs ps root (suc k) =
-    elim (near_in_time first cs ps root k) [
-      | inl near ↦
-          inl (λ q in'. stays first cs ps root.apart k (suc k) q (omega arith) (near q in'))
-      | inr few ↦
-          elim (near_or_far first cs ps (suc k) cs) [
-            | inl near ↦ inl near
-            | inr (q, in', far) ↦
-                let way = root.leads q in' in
-                let far_before : climbed cs ps k q ≢ first = λ here.
-                far (stays first cs ps root.apart k (suc k) q (omega arith) here) in
-                let found = edge first cs ps root.apart k way.0 q far_before way.1 in
-                inr (omega (
-                  arith,
-                  few,
-                  fewer_by_one first cs ps root.apart k found.0 found.1 cs
-                      found.1.inside,
-                ))
-          ]
-    ]
+-- with each step that leaves one far, fewer are: so at most as many as the qubits less k
+few_far : (first : ℕ) (cs ps : List ℕ) → IsRooted first cs ps → (k q : ℕ) → is_in cs q ≡ true
+    → (climbed cs ps k q ≢ first) → far_count first cs ps k cs + k ≤ length cs
+few_far first cs ps root zero q in' far =
+    omega (arith, count_by-le-length (is_far first cs ps 0) cs)
+few_far first cs ps root (suc k) q in' far =
+    let way = root.leads q in' in
+    let before : climbed cs ps k q ≢ first = λ here.
+    far (stays first cs ps root.apart k (suc k) q (omega arith) here) in
+    let less = less_far first cs ps root.apart k way.0 q before way.1 in
+    omega (arith, less, few_far first cs ps root k q in' before)
 
 -- As many steps as there are qubits after the first are enough. So walks of fewer steps than the
 -- chain has qubits reach every qubit that longer ones reach.
 pub near_all : (first : ℕ) (cs ps : List ℕ) → IsRooted first cs ps → AreNear first cs ps (length cs)
-near_all first cs ps root =
-    elim (near_in_time first cs ps root (length cs)) [
-      | inl near ↦ near
-      | inr few ↦
-          let none : far_count first cs ps (length cs) cs ≡ 0 = omega (arith, few) in
-          near_of_none cs none
-    ]
-  where
-    near_of_none : (qs : List ℕ) → far_count first cs ps (length cs) qs ≡ 0
-        → (q : ℕ) → is_in qs q ≡ true → climbed cs ps (length cs) q ≡ first
-    near_of_none [] none q in' = absurd cc
-    near_of_none (r ∷ rs) none q in' =
-        let parts = sum_by-cons (λ s. cond (is_far first cs ps (length cs) s) 1 0) r rs in
-        elim (or_cases (r == q) (is_in rs q) in') [
-          | inl same ↦
-              ap (climbed cs ps (length cs)) (sym (eqb-true r q same))
-              ∙ here (climbed cs ps (length cs) r) (omega (arith, parts, none))
-          | inr later ↦ near_of_none rs (omega (arith, parts, none)) q later
-        ]
-      where
-        here : (m : ℕ) → cond {A = ℕ} (not (m == first)) 1 0 ≡ 0 → m ≡ first
-        here m h = elim (cases_eq m first) [
-          | inl same ↦ same
-          | inr other ↦
-              let one : cond {A = ℕ} (not (m == first)) 1 0 ≡ 1 =
-              ap (λ b. cond {A = ℕ} (not b) 1 0) (ne_eqb m first other) in
-              absurd (omega (arith, h, one))
-        ]
+near_all first cs ps root q in' = elim (cases_eq (climbed cs ps (length cs) q) first) [
+  | inl near ↦ near
+  | inr far ↦
+      let way = root.leads q in' in
+      let less = less_far first cs ps root.apart (length cs) way.0 q far way.1 in
+      absurd (omega (arith, less, few_far first cs ps root (length cs) q in' far))
+]
 
 -- ---- the sides of a tie
 
 -- Some number of a range passes a test. The range has n numbers from a on.
 pub found_in_range : (p : ℕ → Bool) (a n : ℕ) → list_any p (range_with_len a n) ≡ true
     → (i : ℕ) × (i < a + n) × (p i ≡ true)
-found_in_range p a zero h = absurd cc
-found_in_range p a (suc n) h =
-    elim (or_cases (p a) (list_any p (range_with_len (a + 1) n)) h) [
-      | inl here ↦ (a, omega arith, here)
-      | inr later ↦
-          let rest = found_in_range p (a + 1) n later in
-          (rest.0, omega (arith, rest.1), rest.2)
-    ]
+found_in_range p a n h =
+    let found = Any-from_list_any p (range_with_len a n) h in
+    let within : found.0 < n = omega (arith, found.2, length-range_with_len a n) in
+    let at = get_or-range_with_len a n found.0 found.1 within in
+    (found.1, omega (arith, found.3, within, at), found.4)
 
 -- a chain from its first qubit on, as a tree
 module _ (first : ℕ) (cs ps : List ℕ) (root : IsRooted first cs ps) where
@@ -338,13 +206,10 @@ module _ (first : ℕ) (cs ps : List ℕ) (root : IsRooted first cs ps) where
           (near_all first cs ps root q q_in) in
           elim (cases_eq way.0 (length cs)) [
             | inl all ↦
-                absurd (in_or_out cs c first c_in root.apart
-                (sym way.2 ∙ ap (λ n. climbed cs ps n (parent_in cs ps q)) all ∙ ended))
-            | inr fewer ↦ is_below_by c q (suc way.0) (less way.0 (length cs) way.1 fewer) way.2
+                absurd (apart_qubits c first cs root.apart c_in
+                (sym (sym way.2 ∙ ap (λ n. climbed cs ps n (parent_in cs ps q)) all ∙ ended)))
+            | inr fewer ↦ is_below_by c q (suc way.0) (grind (arith, way.1, fewer)) way.2
           ]
-        where
-          less : (m n : ℕ) → m ≤ n → (m ≢ n) → suc m ≤ n
-          less m n le ne = grind arith
 
 -- All qubits of the chain are below the first. So the sum below the first qubit is that of the
 -- whole chain.

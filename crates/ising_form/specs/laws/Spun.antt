@@ -3,21 +3,12 @@
 -- A node of weight w adds 4w where its spin is +1 and 0 where it is -1: its field adds 2w times the
 -- spin, and the constant 2w. A coupler of weight w adds 4w where both spins are +1 and 0 elsewhere: w
 -- times the one spin, the other, both, and 1.
-use Rattle.std.specs.Prelude.{◌≡◌, ◌≢◌, ◌⊎◌, ℕ, suc, ◌+◌, ◌<◌, ◌≤◌, ◌==◌, ℤ, pos, ◌+ℤ◌, ◌*ℤ◌, Bool, true, false, ◌&&◌, List, [], ◌∷◌, length}
-use Rattle.std.specs.List.{AllByRecursion}
-use Rattle.std.proofs.Common.{inl, inr, arith, ap, sym, ◌∙◌, refl}
-use Rattle.std.proofs.lemmas.Bool.{eq-eqb}
-use Rattle.std.proofs.lemmas.Bool.Decides.{eqb_tells}
-use Rattle.std.proofs.lemmas.Int.{ints}
-use Rattle.std.proofs.lemmas.List.Elements.{recursion_from_All}
-use Rattle.base.specs.Sums.{total_by, if_so}
-use Rattle.base.proofs.Totals.{total_by-append}
-use Rattle.form_steps.specs.declared.layer.BitsLink.{BitsLink}
-use Rattle.bits_model.specs.declared.output.Entry.{Entry}
+use Rattle.quad_form.proofs.Common.{AllByRecursion, inl, inr, arith, ap, sym, ◌∙◌, refl, ints, recursion_from_All, total_by, if_so, total_by-append, BitsLink, Entry, QuadContent, IsQuad, IsCoupler, node_entries, quad_value}
+use Rattle.std.specs.Prelude.{◌≡◌, ℕ, suc, ◌+◌, ◌<◌, ◌≤◌, ◌==◌, ℤ, pos, ◌+ℤ◌, ◌*ℤ◌, Bool, ◌&&◌, List, [], ◌∷◌, length}
+use Rattle.std.proofs.lemmas.Bool.{eq-eqb, ne_eqb, cases_eq}
 use Rattle.base.specs.Costs.{IsNeverInfinite}
 use Rattle.bits_model.specs.Output.{bit_at, times_spin, bits_energy, spins_energy}
 use Rattle.form_steps.specs.Relations.{Keeps, Extends, Joins}
-use Rattle.quad_form.specs.Quads.{QuadContent, IsQuad, IsCoupler, node_entries, quad_value}
 use Rattle.quad_form.specs.Quads as quads
 use Rattle.quad_form.specs.Flat.{same_bits, IsSound}
 use Rattle.ising_form.specs.Isings.{ising_value, form_of}
@@ -30,18 +21,10 @@ pub energy_of_node : (y : List Bool) (n : ℕ) (w : ℤ)
     → spins_energy y (record { first = n; second = n; weight = w }) ≡ times_spin (bit_at y n) w
 energy_of_node y n w = rw (eq-eqb n n refl) refl
 
--- the lesser of two numbers is another one
-apart : (i j : ℕ) → i < j → (i == j) ≡ false
-apart i j h = go (eqb_tells i j)
-  where
-    go : (((i == j) ≡ true) × (i ≡ j)) ⊎ (((i == j) ≡ false) × (i ≢ j)) → (i == j) ≡ false
-    go (inl same) = absurd (omega (arith, same.1))
-    go (inr other) = other.0
-
 -- what a coupling adds
 pub energy_of_coupling : (y : List Bool) (e : Entry) → e.first < e.second
     → spins_energy y e ≡ times_spin (bit_at y e.first) (times_spin (bit_at y e.second) e.weight)
-energy_of_coupling y e up = rw (apart e.first e.second up) refl
+energy_of_coupling y e up = rw (ne_eqb e.first e.second (λ same. omega (arith, same, up))) refl
 
 -- ---- fields
 
@@ -56,11 +39,14 @@ fields_energy-cons y n h hs = ap (λ z. z +ℤ fields_energy y (suc n) hs) (ener
 
 -- a sum of two weights gives the sum of what each gives
 times_spin-plus : (b : Bool) (v w : ℤ) → times_spin b (v +ℤ w) ≡ times_spin b v +ℤ times_spin b w
-times_spin-plus true v w = refl
-times_spin-plus false v w = omega (arith, ints)
+times_spin-plus b v w = grind (arith, ints)
+
+-- a spin times 0 is 0
+times_spin-zero : (b : Bool) → times_spin b (pos 0) ≡ pos 0
+times_spin-zero b = grind (arith, ints)
 
 -- what is added for nodes that are numbered from n on, times their spins
-added_energy : List Bool → (ℕ → ℤ) → ℕ → List ℤ → ℤ
+abbrev added_energy : List Bool → (ℕ → ℤ) → ℕ → List ℤ → ℤ
 added_energy y added n [] = pos 0
 added_energy y added n (w ∷ ws) =
     times_spin (bit_at y n) (added n) +ℤ added_energy y added (suc n) ws
@@ -69,95 +55,56 @@ added_energy y added n (w ∷ ws) =
 fields_alone : (y : List Bool) (added : ℕ → ℤ) (n : ℕ) (ws : List ℤ)
     → fields_energy y n (fields_from added n ws) +ℤ pos 2 *ℤ total_by (λ (w : ℤ). w) ws
     ≡ pos 4 *ℤ total_by (bits_energy y) (node_entries n ws) +ℤ added_energy y added n ws
-unfolding added_energy
 fields_alone y added n [] = omega (arith, ints)
 fields_alone y added n (w ∷ ws) =
-    omega (
-      arith,
-      ints,
-      fields_energy-cons y n (pos 2 *ℤ w +ℤ added n) (fields_from added (suc n) ws),
-      times_spin-plus (bit_at y n) (pos 2 *ℤ w) (added n),
-      fields_alone y added (suc n) ws,
-      of_node (bit_at y n) w,
-    )
+    let fields_are =
+    fields_energy-cons y n (pos 2 *ℤ w +ℤ added n) (fields_from added (suc n) ws) in
+    let split = times_spin-plus (bit_at y n) (pos 2 *ℤ w) (added n) in
+    let rest = fields_alone y added (suc n) ws in
+    omega (arith, ints, fields_are, split, rest, of_node (bit_at y n) w)
   where
     of_node : (b : Bool) (w : ℤ) → times_spin b (pos 2 *ℤ w) +ℤ pos 2 *ℤ w ≡ pos 4 *ℤ if_so (b && b) w
-    of_node true w = omega (arith, ints)
-    of_node false w = omega (arith, ints)
+    of_node b w = grind (arith, ints)
 
 -- what two functions add is the sum of what each adds
 added_energy-plus : (y : List Bool) (f g : ℕ → ℤ) (n : ℕ) (ws : List ℤ)
     → added_energy y (λ i. f i +ℤ g i) n ws ≡ added_energy y f n ws +ℤ added_energy y g n ws
-unfolding added_energy
 added_energy-plus y f g n [] = refl
 added_energy-plus y f g n (w ∷ ws) =
-    omega (
-      arith,
-      ints,
-      times_spin-plus (bit_at y n) (f n) (g n),
-      added_energy-plus y f g (suc n) ws,
-    )
+    let split = times_spin-plus (bit_at y n) (f n) (g n) in
+    omega (arith, ints, split, added_energy-plus y f g (suc n) ws)
 
 -- and nothing adds nothing
 added_energy-zero : (y : List Bool) (n : ℕ) (ws : List ℤ) → added_energy y (λ i. pos 0) n ws ≡ pos 0
-unfolding added_energy
 added_energy-zero y n [] = refl
-added_energy-zero y n (w ∷ ws) = omega (arith, ints, none (bit_at y n), added_energy-zero y (suc n) ws)
-  where
-    none : (b : Bool) → times_spin b (pos 0) ≡ pos 0
-    none true = refl
-    none false = refl
+added_energy-zero y n (w ∷ ws) = omega (arith, ints, times_spin-zero (bit_at y n), added_energy-zero y (suc n) ws)
 
 -- what is added for one node only, which stands before
 one_before : (y : List Bool) (j n : ℕ) (c : ℤ) (ws : List ℤ) → j < n
     → added_energy y (λ i. if_so (j == i) c) n ws ≡ pos 0
-unfolding added_energy
 one_before y j n c [] low = refl
 one_before y j n c (w ∷ ws) low =
-    omega (
-      arith,
-      ints,
-      none (bit_at y n) (j == n) (apart j n low),
-      one_before y j (suc n) c ws (omega arith),
-    )
-  where
-    none : (b t : Bool) → t ≡ false → times_spin b (if_so t c) ≡ pos 0
-    none true true is = cc
-    none false true is = cc
-    none true false is = refl
-    none false false is = refl
+    let same =
+    ap (λ t. times_spin (bit_at y n) (if_so t c)) (ne_eqb j n (λ e. omega (arith, e, low))) in
+    let rest = one_before y j (suc n) c ws (omega arith) in
+    omega (arith, ints, same, times_spin-zero (bit_at y n), rest)
 
 -- what is added for one node only
 one_added : (y : List Bool) (j n : ℕ) (c : ℤ) (ws : List ℤ) → n ≤ j → j < n + length ws
     → added_energy y (λ i. if_so (j == i) c) n ws ≡ times_spin (bit_at y j) c
-unfolding added_energy
 one_added y j n c [] low high = absurd (omega arith)
 one_added y j n c (w ∷ ws) low high =
-    go (eqb_tells j n) (λ less. one_added y j (suc n) c ws less (omega arith))
-  where
-    here : j ≡ n → (j == n) ≡ true
-        → times_spin (bit_at y n) (if_so (j == n) c) +ℤ added_energy y (λ i. if_so (j == i) c) (suc n) ws
-        ≡ times_spin (bit_at y j) c
-    here same is =
-        let this : times_spin (bit_at y n) (if_so (j == n) c) ≡ times_spin (bit_at y j) c =
-        (λ i. times_spin (bit_at y (sym same i)) (if_so (is i) c)) in
-        omega (arith, ints, this, one_before y j (suc n) c ws (omega (arith, same)))
-
-    go : (((j == n) ≡ true) × (j ≡ n)) ⊎ (((j == n) ≡ false) × (j ≢ n))
-        → (suc n ≤ j → added_energy y (λ i. if_so (j == i) c) (suc n) ws ≡ times_spin (bit_at y j) c)
-        → times_spin (bit_at y n) (if_so (j == n) c) +ℤ added_energy y (λ i. if_so (j == i) c) (suc n) ws
-        ≡ times_spin (bit_at y j) c
-    go (inl same) rest = here same.1 same.0
-    go (inr other) rest =
-        let above : suc n ≤ j = grind (arith, other.1) in
-        let this : times_spin (bit_at y n) (if_so (j == n) c) ≡ pos 0 = none (bit_at y n) (j == n) other.0 in
-        omega (arith, ints, this, rest above)
-      where
-        none : (b t : Bool) → t ≡ false → times_spin b (if_so t c) ≡ pos 0
-        none true true is = cc
-        none false true is = cc
-        none true false is = refl
-        none false false is = refl
+    elim (cases_eq j n) [
+      | inl same ↦
+          let same2 = ap (λ t. times_spin (bit_at y n) (if_so t c)) (eq-eqb j n same) in
+          let before = one_before y j (suc n) c ws (omega (arith, same)) in
+          omega (arith, ints, same2, ap (λ k. times_spin (bit_at y k) c) same, before)
+      | inr other ↦
+          let above : suc n ≤ j = grind (arith, other) in
+          let same3 = ap (λ t. times_spin (bit_at y n) (if_so t c)) (ne_eqb j n other) in
+          let added_one = one_added y j (suc n) c ws above (omega arith) in
+          omega (arith, ints, same3, times_spin-zero (bit_at y n), added_one)
+    ]
 
 -- ---- couplers
 
@@ -176,15 +123,11 @@ both_ends y e ws is =
 four_times : (a b : Bool) (w : ℤ)
     → (times_spin a w +ℤ times_spin b w) +ℤ (times_spin a (times_spin b w) +ℤ w)
     ≡ pos 4 *ℤ if_so (a && b) w
-four_times true true w = omega (arith, ints)
-four_times true false w = omega (arith, ints)
-four_times false true w = omega (arith, ints)
-four_times false false w = omega (arith, ints)
+four_times a b w = grind (arith, ints)
 
 -- so all couplers come to four times their energy of bits
 couplers_energy : (y : List Bool) (ws : List ℤ) (cs : List Entry)
-    → AllByRecursion (IsCoupler (length ws)) cs
-    → added_energy y (coupled cs) 0 ws
+    → AllByRecursion (IsCoupler (length ws)) cs → added_energy y (coupled cs) 0 ws
     +ℤ (total_by (spins_energy y) cs +ℤ total_by (λ (e : Entry). e.weight) cs)
     ≡ pos 4 *ℤ total_by (bits_energy y) cs
 couplers_energy y ws [] all = omega (arith, ints, added_energy-zero y 0 ws)
@@ -205,14 +148,13 @@ couplers_energy y ws (e ∷ cs) all =
 pub image_value : (q : QuadContent) → IsQuad q → (y : List Bool)
     → ising_value (image q) y ≡ pos 4 *ℤ quad_value q y
 image_value q quad y =
-    omega (
-      arith,
-      ints,
-      total_by-append (spins_energy y) (node_entries 0 (spins_fields q.diagonal q.couplers)) q.couplers,
-      total_by-append (bits_energy y) (node_entries 0 q.diagonal) q.couplers,
-      fields_alone y (coupled q.couplers) 0 q.diagonal,
-      couplers_energy y q.diagonal q.couplers (recursion_from_All _ q.couplers quad.couplers),
-    )
+    let joined =
+    total_by-append (spins_energy y) (node_entries 0 (spins_fields q.diagonal q.couplers)) q.couplers in
+    let joined2 = total_by-append (bits_energy y) (node_entries 0 q.diagonal) q.couplers in
+    let alone = fields_alone y (coupled q.couplers) 0 q.diagonal in
+    let coupled2 =
+    couplers_energy y q.diagonal q.couplers (recursion_from_All _ q.couplers quad.couplers) in
+    omega (arith, ints, joined, joined2, alone, coupled2)
 
 -- there is a field for each node
 pub length-fields : (added : ℕ → ℤ) (n : ℕ) (ws : List ℤ)

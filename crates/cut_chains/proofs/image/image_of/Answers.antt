@@ -1,6 +1,5 @@
-use Rattle.cut_chains.proofs.Common.{sorted_is_in_order, ◌≡◌, ◌++◌, to_z, of_z, subst, sym, ap, ◌∙◌, rules, arith, w128, IsPermutation, to_z-of_z, IsingContent, IsIsing, placed, cut_image, cut_ties}
-use Rattle.cut_chains.proofs.CutPairs.{cut_apart, cut_couplers}
-use Rattle.cut_chains.proofs.CutSizes.{cut_cost-le, left_cost, cut_is_ising}
+use Rattle.cut_chains.proofs.Common.{sorted_is_in_order, ◌≡◌, ◌++◌, to_z, of_z, subst, sym, ap, ◌∙◌, rules, arith, w128, IsPermutation, to_z-of_z, IsingContent, IsIsing, placed, cut_image, cut_ties, cut_strength, all_couplers, couplings_apart}
+use Rattle.cut_chains.proofs.CutSizes.{cut_cost-le, left_cost, cut_some, cut_is_ising}
 use Rattle.cut_chains.proofs.image.image_of.Goals as goal
 
 pub cost_from-cost-requires-clause-small : goal.cost_from-cost-requires-clause-small
@@ -30,8 +29,9 @@ image_is c =
     let fields = c.new.ensures ∙ c.in_ok-fields.ensures in
     let sorted = c.in_ok-couplings.ensures in
     let couplings =
-    sorted_is_in_order e.qubits es c.in_ok-couplings.couplings kept.few (cut_couplers e kept)
-    (cut_apart e kept)
+    sorted_is_in_order e.qubits es c.in_ok-couplings.couplings kept.few
+    (all_couplers (cut_strength e) (cut_some e) e kept)
+    (couplings_apart (cut_strength e) (cut_some e) e kept)
     (subst (λ l. IsPermutation l c.in_ok-couplings.couplings) c.in_ok-gathered.ensures.made sorted.same)
     sorted.ordered in
     λ k. record { constant = constant k; fields = fields k; couplings = couplings k }
