@@ -5,7 +5,7 @@ pub use Rattle.working_graph.proofs.Common.{IsingContent, IsIsing, Fabric, AllEx
 pub use Rattle.normal_form.proofs.Common.{sets_sum-with_additions, ExtendsLeast, Relaxes, first_bits, multilinear_extends, multilinear_relaxes, pow_mono, pow-add, scaled, product_terms, products_with, complements, AreFew, sets_sum-contributions, product_term, square_terms, slack_form, constraint_terms, opposites_length, square_is, contributions-sets, multiplied, IsSmall, figures, clause_term, Figures, BitsLink, Clause, Constraint}
 pub use Rattle.ising_form.proofs.Common.{Written, read_off, spins_energy, Decoding, Reduces, Keeps, figures_moved, node_entries, weights_of, counted_in, entry_in, unit_of, ising_total, ising_unit, reduced, coupled, image, length-fields, spins_keeps, spins_reaches, FitsOutput, is_on_chain, written_entries, written_of, same_bits, one_le_quad_unit, Kind}
 pub use Rattle.quad_form.proofs.Common.{is_coupler, bits_energy, flat_keeps, flat_reaches, greatest_within, quad_unit, same_tables}
-pub use Rattle.faithful.proofs.Common.{decoding_after, Reaches, figures_after, StandsAtLeast, IsLeast, times-lt}
+pub use Rattle.model_pipeline.proofs.faithful.Common.{decoding_after, Reaches, figures_after, StandsAtLeast, IsLeast, times-lt}
 pub use Rattle.cut_chains.proofs.Common.{read_off_the_chains, Extends, cut_keeps, cut_reaches, take-take}
 pub use Rattle.penalty_layer.proofs.Common.{node_count, plain_terms, penalty_extends, penalty_relaxes, length-union}
 pub use Rattle.command_words.proofs.Common.{UnitChoice}
@@ -21,8 +21,8 @@ pub use Rattle.model_pipeline.specs.Sizes.{NodesAreFew}
 pub use Rattle.std.specs.Prelude.{unsigned_abs, neg_ℤ, IfOk, Result, nat_le, nat_lt, FitsSigned, ◌-ℤ◌, IfErr}
 pub use Rattle.std.proofs.Math.Nat.{mul-le-mul_right, mul-le-mul_left, zero-div}
 pub use Rattle.base.specs.Costs.{Form, IsOf, energy}
-pub use Rattle.faithful.specs.Bounds.{AreBounded}
-pub use Rattle.faithful.specs.Faithful.{scale_of, HasUnit}
+pub use Rattle.model_pipeline.specs.faithful.Bounds.{AreBounded}
+pub use Rattle.model_pipeline.specs.faithful.Faithful.{scale_of, HasUnit}
 pub use Rattle.form_steps.specs.laws.Composed.{reduces_after_relaxes, least-trans, keeps_after_relaxes}
 pub use Rattle.model_text.specs.Rows.{FitsFigures, FitsGraph}
 pub use Rattle.problem_form.specs.Limits.{upper, limit_fault, penalty, factor, product_bits, clause_bits, constraint_bits, constraint_degree, most_complements, summands, slack_bits, auxiliary_bits}
@@ -58,17 +58,17 @@ pub use Rattle.working_graph.proofs.WorkingCliques.{working_clique_valid}
 pub use Rattle.model_pipeline.specs.declared.site.Qubits.{Qubits}
 pub use Rattle.model_pipeline.specs.declared.site.ChainSource.{ChainSource}
 pub use Rattle.form_steps.proofs.Growth.{fits_below}
-pub use Rattle.faithful.proofs.LeastStates.{relaxed_stands}
-pub use Rattle.faithful.proofs.LeastSteps.{kept_stands, reduced_stands}
+pub use Rattle.model_pipeline.proofs.faithful.LeastStates.{relaxed_stands}
+pub use Rattle.model_pipeline.proofs.faithful.LeastSteps.{kept_stands, reduced_stands}
 pub use Rattle.cut_chains.proofs.CutSizes.{cut_is_ising, cut_offset_small, cut_total_grows}
 pub use Rattle.cut_chains.proofs.Joined.{cut_fits_output, cut_is_joined}
 pub use Rattle.chain_map.specs.Faults.{IfFault}
 pub use Rattle.model_text.proofs.Numerals.{size_fits}
 pub use Rattle.base.specs.declared.unit.UnitChoice.TheVariants.{One, Reduce}
-pub use Rattle.command_words.specs.declared.commands.ChainStrength.TheVariants.{Choi, Cut}
 pub use Rattle.command_words.specs.declared.commands.NodeModel.TheVariants.{Qubo, Ising}
 pub use Rattle.problem_form.specs.declared.limits.High.TheVariants.{Monomial, Rosenberg}
 pub use Rattle.cut_chains.specs.declared.link.CutLink.{CutLink}
+pub use Rattle.chain_layer.specs.declared.link.ChainLink.{ChainLink}
+pub use Rattle.command_words.specs.declared.commands.ChainStrength.TheVariants.{Choi, Cut}
 pub use Rattle.command_words.specs.declared.commands.ChainStrength.{ChainStrength}
 pub use Rattle.command_words.specs.declared.commands.NodeModel.{NodeModel}
-pub use Rattle.chain_layer.specs.declared.link.ChainLink.{ChainLink}

@@ -1,3 +1,4 @@
+pub mod faithful
 pub mod Common
 pub mod FormModels
 pub mod GraphModels

@@ -42,8 +42,7 @@ pub moved_by_ties : (ties : ChainStrength) (n : Figures) (e : Embedding) → IsE
     → unsigned_abs n.offset < 2 ^ 122 → unsigned_abs n.threshold < 2 ^ 122
     → AreMoved n (chained_figures ties e n) (2 ^ 124)
 moved_by_ties ties n e kept small offset_low threshold_low =
-    let tied = offset_within ties e kept small in
-    grind (arith, nat_tests, tied_low)
+    let tied = offset_within ties e kept small in grind (arith, nat_tests, tied_low)
 
 -- ---- a graph
 

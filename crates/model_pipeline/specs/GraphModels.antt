@@ -4,8 +4,8 @@ use Rattle.std.specs.Prelude.{◌≡◌, ℕ, ◌+ℤ◌, ◌*ℤ◌, List, leng
 use Rattle.base.specs.declared.costs.Figures.{Figures}
 use Rattle.base.specs.declared.unit.UnitChoice.{UnitChoice}
 use Rattle.bits_model.specs.Output.{Written, IsWellFormed, form_of}
-use Rattle.faithful.specs.Bounds.{IsBounded}
-use Rattle.faithful.specs.Faithful.{HasUnit, IsEmbedded, scale_of}
+use Rattle.model_pipeline.specs.faithful.Bounds.{IsBounded}
+use Rattle.model_pipeline.specs.faithful.Faithful.{HasUnit, IsEmbedded, scale_of}
 use Rattle.model_text.specs.Rows.{FitsFields}
 use Rattle.problem_form.specs.declared.limits.Choices.{Choices}
 use Rattle.problem_form.specs.Problems.{ProblemContent}

@@ -1,3 +1,4 @@
+pub mod faithful
 pub mod Models
 pub mod Formed
 pub mod Sites

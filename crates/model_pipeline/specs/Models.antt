@@ -8,8 +8,8 @@ use Rattle.base.specs.declared.unit.UnitChoice.TheVariants.{One, Reduce}
 use Rattle.form_steps.specs.Relations.{Decoding, Relaxes}
 use Rattle.base.specs.Figures.{figures_after, figures_moved}
 use Rattle.bits_model.specs.Output.{Written, IsWellFormed, form_of, read_off}
-use Rattle.faithful.specs.Bounds.{IsBounded}
-use Rattle.faithful.specs.Faithful.{HasUnit, scale_of}
+use Rattle.model_pipeline.specs.faithful.Bounds.{IsBounded}
+use Rattle.model_pipeline.specs.faithful.Faithful.{HasUnit, scale_of}
 use Rattle.model_text.specs.Rows.{FitsFields}
 use Rattle.problem_form.specs.declared.limits.Choices.{Choices}
 use Rattle.problem_form.specs.declared.limits.Normal.{Normal}

@@ -5,9 +5,9 @@ use Rattle.base.specs.declared.unit.UnitChoice.{UnitChoice}
 use Rattle.base.specs.Costs.{Form}
 use Rattle.form_steps.specs.Relations.{Decoding, Relaxes}
 use Rattle.bits_model.specs.Output.{Written, IsWellFormed, form_of}
-use Rattle.faithful.specs.AtLeast.{StandsAtLeast}
-use Rattle.faithful.specs.Bounds.{IsBounded}
-use Rattle.faithful.specs.Faithful.{Demand, HasUnit, IsEmbedded}
+use Rattle.model_pipeline.specs.faithful.AtLeast.{StandsAtLeast}
+use Rattle.model_pipeline.specs.faithful.Bounds.{IsBounded}
+use Rattle.model_pipeline.specs.faithful.Faithful.{Demand, HasUnit, IsEmbedded}
 use Rattle.model_text.specs.Rows.{FitsFields}
 use Rattle.command_words.specs.declared.commands.ChainStrength.{ChainStrength}
 use Rattle.command_words.specs.declared.commands.ChainStrength.TheVariants.{Choi, Cut}

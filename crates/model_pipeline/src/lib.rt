@@ -13,6 +13,7 @@ mod kept;
 mod laws;
 mod model;
 mod on_qubits;
+mod promise;
 mod scaled;
 mod site;
 mod size_laws;
@@ -27,6 +28,10 @@ pub use kept::{FormSteps, Keeping};
 pub use laws::{decoders_of_steps, laws_of_decoding, laws_of_extensions, laws_of_ties};
 pub use model::model_of;
 pub use on_qubits::{form_on_qubits, model_on_qubits};
+pub use promise::{
+    energies_are_bounded, least_states_compose, least_states_tell, relaxed_is_faithful,
+    standing_is_faithful,
+};
 pub use scaled::Scaled;
 pub use site::{ChainSource, Qubits, Site};
 pub use size_laws::laws_of_sizes;

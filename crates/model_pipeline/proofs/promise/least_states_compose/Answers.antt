@@ -1,7 +1,7 @@
-use Rattle.faithful.proofs.LeastStates.{relaxed_stands}
-use Rattle.faithful.proofs.LeastSteps.{kept_stands, reduced_stands}
-use Rattle.faithful.proofs.LongerSources.{rewritten_stands}
-use Rattle.faithful.proofs.laws.least_states_compose.Goals as goal
+use Rattle.model_pipeline.proofs.faithful.LeastStates.{relaxed_stands}
+use Rattle.model_pipeline.proofs.faithful.LeastSteps.{kept_stands, reduced_stands}
+use Rattle.model_pipeline.proofs.faithful.LongerSources.{rewritten_stands}
+use Rattle.model_pipeline.proofs.promise.least_states_compose.Goals as goal
 
 pub returns-clause-relaxed : goal.returns-clause-relaxed
 returns-clause-relaxed c = relaxed_stands

@@ -4,7 +4,7 @@
 -- is feasible, and so least states decode to least assignments. Where it is infinite the source is
 -- not feasible, since a least state would decode to a least assignment; so some least state lies
 -- above the threshold, and all least states have one energy.
-use Rattle.faithful.proofs.Common.{nat_tests, ◌≡◌, ℤ, ◌*ℤ◌, ◌≤ℤ◌, ◌<ℤ◌, Bool, List, length, refl, arith, ap, ◌∙◌, ints, length-take-le, length-map, Cost, Kind, Form, Source, energy, IsFeasible, IsLeastState, Written, FitsKind, form_of, decoding_of, read_off, Demand, Faithful, whole_energy, TellsOptimum, LeastStatesTell}
+use Rattle.model_pipeline.proofs.faithful.Common.{nat_tests, ◌≡◌, ℤ, ◌*ℤ◌, ◌≤ℤ◌, ◌<ℤ◌, Bool, List, length, refl, arith, ap, ◌∙◌, ints, length-take-le, length-map, Cost, Kind, Form, Source, energy, IsFeasible, IsLeastState, Written, FitsKind, form_of, decoding_of, read_off, Demand, Faithful, whole_energy, TellsOptimum, LeastStatesTell}
 use Rattle.base.specs.declared.costs.Cost.TheVariants.{Whole, Infinite}
 
 -- a state decodes to as many bits as the model has variables

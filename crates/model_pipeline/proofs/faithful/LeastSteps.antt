@@ -3,8 +3,8 @@
 -- What reaches a least state is a least state, since the least energies of both forms stand for
 -- each other. So each least assignment is still decoded from a least state, and each least state
 -- still decodes to one.
-use Rattle.faithful.proofs.Common.{nat_tests, ◌≡◌, ℤ, pos, ◌+ℤ◌, ◌*ℤ◌, ◌<ℤ◌, Bool, List, sym, ap, ◌∙◌, arith, subst, ints, by_lt_z, times-le, times-lt, scaled_twice, Figures, Form, energy, figures_after, figures_moved, Decoding, Reaches, Reduces, decoding_after, IsFeasible, IsLeast, IsLeastAt, IsLeastState, KeepsLeast, StandsAtLeast}
-use Rattle.faithful.proofs.LeastStates.{least_state}
+use Rattle.model_pipeline.proofs.faithful.Common.{nat_tests, ◌≡◌, ℤ, pos, ◌+ℤ◌, ◌*ℤ◌, ◌<ℤ◌, Bool, List, sym, ap, ◌∙◌, arith, subst, ints, by_lt_z, times-le, times-lt, scaled_twice, Figures, Form, energy, figures_after, figures_moved, Decoding, Reaches, Reduces, decoding_after, IsFeasible, IsLeast, IsLeastAt, IsLeastState, KeepsLeast, StandsAtLeast}
+use Rattle.model_pipeline.proofs.faithful.LeastStates.{least_state}
 
 -- ---- a step that keeps least states alone
 

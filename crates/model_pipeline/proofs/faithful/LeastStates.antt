@@ -3,7 +3,7 @@
 -- A state reaches each assignment of whole cost, at the bound that no state with a cost lies below,
 -- and a state without one lies above all of these. So least assignments are reached by least
 -- states, and only by these. That there is a least state at all is a recursion on the width.
-use Rattle.faithful.proofs.Common.{nat_tests, ◌≡◌, ℕ, zero, suc, ℤ, pos, ◌+ℤ◌, ◌*ℤ◌, ◌≤ℤ◌, ◌<ℤ◌, Bool, true, false, List, [], ◌∷◌, length, refl, arith, ap, subst, ints, by_lt_z, times-le, times-lt, Figures, Form, Source, energy, Decoding, Relaxes, ReachesIn, whole_or_infinite, HasCost, IsFeasible, IsLeast, IsLeastAt, IsLeastState, Written, IsWellFormed, form_of, decoding_of, StandsAtLeast, Demand, Faithful, IsStated}
+use Rattle.model_pipeline.proofs.faithful.Common.{nat_tests, ◌≡◌, ℕ, zero, suc, ℤ, pos, ◌+ℤ◌, ◌*ℤ◌, ◌≤ℤ◌, ◌<ℤ◌, Bool, true, false, List, [], ◌∷◌, length, refl, arith, ap, subst, ints, by_lt_z, times-le, times-lt, Figures, Form, Source, energy, Decoding, Relaxes, ReachesIn, whole_or_infinite, HasCost, IsFeasible, IsLeast, IsLeastAt, IsLeastState, Written, IsWellFormed, form_of, decoding_of, StandsAtLeast, Demand, Faithful, IsStated}
 
 -- ---- there is a least state
 

@@ -1,5 +1,5 @@
 -- Least assignments of a source that is rewritten with more variables.
-use Rattle.faithful.proofs.Common.{nat_tests, ◌≡◌, ℤ, Bool, List, take, ap, ◌∙◌, arith, subst, ints, Figures, Form, Decoding, Rewrites, first_decoded, first_is_of, IsFeasible, IsLeast, IsLeastAt, StandsAtLeast}
+use Rattle.model_pipeline.proofs.faithful.Common.{nat_tests, ◌≡◌, ℤ, Bool, List, take, ap, ◌∙◌, arith, subst, ints, Figures, Form, Decoding, Rewrites, first_decoded, first_is_of, IsFeasible, IsLeast, IsLeastAt, StandsAtLeast}
 
 module _ {f f' : Form} (r : Rewrites f f') where
   -- a least assignment is the front of a least one

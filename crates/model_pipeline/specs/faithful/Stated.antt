@@ -6,10 +6,10 @@ use Rattle.base.specs.Figures.{figures_after, figures_moved}
 use Rattle.form_steps.specs.Relations.{Decoding, Relaxes, Reduces, Rewrites, decoding_after, first_decoded}
 use Rattle.bits_model.specs.Output.{Written, IsWellFormed, form_of, decoding_of}
 use Rattle.form_steps.specs.Least.{IsFeasible, IsLeastState, KeepsLeast}
-use Rattle.faithful.specs.AtLeast.{StandsAtLeast}
-use Rattle.faithful.specs.Bounds.{IsBounded}
-use Rattle.faithful.specs.Faithful.{Demand, Faithful, IsStated}
-use Rattle.faithful.specs.Told.{TellsOptimum, whole_energy}
+use Rattle.model_pipeline.specs.faithful.AtLeast.{StandsAtLeast}
+use Rattle.model_pipeline.specs.faithful.Bounds.{IsBounded}
+use Rattle.model_pipeline.specs.faithful.Faithful.{Demand, Faithful, IsStated}
+use Rattle.model_pipeline.specs.faithful.Told.{TellsOptimum, whole_energy}
 
 -- ---- of models
 

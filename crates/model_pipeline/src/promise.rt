@@ -1,5 +1,5 @@
 //! The laws of the promise, as functions without code: each contract is a statement of `specs/`.
-ghost use Rattle.faithful.specs.Stated.{StandingIsFaithful, RelaxedIsFaithful, EnergiesAreBounded, RelaxedStandsAtLeast, LeastAfterLeast, ReducesAfterLeast, LeastAfterRewrites, LeastStatesTell};
+ghost use Rattle.model_pipeline.specs.faithful.Stated.{StandingIsFaithful, RelaxedIsFaithful, EnergiesAreBounded, RelaxedStandsAtLeast, LeastAfterLeast, ReducesAfterLeast, LeastAfterRewrites, LeastStatesTell};
 
 /// A well-formed model whose least states stand for the least assignments of a source, with what
 /// is stated of it, is faithful to it.

@@ -6,7 +6,7 @@ use Rattle.bits_model.specs.declared.output.Kind.TheVariants.{Qubo, Ising, Chime
 use Rattle.base.specs.declared.unit.UnitChoice.{UnitChoice}
 use Rattle.base.specs.declared.unit.UnitChoice.TheVariants.{One, Reduce}
 use Rattle.base.specs.Costs.{Source}
-use Rattle.faithful.specs.AtLeast.{StandsAtLeast}
+use Rattle.model_pipeline.specs.faithful.AtLeast.{StandsAtLeast}
 use Rattle.bits_model.specs.Walks.{IsConnected}
 use Rattle.bits_model.specs.Output.{Written, IsWellFormed, is_coupler, form_of, decoding_of}
 use Rattle.bits_model.specs.Units.{IsReduced}
