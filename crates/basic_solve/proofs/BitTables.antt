@@ -1,5 +1,5 @@
 -- The table of a node for one of its bits.
-use Rattle.basic_solve.proofs.Common.{nat_tests, ◌≡◌, ◌≢◌, ℕ, ◌+◌, ◌*◌, ◌^◌, ◌<◌, ◌≤◌, ℤ, pos, ◌+ℤ◌, unsigned_abs, Bool, true, false, List, [], ◌∷◌, ◌++◌, length, take, drop, replicate, get_or, zero, suc, refl, sym, arith, ◌∙◌, sum_by, ints, take_at, sum_by-cons, total_by, if_so, Entry, Kind, bit_at, entry_energy, is_node, weight_total, value_at, doubled, sum_where, base_of, step_of, step_at, AreOf, most}
+use Rattle.basic_solve.proofs.Common.{nat_tests, ◌≡◌, ◌≢◌, ℕ, ◌+◌, ◌*◌, ◌^◌, ◌<◌, ◌≤◌, ℤ, pos, ◌+ℤ◌, unsigned_abs, Bool, true, false, List, [], ◌∷◌, ◌++◌, length, take, drop, replicate, get_or, zero, suc, refl, sym, arith, ◌∙◌, sum_by, ints, take_at, sum_by-cons, total_by, if_so, Entry, Kind, bit_at, entry_energy, is_node, weight_total, value_at, doubled, sum_where, base_of, step_of, step_at, AreOf, most, sum_by-replicate}
 use Rattle.basic_solve.proofs.ListSums.{total_left}
 use Rattle.basic_solve.proofs.TableValues.{length-doubled}
 use Rattle.basic_solve.proofs.TableSizes.{most-doubled}
@@ -43,8 +43,7 @@ none-sum y (u ∷ us) zero = refl
 none-sum y (u ∷ us) (suc n) = grind (arith, nat_tests, ints, none-sum y us n)
 
 pub none-size : (n : ℕ) → sum_by unsigned_abs (replicate n (pos 0)) ≡ 0
-none-size zero = refl
-none-size (suc n) = omega (arith, ints, sum_by-cons, none-size n)
+none-size n = sum_by-replicate unsigned_abs n (pos 0) ∙ omega arith
 
 module _ (kind : Kind) (bit : Bool) (entries : List Entry) (at : ℕ) (d : Entry)
     (within : at < length entries) (nodes : List ℕ) (olds news : List ℤ)

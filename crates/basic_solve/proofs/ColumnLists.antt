@@ -1,17 +1,17 @@
 -- Entries in the order of their second nodes, as columns of these.
-use Rattle.basic_solve.proofs.Common.{nat_tests, ints, inl, inr, ◌≡◌, ◌≢◌, ℕ, zero, suc, ◌+◌, ◌<◌, ◌≤◌, ◌==◌, ◌||◌, ℤ, pos, ◌+ℤ◌, Bool, List, [], ◌∷◌, ◌++◌, length, get_or, set, take, map, replicate, refl, sym, arith, ap, ◌∙◌, subst, cases_eq, append_assoc, append-nil, All, AllByRecursion, recursion_from_All, sum_by, sum_by-cons, list_any, length-append, length-replicate, length-set, take_more, get_or_append_left, get_or-append_seam, total_by, Entry, IsPlaced, entry_energy, is_in, couples, AreOf, AreHeld, AreEntriesOf, AreLowerNeighbours, AreHandedOn}
-use Rattle.std.specs.Prelude.{nat_lt, ◌&&◌, not, ◌*◌, ◌-◌, ◌^◌, unsigned_abs}
+use Rattle.basic_solve.proofs.Common.{nat_tests, ints, inl, inr, ◌≡◌, ◌≢◌, ℕ, zero, suc, ◌+◌, ◌<◌, ◌≤◌, ◌==◌, ◌||◌, ℤ, pos, ◌+ℤ◌, Bool, List, [], ◌∷◌, ◌++◌, length, get_or, set, take, map, replicate, refl, sym, arith, ap, ◌∙◌, subst, cases_eq, append_assoc, append-nil, All, AllByRecursion, recursion_from_All, sum_by, sum_by-cons, list_any, length-append, length-replicate, length-set, take_more, get_or_append_left, get_or-append_seam, total_by, Entry, IsPlaced, entry_energy, is_in, couples, AreOf, AreEntriesOf, AreLowerNeighbours, AreHandedOn, sum_by_push, sum_by-drop_more}
+use Rattle.std.specs.Prelude.{nat_lt, ◌&&◌, ◌*◌, ◌-◌, ◌^◌, unsigned_abs}
+use Rattle.base.specs.declared.costs.Cost.TheVariants.{Whole}
 use Rattle.std.specs.List.Sorted.{IsNonDecreasingBy, IsPermutation}
 use Rattle.std.proofs.lemmas.List.{get_or-map, length-map, get_or_default, length-take-le, get_or-take}
 use Rattle.std.proofs.lemmas.List.Sorted.{All-permutation, IsPermutation-map, sum_by-IsPermutation, list_any-IsPermutation}
 use borrow.Author.Differences.{up, down}
 use Rattle.base.proofs.Totals.{total_by-IsPermutation, total_by_is}
 use Rattle.bits_model.specs.PairNumbers.{pair_number}
-use Rattle.basic_solve.proofs.Common.{count_by, range_with_len, drop, energy, form_of, weight_total, Written, IsFirstLeast, IsFirstWider, after, coupled, names_both, width}
+use Rattle.basic_solve.proofs.Common.{count_by, range_with_len, drop, form_of, weight_total, Written, IsFirstLeast, IsFirstWider, after, coupled, names_both, width}
 use Rattle.basic_solve.specs.Widths.{IsWithinWidth}
 use Rattle.basic_solve.specs.Columns.{column, columns, lesser_nodes, turned, with_lesser, AreColumns, AreLeft, IsMadeOf}
-use Rattle.basic_solve.proofs.ListSums.{sum-push, sum_left}
-use Rattle.basic_solve.proofs.Passing.{split_last}
+use Rattle.basic_solve.proofs.Passing.{by_last}
 use Rattle.basic_solve.proofs.Eliminating.{all_push}
 
 -- ---- one column
@@ -66,20 +66,6 @@ get_or-columns (suc n) es v h =
     let left = get_or_append_left (columns n es) (column n es ∷ []) [] v in
     grind (arith, nat_tests, cases_eq v n, get_or-columns n es v)
 
-held-append : (w : ℕ) (held : List (List Entry)) (es : List Entry) → AreHeld w held
-    → AreOf (w + length held) es → AreHeld w (held ++ es ∷ [])
-held-append w [] es h own = (subst (λ v. AreOf v es) (omega arith) own, tt)
-held-append w (x ∷ held) es h own =
-    (h.0, held-append (suc w) held es h.1 (subst (λ v. AreOf v es) (omega arith) own))
-
-columns-held : (n m : ℕ) (es : List Entry) → AllByRecursion (IsPlaced m) es
-    → AreHeld 0 (columns n es)
-columns-held zero m es placed = tt
-columns-held (suc n) m es placed =
-    let long : n ≡ 0 + length (columns n es) = omega (arith, length-columns n es) in
-    let own = subst (λ v. AreOf v (column n es)) long (column-own n m es placed) in
-    held-append 0 (columns n es) (column n es) (columns-held n m es placed) own
-
 -- ---- sums over columns
 
 column-more : (v : ℕ) (e : Entry) (es : List Entry) → e.second ≡ v
@@ -98,19 +84,19 @@ columns-before n e es le =
 
 sum-none : (f : Entry → ℕ) (n : ℕ) → sum_by (sum_by f) (columns n []) ≡ 0
 sum-none f zero = refl
-sum-none f (suc n) = omega (arith, sum-push (sum_by f) (columns n []) [], sum-none f n)
+sum-none f (suc n) = omega (arith, sum_by_push (sum_by f) (columns n []) [], sum-none f n)
 
 sum-more : (f : Entry → ℕ) (n : ℕ) (e : Entry) (es : List Entry) → e.second < n
     → sum_by (sum_by f) (columns n (e ∷ es)) ≡ f e + sum_by (sum_by f) (columns n es)
 sum-more f zero e es h = absurd (omega arith)
 sum-more f (suc n) e es h =
-    let one = sum-push (sum_by f) (columns n (e ∷ es)) (column n (e ∷ es)) in
-    let two = sum-push (sum_by f) (columns n es) (column n es) in
+    let one = sum_by_push (sum_by f) (columns n (e ∷ es)) (column n (e ∷ es)) in
+    let two = sum_by_push (sum_by f) (columns n es) (column n es) in
     elim (cases_eq e.second n) [
       | inl is ↦
           let before = ap (sum_by (sum_by f)) (columns-before n e es (omega (arith, is))) in
           let here = ap (sum_by f) (column-more n e es is) in
-          omega (arith, one, two, before, here, sum-push f (column n es) e)
+          omega (arith, one, two, before, here, sum_by_push f (column n es) e)
       | inr other ↦
           let there = ap (sum_by f) (column-other n e es other) in
           omega (arith, one, two, there, sum-more f n e es (omega (arith, h, other)))
@@ -146,7 +132,9 @@ columns-entries n es placed =
     let all = recursion_from_All (IsPlaced n) es placed in
     record {
       count = length-columns n es;
-      each = columns-held n n es all;
+      each = λ w h.
+          let lt : w < n = omega (arith, h, length-columns n es) in
+          rw (get_or-columns n es w lt) (column-own w n es all);
       whole = λ kind y. total-columns (entry_energy kind y) n es all;
       sums = λ f. sum-columns f n es all;
     }
@@ -344,7 +332,7 @@ pub weight_left : (ps : List Entry) (i : ℕ) (e : Entry) → i < length ps → 
 weight_left ps i e h is =
     let long = length-map ps turned in
     let there = get_or-map turned ps i no_entry no_entry h in
-    sum_left (λ e. unsigned_abs e.weight) (map turned ps) i no_entry (omega (arith, h, long))
+    sum_by-drop_more (λ e. unsigned_abs e.weight) (map turned ps) i no_entry (omega (arith, h, long))
     ∙ ap (λ k. k + weight_total (drop (i + 1) (map turned ps)))
     (ap (λ f. unsigned_abs f.weight) (there ∙ sym (ap turned is)))
 
@@ -352,56 +340,28 @@ weight_left ps i e h is =
 
 pub length-handed : (ns : List ℕ) (passed more : List (List ℕ)) → AreHandedOn ns passed more
     → length more ≡ length passed
-length-handed [] passed more h = ap length (h.none refl)
-length-handed (n ∷ ns) passed more h =
-    let s = split_last n ns in
-    ap length (h.last s.0 s.1 s.2) ∙ length-set passed s.1 (get_or passed s.1 [] ++ s.0)
+length-handed ns passed more h =
+    by_last ns (λ none. ap length (h.none none))
+    (λ rest q parts. ap length (h.last rest q parts) ∙ length-set passed q (get_or passed q [] ++ rest))
 
 -- ---- models of the same entries
 
-count_by-same : {f g : ℕ → Bool} → ((u : ℕ) → f u ≡ g u) → (us : List ℕ)
-    → count_by f us ≡ count_by g us
-count_by-same same [] = refl
-count_by-same {f} {g} same (u ∷ us) =
-    let here = same u in
-    let rest = count_by-same same us in
-    simp sum_by-cons (grind arith)
-
 module _ (m r : Written) (same : IsMadeOf m.kind m.nodes m.entries r) where
-  energy-same : (y : List Bool) → energy (form_of r) y ≡ energy (form_of m) y
-  energy-same y =
-      ap (λ kind. total_by (entry_energy kind y) r.entries) same.kind
-      ∙ total_by-IsPermutation (entry_energy m.kind y) m.entries r.entries same.entries
+  form-same : form_of r ≡ form_of m
+  form-same = λ i. record {
+    bits = same.nodes i;
+    cost = λ y. Whole ((ap (λ kind. total_by (entry_energy kind y) r.entries) same.kind
+        ∙ total_by-IsPermutation (entry_energy m.kind y) m.entries r.entries same.entries) i);
+  }
 
   pub first_least-same : (y : List Bool) → IsFirstLeast (form_of r) y → IsFirstLeast (form_of m) y
-  first_least-same y first =
-      let least = first.least in
-      record {
-        least = record {
-          width = least.width ∙ same.nodes;
-          least = λ x wide.
-              omega (arith, ints, least.least x (wide ∙ sym same.nodes), energy-same x, energy-same y);
-        };
-        first = λ x other. first.first x (record {
-          width = other.width ∙ sym same.nodes;
-          least = λ z wide.
-              omega (arith, ints, other.least z (wide ∙ same.nodes), energy-same x, energy-same z);
-        });
-      }
-
-  after-same : (k u w : ℕ)
-      → after m.nodes (coupled r.entries) k u w ≡ after m.nodes (coupled m.entries) k u w
-  after-same zero u w = sym (list_any-IsPermutation (names_both u w) m.entries r.entries same.entries)
-  after-same (suc k) u w =
-      let v = m.nodes - suc k in
-      let near = after-same k in
-      λ i. (not (u == v) && not (w == v))
-      && (near u w i || (not (u == w) && (near u v i && near v w i)))
+  first_least-same y first = subst (λ f. IsFirstLeast f y) form-same first
 
   width-same : (v : ℕ) → width r v ≡ width m v
   width-same v =
-      ap (λ n. count_by (λ u. after n (coupled r.entries) (n - suc v) u v) (range_with_len 0 n)) same.nodes
-      ∙ count_by-same (λ u. after-same (m.nodes - suc v) u v) (range_with_len 0 m.nodes)
+      let near : coupled r.entries ≡ coupled m.entries
+      = λ i u w. sym (list_any-IsPermutation (names_both u w) m.entries r.entries same.entries) i in
+      λ i. count_by (λ u. after (same.nodes i) (near i) (same.nodes i - suc v) u v) (range_with_len 0 (same.nodes i))
 
   pub within_width-same : (most : ℕ) → IsWithinWidth most r → IsWithinWidth most m
   within_width-same most within v h =

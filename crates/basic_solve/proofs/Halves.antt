@@ -1,5 +1,5 @@
 -- Places that are the halves of their indices.
-use Rattle.basic_solve.proofs.Common.{nat_tests, ◌≡◌, ℕ, zero, suc, ◌+◌, ◌-◌, ◌*◌, ◌/◌, ◌^◌, ◌<◌, ◌≤◌, ◌%◌, List, [], ◌∷◌, ◌++◌, length, map, get_or, take, take_all, refl, sym, ◌∙◌, arith, length-append, length-map, get_or_append_left, get_or-append_right, get_or-map, pow-succ', doubled, powers, drop, pow_mono, ap}
+use Rattle.basic_solve.proofs.Common.{nat_tests, ◌≡◌, ℕ, zero, suc, ◌+◌, ◌-◌, ◌*◌, ◌/◌, ◌^◌, ◌<◌, ◌≤◌, ◌%◌, List, [], ◌∷◌, ◌++◌, length, map, get_or, take, take_all, refl, sym, ◌∙◌, arith, length-append, length-map, get_or_append_left, get_or-append_right, get_or-map, pow-succ', doubled, powers, drop, ap, no_less, one_le_pow}
 
 -- numbers that stand twice each, and once more with their count added
 twice-moved : (vs : List ℕ) (p : ℕ) → length vs ≡ 2 * p
@@ -47,13 +47,8 @@ halves-at (d ∷ ds) h first rest x lt =
 pub digit-room : (p n b : ℕ) → 1 ≤ n → p * 2 ^ n < b → p + p < b
 digit-room p zero b h l = absurd (omega arith)
 digit-room p (suc n) b h l =
-    let some : 1 ≤ 2 ^ n = pow_mono {i = 0} {j = n} (omega arith) in
     let power = ap (λ m. p * m) (pow-succ' 2 n) in
-    omega (arith, l, power, grown p (2 ^ n) some)
-  where
-    grown : (p m : ℕ) → 1 ≤ m → p ≤ p * m
-    grown p zero h = absurd (omega arith)
-    grown p (suc m) h = omega arith
+    omega (arith, l, power, no_less p (2 ^ n) (one_le_pow n))
 
 pub even-power : (n : ℕ) → 0 < n → (2 ^ n) % 2 ≡ 0
 even-power zero h = absurd (omega arith)

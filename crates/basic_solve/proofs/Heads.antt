@@ -34,9 +34,8 @@ pub seen_set : {A : Type 0} (heads : List ℕ) (lists : List (List A)) (node hea
     → lists_at heads (set lists head list) ≡ set (lists_at heads lists) node list
 seen_set {A} heads lists node head list are lt some is =
     let count = length-map heads (λ h. get_or lists h []) in
-    let seen = lists_at heads lists in
-    same_seen heads (set lists head list) (set seen node list)
-    (heads_set heads lists head list are some).none (length-set seen node list ∙ count) (λ i _.
+    same_seen heads (set lists head list) (set _ node list)
+    (heads_set heads lists head list are some).none (length-set _ node list ∙ count) (λ i _.
     let within = are.within node in
     let before = at-head heads lists i are.none in
     let apart = are.apart i node in

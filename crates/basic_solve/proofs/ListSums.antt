@@ -1,46 +1,28 @@
 -- Sums over lists, and over lists of lists.
-use Rattle.basic_solve.proofs.Common.{nat_tests, ints, ◌≡◌, ℤ, ◌+ℤ◌, ℕ, zero, suc, ◌+◌, ◌<◌, ◌≤◌, Bool, true, cond, List, [], ◌∷◌, ◌++◌, length, get_or, set, drop, replicate, refl, arith, add-one, drop-cons, sum_by, list_any, sum_by-cons, total_by}
-
--- one item more
-pub sum-push : {X : Type 0} (f : X → ℕ) (xs : List X) (x : X)
-    → sum_by f (xs ++ x ∷ []) ≡ sum_by f xs + f x
-sum-push f [] x = omega (arith, sum_by-cons)
-sum-push f (y ∷ ys) x = omega (arith, sum_by-cons, sum-push f ys x)
-
--- one item
-pub sum-at : {X : Type 0} (f : X → ℕ) (xs : List X) (k : ℕ) (d : X) → k < length xs
-    → f (get_or xs k d) ≤ sum_by f xs
-sum-at f [] k d h = absurd (omega arith)
-sum-at f (x ∷ xs) zero d h = omega (arith, sum_by-cons f x xs)
-sum-at f (x ∷ xs) (suc k) d h = omega (arith, sum_by-cons f x xs, sum-at f xs k d (omega arith))
+use Rattle.basic_solve.proofs.Common.{◌∙◌, nat_tests, ◌≡◌, ℤ, ◌+ℤ◌, ℕ, zero, suc, ◌+◌, ◌<◌, ◌≤◌, Bool, true, cond, List, [], ◌∷◌, ◌++◌, length, get_or, set, drop, replicate, arith, sum_by, list_any, sum_by-cons, total_by, sum_by_push, get_or-le-sum_by, at_drop_more, sum_by-replicate}
 
 -- what is left loses its first item
-pub sum_left : {X : Type 0} (f : X → ℕ) (xs : List X) (at : ℕ) (d : X) → at < length xs
-    → sum_by f (drop at xs) ≡ f (get_or xs at d) + sum_by f (drop (at + 1) xs)
-sum_left f xs at d h = grind (arith, nat_tests, drop-cons, sum_by-cons, add-one)
-
 pub total_left : {X : Type 0} (f : X → ℤ) (xs : List X) (at : ℕ) (d : X) → at < length xs
     → total_by f (drop at xs) ≡ f (get_or xs at d) +ℤ total_by f (drop (at + 1) xs)
-total_left f xs at d h = grind (arith, nat_tests, ints, drop-cons, add-one)
+total_left f xs at d h = at_drop_more (total_by f) xs at d h
 
 -- ---- lists of lists
 
 pub sums-none : {X : Type 0} (f : X → ℕ) (n : ℕ) → sum_by (sum_by f) (replicate n []) ≡ 0
-sums-none f zero = refl
-sums-none f (suc n) = omega (arith, sum_by-cons (sum_by f) [] (replicate n []), sums-none f n)
+sums-none f n = sum_by-replicate (sum_by f) n [] ∙ omega arith
 
 pub sums-push : {X : Type 0} (f : X → ℕ) (q : ℕ) (lists : List (List X)) (x : X) → q < length lists
     → sum_by (sum_by f) (set lists q (get_or lists q [] ++ x ∷ []))
     ≡ sum_by (sum_by f) lists + f x
 sums-push f q [] x h = absurd (omega arith)
-sums-push f zero (l ∷ ls) x h = omega (arith, sum_by-cons, sum-push)
+sums-push f zero (l ∷ ls) x h = omega (arith, sum_by-cons, sum_by_push)
 sums-push f (suc q) (l ∷ ls) x h = omega (arith, sum_by-cons, sums-push f q ls x (omega arith))
 
 -- one item of one of the lists
 pub sums-at : {X : Type 0} (f : X → ℕ) (lists : List (List X)) (w k : ℕ) (d : X) → w < length lists
     → k < length (get_or lists w []) → f (get_or (get_or lists w []) k d) ≤ sum_by (sum_by f) lists
 sums-at f lists w k d h l =
-    omega (arith, sum-at f (get_or lists w []) k d l, sum-at (sum_by f) lists w [] h)
+    omega (arith, get_or-le-sum_by f (get_or lists w []) k d l, get_or-le-sum_by (sum_by f) lists w [] h)
 
 -- ---- a test that holds of some item
 

@@ -1,8 +1,7 @@
 -- The table of a node, and what it makes of the least energies that are left.
-use Rattle.basic_solve.proofs.Common.{nat_tests, ◌≡◌, ℕ, suc, ◌+◌, ◌*◌, ◌^◌, ◌<◌, ◌≤◌, ℤ, pos, ◌+ℤ◌, int_lt, Bool, true, false, cond, List, [], ◌∷◌, ◌++◌, length, get_or, refl, arith, int_min, ints, total_by, Entry, Kind, entry_energy, index_of, value_at, doubled, sum_where, places, base_of, step_at, AreOf, TableOver, own_energy, IsPassedTo, IsTableOfBit, IsChoiceOf}
+use Rattle.basic_solve.proofs.Common.{nat_tests, ◌≡◌, ℕ, ◌+◌, ◌*◌, ◌^◌, ◌<◌, ℤ, ◌+ℤ◌, int_lt, Bool, true, false, cond, List, [], ◌∷◌, ◌++◌, length, get_or, refl, arith, int_min, ints, total_by, Entry, Kind, entry_energy, index_of, value_at, doubled, sum_where, places, base_of, step_at, AreOf, TableOver, own_energy, IsPassedTo, IsSettled}
 use Rattle.basic_solve.proofs.TableValues.{doubled_at, stepped-sum, stepped-places, length-places, index_of-lt, index_of-last, index_of-front, bit_at-next}
 use Rattle.basic_solve.proofs.Parts.{entries_parts}
-use Rattle.basic_solve.proofs.Eliminating.{LeftAfter, chosen-is}
 
 -- ---- the entries of a node
 
@@ -42,35 +41,17 @@ passed_place y bit v nodes t p start w s =
 
 -- ---- both tables of a node
 
-module _ (kind : Kind) (n step : ℕ) (g : List Bool → ℤ) (held : List (List Entry))
-    (waiting : List (List TableOver)) (front : List (List Entry)) (own : List Entry)
-    (before : List (List TableOver)) (passed : List TableOver)
-    (h : LeftAfter kind n step g held waiting)
-    (held_is : held ≡ front ++ own ∷ []) (waiting_is : waiting ≡ before ++ passed ∷ [])
-    (nodes : List ℕ) (zeros ones : List ℤ)
-    (z : IsTableOfBit kind (length front) false nodes own passed zeros)
-    (o : IsTableOfBit kind (length front) true nodes own passed ones) where
-  within : (y : List Bool) → index_of y nodes < length zeros
-  within y = let e = z.count in let lt = index_of-lt y nodes in omega arith
+module _ {kind : Kind} {v : ℕ} {nodes : List ℕ} {own : List Entry} {passed : List TableOver}
+    {values : List ℤ} {bits : List Bool} (s : IsSettled kind v nodes own passed values bits) where
+  within : (y : List Bool) → index_of y nodes < length s.zeros
+  within y = omega (arith, s.zero.count, index_of-lt y nodes)
 
-  -- the bits that are chosen are a choice of the node
-  pub choice_of : (bits : List Bool) → length zeros ≤ length bits
-      → ((x : ℕ) → x < length zeros
-      → get_or bits x false ≡ int_lt (get_or ones x (pos 0)) (get_or zeros x (pos 0)))
-      → length front + suc step ≡ n → IsChoiceOf n step g nodes bits
-  choice_of bits long b at = record {
-    count = omega (arith, z.count, long);
-    each = λ y w.
-        let same : length y ≡ length front = omega arith in
-        let chosen = chosen-is kind n step g held waiting front own before passed h held_is waiting_is y same in
-        cc (chosen, o.holds y same, z.holds y same, b (index_of y nodes) (within y));
-  }
+  -- the bits say for which bit the node adds less
+  pub bit_is : (y : List Bool) → length y ≡ v → get_or bits (index_of y nodes) false
+      ≡ int_lt (own_energy kind own passed y true) (own_energy kind own passed y false)
+  bit_is y w = cc (s.bit (index_of y nodes) (within y), s.zero.holds y w, s.one.holds y w)
 
   -- the lesser numbers are what the node adds
-  pub lesser_holds : (values : List ℤ)
-      → ((x : ℕ) → x < length zeros
-      → get_or values x (pos 0) ≡ int_min (get_or zeros x (pos 0)) (get_or ones x (pos 0)))
-      → (y : List Bool) → length y ≡ length front
-      → value_at nodes values y
+  pub lesser_holds : (y : List Bool) → length y ≡ v → value_at nodes values y
       ≡ int_min (own_energy kind own passed y false) (own_energy kind own passed y true)
-  lesser_holds values l y w = cc (l (index_of y nodes) (within y), z.holds y w, o.holds y w)
+  lesser_holds y w = cc (s.lesser (index_of y nodes) (within y), s.zero.holds y w, s.one.holds y w)

@@ -1,7 +1,6 @@
 -- Tables of numbers that are seen as their values.
-use Rattle.basic_solve.proofs.Common.{nat_tests, ints, elements, ◌≡◌, ℕ, ◌+◌, ◌-◌, ◌*◌, ◌<◌, ◌≤◌, ◌^◌, ℤ, pos, ◌+ℤ◌, List, [], ◌∷◌, ◌++◌, length, map, take, get_or, set, length-set, refl, sym, arith, ap, ◌∙◌, length-map, get_or-map, map-set, take_more, take_all, sum_by, doubled}
+use Rattle.basic_solve.proofs.Common.{nat_tests, ints, elements, ◌≡◌, ℕ, ◌+◌, ◌-◌, ◌*◌, ◌<◌, ◌≤◌, ◌^◌, ℤ, pos, ◌+ℤ◌, List, [], ◌∷◌, ◌++◌, length, map, take, get_or, set, length-set, refl, sym, arith, ap, ◌∙◌, length-map, get_or-map, map-set, take_more, take_all, sum_by, doubled, sum_by_push}
 use Rattle.basic_solve.proofs.TableSizes.{written_more}
-use Rattle.basic_solve.proofs.ListSums.{sum-push}
 
 -- a number that was read
 pub value-at : {X : Type 0} (f : X → ℤ) (xs : List X) (x : ℕ) (r : X) → x < length xs
@@ -81,4 +80,4 @@ doubled_joined plus vs steps low high d h l m =
 pub sum-last : {A : Type 0} (f : A → ℕ) (xs : List A) (d : A) → 1 ≤ length xs
     → sum_by f xs ≡ sum_by f (take (length xs - 1) xs) + f (get_or xs (length xs - 1) d)
 sum-last f xs d h =
-    grind (arith, nat_tests, last_of xs d h, sum-push f (take (length xs - 1) xs) (get_or xs (length xs - 1) d))
+    grind (arith, nat_tests, last_of xs d h, sum_by_push f (take (length xs - 1) xs) (get_or xs (length xs - 1) d))

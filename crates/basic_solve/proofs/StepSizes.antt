@@ -1,6 +1,6 @@
 -- One step of a list that grows, at the place of a node.
-use Rattle.basic_solve.proofs.Common.{nat_tests, elements, ◌≡◌, ◌≢◌, ℕ, zero, suc, ◌+◌, ◌<◌, ◌≤◌, ℤ, pos, ◌+ℤ◌, unsigned_abs, Bool, true, List, [], ◌∷◌, length, get_or, set, arith, sum_by, ints, sum_by-cons, if_so, bit_at, is_in, sum_where}
-use Rattle.basic_solve.proofs.Ascending.{in_cons, no_true}
+use Rattle.basic_solve.proofs.Common.{nat_tests, elements, ◌≡◌, ◌≢◌, ℕ, zero, suc, ◌+◌, ◌<◌, ◌≤◌, ℤ, pos, ◌+ℤ◌, unsigned_abs, Bool, true, List, [], ◌∷◌, length, get_or, set, arith, sum_by, ints, sum_by-cons, if_so, bit_at, is_in, sum_where, false≢true}
+use Rattle.basic_solve.proofs.Ascending.{in_cons}
 use Rattle.basic_solve.proofs.TableValues.{sum_where-set}
 
 pub size-at : (steps : List ℤ) (at : ℕ)
@@ -26,7 +26,7 @@ sum-grown y nodes steps at node v n h l is e =
 -- a node that is none of these is not among them
 pub none_is : (nodes : List ℕ) (node n : ℕ) → length nodes ≤ n → is_in nodes node ≡ true
     → ((x : ℕ) → x < n → get_or nodes x 0 ≢ node) → ⊥
-none_is [] node n h i none = no_true i
+none_is [] node n h i none = false≢true i
 none_is (u ∷ us) node n h i none =
     in_cons u us node i (none 0 (omega arith))
     (λ j. none_is us node (length us) (omega arith) j (λ x lt. none (suc x) (omega arith)))

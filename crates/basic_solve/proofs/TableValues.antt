@@ -1,5 +1,5 @@
 -- What the tables of elimination hold.
-use Rattle.basic_solve.proofs.Common.{elements, nat_tests, ◌≡◌, ℕ, zero, suc, ◌+◌, ◌*◌, ◌^◌, ◌<◌, ◌≤◌, ℤ, pos, ◌+ℤ◌, Bool, true, false, cond, List, [], ◌∷◌, ◌++◌, length, map, get_or, set, ◌-◌, refl, arith, ap, ◌∙◌, ints, pow-succ', length-append, length-map, get_or_append_left, get_or-map, get_or-append_right, get_or-append_seam, if_so, bit_at, index_of, doubled, stepped, sum_where, places, is_part, AllBelow}
+use Rattle.basic_solve.proofs.Common.{elements, nat_tests, ◌≡◌, ℕ, zero, suc, ◌+◌, ◌*◌, ◌^◌, ◌<◌, ◌≤◌, ℤ, pos, ◌+ℤ◌, Bool, true, false, cond, List, [], ◌∷◌, ◌++◌, length, map, get_or, set, ◌-◌, refl, arith, ap, ◌∙◌, ints, pow-succ', length-append, length-map, get_or_append_left, get_or-map, get_or-append_right, get_or-append_seam, if_so, bit_at, index_of, doubled, stepped, sum_where, places, is_part, All}
 
 -- ---- tables by doubling
 
@@ -91,10 +91,11 @@ pub bit_at-next : (y z : List Bool) (b : Bool) → bit_at (y ++ b ∷ z) (length
 bit_at-next y z b = get_or-append_seam y b z false
 
 -- bits past the front do not matter
-pub index_of-front : (y z : List Bool) (nodes : List ℕ) → AllBelow (length y) nodes
+pub index_of-front : (y z : List Bool) (nodes : List ℕ) → All (λ u. u < length y) nodes
     → index_of (y ++ z) nodes ≡ index_of y nodes
 index_of-front y z [] h = refl
-index_of-front y z (u ∷ us) h = cc (bit_at-front y z u h.0, index_of-front y z us h.1)
+index_of-front y z (u ∷ us) h =
+    cc (bit_at-front y z u (h 0 u (omega arith)), index_of-front y z us (λ k d l. h (suc k) d (omega arith)))
 
 -- ---- a table over some of the nodes
 

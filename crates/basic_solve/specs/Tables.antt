@@ -67,11 +67,6 @@ abbrev pub powers : ℕ → ℕ → List ℕ
 powers p zero = []
 powers p (suc n) = p ∷ powers (p + p) n
 
--- each of these nodes is below n
-abbrev pub AllBelow : ℕ → List ℕ → Type 0
-AllBelow n [] = Unit {0}
-AllBelow n (u ∷ us) = (u < n) × AllBelow n us
-
 -- a table: a number for each choice of the bits of its nodes
 pub record TableOver : Type 0 where
   pub nodes : List ℕ
@@ -92,17 +87,6 @@ waiting_energy y waiting = total_by (λ ts. total_by (table_energy y) ts) waitin
 -- the entries of a node: its own, and couplers of which it is the second node
 abbrev pub AreOf : ℕ → List Entry → Type 0
 AreOf w es = AllByRecursion (λ e. (e.first ≤ w) × (e.second ≡ w)) es
-
--- a list of entries for each node
-abbrev pub AreHeld : ℕ → List (List Entry) → Type 0
-AreHeld w [] = Unit {0}
-AreHeld w (es ∷ held) = AreOf w es × AreHeld (suc w) held
-
--- a list of tables for each node: it is the highest node of each of them
-abbrev pub AreWaiting : ℕ → List (List TableOver) → Type 0
-AreWaiting w [] = Unit {0}
-AreWaiting w (ts ∷ waiting) =
-    AllByRecursion (λ t. AllBelow (suc w) t.nodes) ts × AreWaiting (suc w) waiting
 
 -- ---- what the entries of a node add
 
@@ -127,7 +111,7 @@ step_at kind bit y e = cond (is_node e) (pos 0) (if_so (bit_at y e.first) (step_
 -- any other number
 pub record AreEntriesOf (n : ℕ) (entries : List Entry) (held : List (List Entry)) : Type 0 where
   pub count : length held ≡ n
-  pub each : AreHeld 0 held
+  pub each : (w : ℕ) → w < length held → AreOf w (slice_index_or held w [])
   pub whole : (kind : Kind) (y : List Bool)
       → held_energy kind y held ≡ total_by (entry_energy kind y) entries
   pub sums : (f : Entry → ℕ) → sum_by (sum_by f) held ≡ sum_by f entries
@@ -168,7 +152,7 @@ pub record IsPassedTo (v : ℕ) (nodes : List ℕ) (t : TableOver) : Type 0 wher
   pub rest : List ℕ
   pub parts : t.nodes ≡ rest ++ v ∷ []
   pub among : is_part nodes rest ≡ true
-  pub below : AllBelow v rest
+  pub below : All (λ u. u < v) rest
   pub count : length t.values ≡ 2 ^ length t.nodes
 
 -- a table over the nodes below v after one that is passed to v is added, where v has this bit: it

@@ -19,15 +19,18 @@ with_hard-append p as' bs =
 pub here_again : (ls : List Literal) (i : ℕ) (d : Literal) → i < length ls → get_or ls i d ≡ get_or ls i (get_or ls i d)
 here_again ls i d inside = grind (arith, nat_tests, elements)
 
+map-alone : (ls : List Literal) (i : ℕ) (l : Literal) → i < length ls → l ≡ get_or ls i l
+    → map alone (take (i + 1) ls) ≡ map alone (take i ls) ++ (l ∷ []) ∷ []
+map-alone ls i l h is =
+    ap (map alone) (take_more ls i l h ∙ (λ k. take i ls ++ sym is k ∷ []))
+    ∙ map-append alone (take i ls) (l ∷ [])
+
 pub each-step : (p q q' : ProblemContent) (ls : List Literal) (i : ℕ) (l : Literal)
     → i < length ls → l ≡ get_or ls i l → q' ≡ with_hard q ((l ∷ []) ∷ [])
     → q ≡ with_hard p (map alone (take i ls)) → q' ≡ with_hard p (map alone (take (i + 1) ls))
 each-step p q q' ls i l h is added before =
-    let more : map alone (take (i + 1) ls) ≡ map alone (take i ls) ++ (l ∷ []) ∷ [] =
-    ap (map alone) (take_more ls i l h ∙ (λ k. take i ls ++ sym is k ∷ []))
-    ∙ map-append alone (take i ls) (l ∷ []) in
     added ∙ (λ k. with_hard (before k) ((l ∷ []) ∷ []))
-    ∙ with_hard-append p (map alone (take i ls)) ((l ∷ []) ∷ []) ∙ (λ k. with_hard p (sym more k))
+    ∙ with_hard-append p (map alone (take i ls)) ((l ∷ []) ∷ []) ∙ (λ k. with_hard p (sym (map-alone ls i l h is) k))
 
 -- ---- clauses of two
 
@@ -40,12 +43,9 @@ pub pairs_with-step : (p q q' : ProblemContent) (f : Literal) (ls : List Literal
     → q ≡ with_hard p (fronted f (map alone (take i ls)))
     → q' ≡ with_hard p (fronted f (map alone (take (i + 1) ls)))
 pairs_with-step p q q' f ls i l h is added before =
-    let more : map alone (take (i + 1) ls) ≡ map alone (take i ls) ++ (l ∷ []) ∷ [] =
-    ap (map alone) (take_more ls i l h ∙ (λ k. take i ls ++ sym is k ∷ []))
-    ∙ map-append alone (take i ls) (l ∷ []) in
     let longer : fronted f (map alone (take (i + 1) ls))
     ≡ fronted f (map alone (take i ls)) ++ (f ∷ l ∷ []) ∷ [] =
-    ap (fronted f) more
+    ap (fronted f) (map-alone ls i l h is)
     ∙ map-append (λ (m : List Literal). f ∷ m) (map alone (take i ls)) ((l ∷ []) ∷ []) in
     added ∙ (λ k. with_hard (before k) ((f ∷ l ∷ []) ∷ []))
     ∙ with_hard-append p (fronted f (map alone (take i ls))) ((f ∷ l ∷ []) ∷ [])

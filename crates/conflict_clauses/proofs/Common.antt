@@ -1,32 +1,19 @@
 -- What the proofs of this crate stand on, of std and of the crates below.
 pub use Rattle.std.proofs.Common.{◌≡◌, ℕ, zero, ◌+◌, ◌<◌, refl, sym, ap, ◌∙◌, arith, List, [], ◌∷◌, ◌++◌, length, map, take, drop, get_or, suc, add-one, append_assoc, drop-cons, ◌≤◌, Bool, true, false, ◌&&◌, ltb, min, cond, not, leb, Some, None, pos, int_lt, ◌||◌, eqb, ℤ, negsuc, ◌+ℤ◌, ◌-ℤ◌, ◌<ℤ◌, ◌≤ℤ◌, unsigned_abs, subst, rules, ◌^◌, tests, to_z, of_z, Option}
+pub use Rattle.problem_form.proofs.Common.{kept_clause, with_marked, constraint_total, ProblemContent, fails, fails_hard, product_value, soft_cost, soft_weight, sum_of, cut_off, products_total, IsNormalProduct, nat_tests, count_by, All, nat_lt, MatchOption, list_any-append, fold-map, ints, if_so, positive_part, total_by, total_by-append, all_hold, holds, some_holds, marked, all_from_yields_List, YieldsList-from_first, w128, elements}
 pub use Rattle.std.specs.List.{list_all, filter, list_any, sum_by, slice_get}
 pub use Rattle.std.proofs.lemmas.List.{map-append, take_more, take_all}
 pub use Rattle.std.proofs.lemmas.List.Concat.{flat_map-append}
 pub use Rattle.literal_lists.specs.declared.literal.Literal.{Literal}
-pub use Rattle.problem_form.specs.NormalForm.{kept_clause, with_marked}
-pub use Rattle.problem_form.specs.Problems.{constraint_total, ProblemContent, fails, fails_hard, product_value, soft_cost, soft_weight, sum_of, cut_off, products_total, IsNormalProduct}
 pub use Rattle.conflict_clauses.specs.Conflicts.{hard, hard_clauses, pairs_of, are_apart, each_two, size, is_conflict, is_needed, is_replaced, is_single, most_pairs, most_products, pair_count, pairs, room, needed, others, wanted, wanted_lists, wanted_literal, CostsAlike, clauses_from, clauses_of, constraints_from, spent_after, without_conflicts}
 pub use Rattle.conflict_clauses.specs.Steps.{alone, with_hard, IsFound, may_conflict, staying, with_clauses_from, with_clauses_of, AreWithin, IsTaken}
 pub use Rattle.std.proofs.lemmas.Bool.{le-ltb, lt-ltb, and_parts, false≢true, ltb-false, ltb-true, eqb-true}
-pub use Rattle.std.proofs.lemmas.Bool.Decides.{nat_tests}
 pub use Rattle.problem_form.specs.declared.terms.Product.{Product}
-pub use Rattle.std.specs.Prelude.{count_by, All, nat_lt, MatchOption}
 pub use Rattle.std.proofs.lemmas.List.Sums.{length-filter, sum_by-cons, sum_by-append}
 pub use Rattle.problem_form.specs.declared.terms.Constraint.{Constraint}
 pub use Rattle.problem_form.specs.Limits.{positive_total, lesser_of, own_upper}
-pub use Rattle.std.proofs.lemmas.List.Folds.{list_any-append, fold-map}
-pub use Rattle.std.proofs.lemmas.Int.{ints}
-pub use Rattle.base.specs.Sums.{if_so, positive_part, total_by}
-pub use Rattle.base.proofs.Totals.{total_by-append}
-pub use Rattle.literal_lists.specs.Literals.{all_hold, holds, some_holds}
 pub use Rattle.problem_form.proofs.NormalForms.{list_any-kept}
-pub use Rattle.problem_form.specs.WeighedLists.{marked}
 pub use Rattle.std.proofs.lemmas.List.Elements.{All-filter, All-cons, All-head, All-map, All-nil, All-tail, All-weaker}
 pub use Rattle.conflict_clauses.specs.declared.conflicts.Found.{Found}
-pub use Rattle.std.proofs.lemmas.Iterator.Search.{all_from_yields_List}
-pub use Rattle.std.proofs.lemmas.Iterator.Consumers.{YieldsList-from_first}
-pub use Rattle.std.specs.Int.{w128}
 pub use Rattle.problem_form.proofs.CountedNumbers.{positive_total-le}
-pub use Rattle.std.proofs.lemmas.Grind.{elements}
 pub use Rattle.std.proofs.Math.Bool.{and-true, or_assoc, or-false, and-false}

@@ -78,12 +78,9 @@ without-alike p = record {
         || list_any (fails x) (without_conflicts p).constraints)
         ≡ (list_any (fails_hard x) p.clauses || list_any (fails x) p.constraints)
     fail x =
-        let new = clauses_from 0 p.constraints in
-        let left = constraints_from 0 p.constraints in
-        (λ i. list_any-append (fails_hard x) p.clauses new i || list_any (fails x) left)
-        ∙ or_assoc (list_any (fails_hard x) p.clauses) (list_any (fails_hard x) new)
-        (list_any (fails x) left)
-        ∙ ap (λ b. list_any (fails_hard x) p.clauses || b) (fails-alike x 0 p.constraints)
+        let all = list_any-append (fails_hard x) p.clauses (clauses_from 0 p.constraints) in
+        let alike = fails-alike x 0 p.constraints in
+        grind (arith, nat_tests)
 
 -- ---- one constraint after another
 

@@ -1,6 +1,6 @@
 -- Entries that are written are read again, and the header counts them.
-use Rattle.entry_reader.proofs.Common.{◌≡◌, ℕ, ◌+◌, ◌<◌, ◌≤◌, ◌^◌, Bool, true, false, cond, eqb, List, [], ◌∷◌, map, All, Ok, refl, ap, ◌∙◌, arith, unsigned_abs, count_by, decimal, signed_decimal, lt-ltb, nat_tests, All-tail, sum_by-cons, Entry, IsPlaced, is_node, is_coupler, word, ◌>>=◌, AreInk, tokens_after, words_then, no_lines, decimal_ink, signed_ink, number_first, integer_again, natural_again, entry_row, Counts, node_at, one_fewer, counted, none_to_come, entries_at, listed_of}
-use Rattle.entry_reader.proofs.Words.{three, leaving, with_first, others_after, three_words}
+use Rattle.entry_reader.proofs.Common.{cases_Bool, ◌≡◌, ℕ, ◌+◌, ◌<◌, ◌≤◌, ◌^◌, Bool, true, false, cond, eqb, List, [], ◌∷◌, map, All, Ok, refl, arith, unsigned_abs, count_by, decimal, signed_decimal, nat_tests, All-tail, sum_by-cons, Entry, IsPlaced, is_node, is_coupler, word, AreInk, tokens_after, words_then, no_lines, decimal_ink, signed_ink, number_first, integer_again, natural_again, entry_row, Counts, node_at, one_fewer, counted, none_to_come, entries_at, listed_of}
+use Rattle.entry_reader.proofs.Words.{three, three_words}
 
 -- what the header of these entries counts
 abbrev pub counts_of : ℕ → List Entry → Counts
@@ -14,8 +14,7 @@ counts_of nodes es = record {
 node_again : (nodes line i : ℕ) → i < nodes → nodes < 2 ^ 64
     → node_at nodes (word line (decimal i)) ≡ Ok i
 unfolding node_at
-node_again nodes line i within small =
-    rw (natural_again 0 line i (omega arith) (omega arith), lt-ltb i nodes within) refl
+node_again nodes line i within small = grind (arith, nat_tests, natural_again)
 
 -- ---- an entry is counted
 
@@ -41,27 +40,10 @@ coupler_counted line nodes n k i j other = rw (other, one_fewer-suc line k) refl
 
 counted_again : (line nodes : ℕ) (e : Entry) (es : List Entry) → e.first ≤ e.second
     → counted line (counts_of nodes (e ∷ es)) e.first e.second ≡ Ok (counts_of nodes es)
-counted_again line nodes e es upward = go (eqb e.first e.second) refl
-  where
-    go : (same : Bool) → eqb e.first e.second ≡ same
-        → counted line (counts_of nodes (e ∷ es)) e.first e.second ≡ Ok (counts_of nodes es)
-    go true same =
-        let entry : count_by is_node (e ∷ es) ≡ 1 + count_by is_node es =
-        let one = count-cons is_node e es in grind (arith, nat_tests) in
-        let coupler : count_by is_coupler (e ∷ es) ≡ count_by is_coupler es =
-        let one = count-cons is_coupler e es in grind (arith, nat_tests) in
-        (λ i. counted line (record { nodes = nodes; entries = entry i; couplers = coupler i })
-        e.first e.second)
-        ∙ node_counted line nodes (count_by is_node es) (count_by is_coupler es) e.first e.second same
-    go false same =
-        let entry : count_by is_node (e ∷ es) ≡ count_by is_node es =
-        let one = count-cons is_node e es in grind (arith, nat_tests) in
-        let coupler : count_by is_coupler (e ∷ es) ≡ 1 + count_by is_coupler es =
-        let one = count-cons is_coupler e es in grind (arith, nat_tests) in
-        (λ i. counted line (record { nodes = nodes; entries = entry i; couplers = coupler i })
-        e.first e.second)
-        ∙ coupler_counted line nodes (count_by is_node es) (count_by is_coupler es) e.first e.second
-        same
+counted_again line nodes e es upward =
+    let nodes_are = count-cons is_node e es in
+    let couplers_are = count-cons is_coupler e es in
+    grind (arith, nat_tests, node_counted, coupler_counted, cases_Bool (eqb e.first e.second))
 
 -- ---- an entry is read
 
@@ -74,10 +56,9 @@ three_again line nodes e es few placed small =
 
 row_is_ink : (nodes : ℕ) (e : Entry) → nodes < 2 ^ 32 → IsPlaced nodes e
     → unsigned_abs e.weight < 2 ^ 64 → AreInk (entry_row e)
-row_is_ink nodes e few placed small = (
-  decimal_ink e.first (omega (arith, placed.upward, placed.within)),
-  (decimal_ink e.second (omega (arith, placed.within)), (signed_ink e.weight small, tt)),
-)
+row_is_ink nodes e few placed small =
+    let first = decimal_ink e.first (omega (arith, placed.upward, placed.within)) in
+    (first, (decimal_ink e.second (omega (arith, placed.within)), (signed_ink e.weight small, tt)))
 
 abbrev pub AreSmall : List Entry → Type 0
 AreSmall es = All (λ e. unsigned_abs e.weight < 2 ^ 64) es
@@ -91,18 +72,10 @@ entries_again end line nodes [] few placed small = rw (no_lines line) refl
 entries_again end line nodes (e ∷ es) few placed small =
     let place : IsPlaced nodes e = placed 0 e (omega arith) in
     let size : unsigned_abs e.weight < 2 ^ 64 = small 0 e (omega arith) in
-    let first = word line (decimal e.first) in
-    let second = word line (decimal e.second) in
-    let weight = word line (signed_decimal e.weight) in
-    let rest = tokens_after (line + 1) (map entry_row es) in
-    let c = counts_of nodes (e ∷ es) in
     let cut = words_then line (decimal e.first) (decimal e.second ∷ signed_decimal e.weight ∷ [])
     (map entry_row es) (row_is_ink nodes e few place size)
     (number_first e.first (decimal e.second ∷ signed_decimal e.weight ∷ [])
     (omega (arith, place.upward, place.within))) in
-    ap (entries_at end c) cut ∙ ap (λ r. r >>= others_after end rest)
-    (three_words end c first second weight []
-    ∙ ap (λ r. r >>= leaving []) (three_again line nodes e es few place size))
-    ∙ ap (λ r. r >>= with_first (listed_of e))
-    (entries_again end (line + 1) nodes es few (All-tail (IsPlaced nodes) e es placed)
-    (All-tail (λ (x : Entry). unsigned_abs x.weight < 2 ^ 64) e es small))
+    let more = entries_again end (line + 1) nodes es few (All-tail (IsPlaced nodes) e es placed)
+    (All-tail (λ (x : Entry). unsigned_abs x.weight < 2 ^ 64) e es small) in
+    grind (arith, nat_tests, three_words, three_again)

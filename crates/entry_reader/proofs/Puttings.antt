@@ -1,6 +1,6 @@
 -- Entries that are read one after the other, and put into a problem.
-use Rattle.entry_reader.proofs.Common.{nat_tests, arith, ◌≡◌, ℕ, List, [], ◌∷◌, fold, Result, Ok, Err, refl, sym, ap, ◌∙◌, flat_map, TextFault, Word, ◌>>=◌, end_line, ProblemContent, blank, with_variables, with_product, products_add_up, Layout, Counts, Listed, none_to_come, header_at, entry_at, entries_at, listing_of, products_of, listed_problem, problem_read, problem_of_words}
-use Rattle.entry_reader.proofs.Words.{with_first, entry_then, entry_fails}
+use Rattle.entry_reader.proofs.Common.{nat_tests, arith, ◌≡◌, ℕ, List, [], ◌∷◌, fold, Result, Ok, Err, refl, sym, ap, ◌∙◌, flat_map, TextFault, Word, ◌>>=◌, end_line, ProblemContent, blank, with_variables, with_product, products_add_up, Layout, Counts, Listed, none_to_come, header_at, entry_at, entries_at, listing_of, products_of, problem_read, problem_of_words}
+use Rattle.entry_reader.proofs.Words.{entry_then, entry_fails}
 
 -- entries as listed, or the problem that they are put into
 abbrev pub Listing : Type 0
@@ -20,17 +20,12 @@ put layout p es = Ok (fold (with_entry layout) p es)
 abbrev pub read_into : Layout → ProblemContent → Listing → Putting
 read_into layout p read = read >>= put layout p
 
-regroup : (layout : Layout) (p : ProblemContent) (e : Listed) (others : Listing)
-    → read_into layout p (others >>= with_first e) ≡ read_into layout (with_entry layout p e) others
-regroup layout p e (Ok es) = refl
-regroup layout p e (Err f) = refl
-
 pub entries_go_on : (layout : Layout) (end : ℕ) (c fewer : Counts) (p : ProblemContent)
     (ws rest : List Word) (e : Listed) (total : Putting) → entry_at end c ws ≡ Ok (e, fewer, rest)
     → read_into layout p (entries_at end c ws) ≡ total
     → read_into layout (with_entry layout p e) (entries_at end fewer rest) ≡ total
 entries_go_on layout end c fewer p ws rest e total h so_far =
-    grind (arith, nat_tests, regroup layout p e (entries_at end fewer rest), entry_then end c fewer ws rest e h)
+    grind (arith, nat_tests, entry_then end c fewer ws rest e h)
 
 pub entries_fail : (layout : Layout) (end : ℕ) (c : Counts) (p : ProblemContent) (w : Word)
     (ws : List Word) (f : TextFault) (total : Putting) → entry_at end c (w ∷ ws) ≡ Err f
@@ -52,16 +47,10 @@ entries_written layout p [] = refl
 entries_written layout p (e ∷ es) =
     grind (arith, nat_tests, entries_written layout (with_entry layout p e) es)
 
--- what is put into a problem that says nothing is the normal form of what is listed
-into_blank : (layout : Layout) (nodes : ℕ) (read : Listing)
-    → read_into layout (with_variables blank nodes) read
-    ≡ (read >>= λ (es : List Listed). Ok (listed_problem layout nodes es))
-into_blank layout nodes read = grind (arith, nat_tests, entries_written, products_add_up)
-
 pub problem_read-blank : (layout : Layout) (end : ℕ) (c : Counts) (ws : List Word)
     → problem_read layout end c ws
     ≡ read_into layout (with_variables blank c.nodes) (entries_at end c ws)
-problem_read-blank layout end c ws = sym (into_blank layout c.nodes (entries_at end c ws))
+problem_read-blank layout end c ws = sym (grind (arith, nat_tests, entries_written, products_add_up))
 
 -- ---- the whole text
 
@@ -76,5 +65,4 @@ pub problem_of_words-bad : (layout : Layout) (f : TextFault) (end : ℕ) (all ws
     → ws ≡ all → end ≡ end_line all → header_at layout end ws ≡ Err f
     → problem_of_words layout all ≡ Err f
 unfolding problem_of_words listing_of
-problem_of_words-bad layout f end all ws same last head =
-    let head_at = rw (same, last) at head in rw head_at refl
+problem_of_words-bad layout f end all ws same last head = grind (arith, nat_tests)

@@ -1,5 +1,5 @@
 -- What the problem of a text of entries costs: what the text costs, entry by entry.
-use Rattle.entry_reader.proofs.Common.{nat_tests, ◌≡◌, Bool, arith, refl, ◌∙◌, List, [], ◌∷◌, ◌+ℤ◌, flat_map, total_by, total_by-append, product_value, sum_of, problem_cost, normal_form-cost, Layout, Listed, Listing, products_of, problem_of, entry_cost, listing_cost, ReadingKeepsCosts}
+use Rattle.entry_reader.proofs.Common.{nat_tests, ◌≡◌, Bool, arith, refl, ◌∙◌, List, [], ◌∷◌, flat_map, total_by, total_by-append, sum_of, problem_cost, normal_form-cost, Layout, Listed, Listing, products_of, problem_of, entry_cost, listing_cost, ReadingKeepsCosts}
 
 -- ---- bits and spins
 
@@ -13,8 +13,7 @@ sum_of-entries : (layout : Layout) (x : List Bool) (es : List Listed)
     → sum_of x (flat_map (products_of layout) es) ≡ total_by (entry_cost layout x) es
 sum_of-entries layout x [] = refl
 sum_of-entries layout x (e ∷ es) =
-    total_by-append (product_value x) (products_of layout e) (flat_map (products_of layout) es)
-    ∙ (λ i. sum_of-entry layout x e i +ℤ sum_of-entries layout x es i)
+    grind (arith, nat_tests, total_by-append, sum_of-entry, sum_of-entries layout x es)
 
 problem_of-cost : (layout : Layout) (s : Listing) (x : List Bool)
     → problem_cost (problem_of layout s) x ≡ listing_cost layout s x

@@ -1,6 +1,6 @@
 -- The text of a model is read again: its comments are skipped, and its header and entries are read.
-use Rattle.entry_reader.proofs.Common.{nat_tests, ◌≡◌, ℕ, suc, ◌+◌, ◌<◌, ◌≤◌, ◌^◌, ℤ, List, [], ◌∷◌, ◌++◌, length, map, Ok, refl, ap, ◌∙◌, arith, length-append, codes, count_by, AllByRecursion, decimal, length-map, count_by-le-length, Figures, Entry, Kind, Written, is_node, is_coupler, Word, word, tokens_of, end_line, IsInk, AreInk, tokens_after, words_then, decimal_ink, natural_again, Row, rows_text, figure_rows, chain_rows, graph_rows, header_row, entry_row, model_rows, model_text, IsRow, all_append, figures_are_rows, graph_are_rows, Layout, Counts, Listed, wanted_at, topology_at, topology_of, count_at, header_at, entries_at, listing_of, reading, layout_of, listed_of, TextsAreReadAgain}
-use Rattle.bits_model.specs.declared.output.Kind.TheVariants.{Qubo, Ising, Chimera}
+use Rattle.entry_reader.proofs.Common.{rules, nat_tests, ◌≡◌, ℕ, suc, ◌+◌, ◌<◌, ◌≤◌, ◌^◌, ℤ, List, [], ◌∷◌, ◌++◌, length, map, Ok, refl, ap, ◌∙◌, arith, length-append, codes, count_by, AllByRecursion, decimal, length-map, count_by-le-length, Figures, Entry, Kind, Written, is_node, is_coupler, Word, word, tokens_of, end_line, IsInk, AreInk, tokens_after, words_then, decimal_ink, natural_again, Row, rows_text, figure_rows, chain_rows, graph_rows, header_row, entry_row, model_rows, model_text, IsRow, all_append, figures_are_rows, graph_are_rows, Layout, Counts, Listed, wanted_at, topology_at, topology_of, count_at, header_at, entries_at, listing_of, reading, layout_of, listed_of, TextsAreReadAgain}
+use Rattle.bits_model.specs.declared.output.Kind.TheVariants.{Qubo}
 use Rattle.entry_reader.proofs.RowsAgain.{IsComment, comments_skipped}
 use Rattle.entry_reader.proofs.EntriesAgain.{counts_of, entries_again}
 
@@ -8,16 +8,12 @@ use Rattle.entry_reader.proofs.EntriesAgain.{counts_of, entries_again}
 
 figures_are_comments : (figures : Figures) (unit : ℤ) (variables : ℕ)
     → AllByRecursion IsComment (figure_rows figures unit variables)
-figures_are_comments figures unit variables = (refl, (refl, (refl, (refl, (refl, tt)))))
+figures_are_comments figures unit variables = search rules
 
 chains_are_comments : (node : ℕ) (chains : List (List ℕ))
     → AllByRecursion IsComment (chain_rows node chains)
 chains_are_comments node [] = tt
 chains_are_comments node (chain ∷ chains) = (refl, chains_are_comments (suc node) chains)
-
-graph_are_comments : (kind : Kind) (chains : List (List ℕ))
-    → AllByRecursion IsComment (graph_rows kind chains)
-graph_are_comments kind chains = grind (arith, nat_tests, chains_are_comments)
 
 -- ---- the header
 
@@ -28,18 +24,10 @@ zero_ink : IsInk (codes "0")
 zero_ink = record { filled = omega arith; blank = (refl, tt); feed = (refl, tt) }
 
 qubo_ink : IsInk (codes "qubo")
-qubo_ink = record {
-  filled = omega arith;
-  blank = (refl, (refl, (refl, (refl, tt))));
-  feed = (refl, (refl, (refl, (refl, tt))));
-}
+qubo_ink = search rules
 
 ising_ink : IsInk (codes "ising")
-ising_ink = record {
-  filled = omega arith;
-  blank = (refl, (refl, (refl, (refl, (refl, tt)))));
-  feed = (refl, (refl, (refl, (refl, (refl, tt)))));
-}
+ising_ink = search rules
 
 abbrev AreFew : ℕ → List Entry → Type 0
 AreFew nodes es = (nodes < 2 ^ 32) × (length es ≤ 2 ^ 24)
@@ -49,13 +37,10 @@ header_numbers nodes es =
     decimal nodes ∷ decimal (count_by is_node es) ∷ decimal (count_by is_coupler es) ∷ []
 
 few_ink : (nodes : ℕ) (es : List Entry) → AreFew nodes es → AreInk (header_numbers nodes es)
-few_ink nodes es few = (
-  decimal_ink nodes (omega (arith, few.0)),
-  (
-    decimal_ink (count_by is_node es) (omega (arith, few.1, count_by-le-length is_node es)),
-    (decimal_ink (count_by is_coupler es) (omega (arith, few.1, count_by-le-length is_coupler es)), tt),
-  ),
-)
+few_ink nodes es few =
+    let nodes_few = count_by-le-length is_node es in
+    let couplers_few = count_by-le-length is_coupler es in
+    (decimal_ink _ (omega (arith, few.0)), (decimal_ink _ (omega (arith, few.1)), (decimal_ink _ (omega (arith, few.1)), tt)))
 
 header_then : (line : ℕ) (kind : Kind) (nodes : ℕ) (es : List Entry) (rows : List Row)
     → AreFew nodes es → tokens_after line (header_row kind nodes es ∷ rows)
@@ -63,10 +48,7 @@ header_then : (line : ℕ) (kind : Kind) (nodes : ℕ) (es : List Entry) (rows :
 header_then line Qubo nodes es rows few =
     words_then line (codes "p") (codes "qubo" ∷ codes "0" ∷ header_numbers nodes es) rows
     (p_ink, (qubo_ink, (zero_ink, few_ink nodes es few))) refl
-header_then line Ising nodes es rows few =
-    words_then line (codes "p") (codes "ising" ∷ header_numbers nodes es) rows
-    (p_ink, (ising_ink, few_ink nodes es few)) refl
-header_then line (Chimera a b c) nodes es rows few =
+header_then line kind nodes es rows few =
     words_then line (codes "p") (codes "ising" ∷ header_numbers nodes es) rows
     (p_ink, (ising_ink, few_ink nodes es few)) refl
 
@@ -86,17 +68,13 @@ rows_long (row ∷ rows) = grind (arith, nat_tests, rows_long rows, length-appen
 
 entries_few : (m : Written) → length (model_text m) ≤ 2 ^ 24 → length m.entries ≤ 2 ^ 24
 unfolding model_text
-entries_few m short =
-    let weights = map entry_row m.entries in
-    let above = figure_rows m.figures m.unit m.variables ++ graph_rows m.kind m.chains in
-    let length_append = length-append above (header_row m.kind m.nodes m.entries ∷ weights) in
-    omega (arith, rows_long (model_rows m), length-map m.entries entry_row)
+entries_few m short = grind (arith, nat_tests, rows_long (model_rows m), length-append, length-map)
 
 listing_again : (layout : Layout) (ws rest : List Word) (c : Counts) (es : List Listed)
     → header_at layout (end_line ws) ws ≡ Ok (c, rest) → entries_at (end_line ws) c rest ≡ Ok es
     → listing_of layout ws ≡ Ok (record { nodes = c.nodes; entries = es })
 unfolding listing_of
-listing_again layout ws rest c es header entries = rw (header, entries) refl
+listing_again layout ws rest c es header entries = grind (arith, nat_tests)
 
 pub texts_are_read_again : TextsAreReadAgain
 unfolding reading tokens_of model_text
@@ -109,7 +87,7 @@ texts_are_read_again m h =
     let few : AreFew m.nodes m.entries = (h.fits.nodes, entries_few m h.short) in
     let skipped = comments_skipped 1 (figures ++ graph) (header ∷ weights)
     (all_append IsComment figures graph (figures_are_comments m.figures m.unit m.variables)
-    (graph_are_comments m.kind m.chains))
+    (grind (arith, nat_tests, chains_are_comments)))
     (all_append IsRow figures graph (figures_are_rows m.figures m.unit m.variables)
     (graph_are_rows m.kind m.chains)) in
     let line = skipped.0 in

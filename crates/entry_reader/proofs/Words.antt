@@ -66,12 +66,7 @@ entry_then end c fewer (i ∷ j ∷ w ∷ ws) rest e h =
 
 -- ---- an entry with a fault
 
-faulty : (end : ℕ) (ws : List Word) (f : TextFault) (read : Result Entered TextFault)
-    → read >>= leaving ws ≡ Err f → (read >>= leaving []) >>= others_after end ws ≡ Err f
-faulty end ws f (Ok x) h = absurd cc
-faulty end ws f (Err g) h = let same : g ≡ f = cc in ap (λ k. Err k) same
-
 pub entry_fails : (end : ℕ) (c : Counts) (i : Word) (ws : List Word) (f : TextFault)
     → entry_at end c (i ∷ ws) ≡ Err f → entries_at end c (i ∷ ws) ≡ Err f
 unfolding entries_at
-entry_fails end c i ws f h = grind (arith, nat_tests, three_words, faulty)
+entry_fails end c i ws f h = grind (arith, nat_tests, three_words)

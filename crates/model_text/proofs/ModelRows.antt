@@ -1,8 +1,8 @@
 -- The rows of a model, and what they tell: its figures, its kind with the numbers of the graph, its
 -- chains and its entries. The kinds are told apart by their headers, and a model on a graph by the
 -- comment before its header.
-use Rattle.model_text.proofs.Common.{nat_tests, ◌≡◌, ℕ, suc, ◌+◌, ◌≤◌, ◌<◌, ◌^◌, ℤ, List, [], ◌∷◌, ◌++◌, map, get_or, All, refl, ap, arith, rules, codes, count_by, unsigned_abs, AllByRecursion, decimal, eqb-false, recursion_from_All, sum_by-cons, Figures, Entry, Kind, Written, IsPlaced, FitsKind, IsWellFormed, is_node, is_coupler, weight_total, Row, figure_rows, chain_rows, graph_rows, kind_words, header_row, entry_row, model_rows, model_text, FitsFigures, FitsGraph, FitsFields, TextsTellModels}
-use Rattle.model_text.proofs.RowTexts.{IsWord, IsRow, AreRows, all_append, rows_same}
+use Rattle.model_text.proofs.Common.{all_append, nat_tests, ◌≡◌, ℕ, suc, ◌≤◌, ◌<◌, ◌^◌, ℤ, List, [], ◌∷◌, ◌++◌, map, All, refl, arith, rules, codes, count_by, unsigned_abs, AllByRecursion, decimal, recursion_from_All, sum_by-cons, Figures, Entry, Kind, Written, IsPlaced, FitsKind, IsWellFormed, is_node, is_coupler, weight_total, Row, figure_rows, chain_rows, graph_rows, kind_words, entry_row, model_rows, model_text, FitsFigures, FitsGraph, FitsFields, TextsTellModels}
+use Rattle.model_text.proofs.RowTexts.{IsWord, IsRow, AreRows, rows_same}
 use Rattle.model_text.proofs.Numerals.{decimal_word, signed_word, decimal_same, signed_same}
 
 -- ---- no word of its rows has a space or a line feed
@@ -42,17 +42,13 @@ later_rows kind m =
 
 model_are_rows : (m : Written) → AreRows (model_rows m)
 model_are_rows m =
-    let graph = graph_rows m.kind m.chains in
-    let weights = header_row m.kind m.nodes m.entries ∷ map entry_row m.entries in
-    let rest : AreRows weights = (header_is_row m.kind (counts_of m), entries_are_rows m.entries) in
-    all_append IsRow (figure_rows m.figures m.unit m.variables) (graph ++ weights)
-    (figures_are_rows m.figures m.unit m.variables)
-    (all_append IsRow graph weights (graph_are_rows m.kind m.chains) rest)
+    all_append IsRow (figure_rows m.figures m.unit m.variables) _ (figures_are_rows m.figures m.unit m.variables)
+    (all_append IsRow (graph_rows m.kind m.chains) _ (graph_are_rows m.kind m.chains)
+    (header_is_row m.kind (counts_of m), entries_are_rows m.entries))
 
 text_tells_rows : (m n : Written) → model_text m ≡ model_text n → model_rows m ≡ model_rows n
 unfolding model_text
-text_tells_rows m n e =
-    rows_same (model_rows m) (model_rows n) (model_are_rows m) (model_are_rows n) e
+text_tells_rows m n e = grind (arith, nat_tests, rows_same, model_are_rows)
 
 -- ---- its rows tell the figures, the unit and the number of variables
 
@@ -77,10 +73,6 @@ unit_same m n h k e = grind (arith, nat_tests, signed_same, within)
 -- two numbers below 2 ^ 32 with one text are one number
 narrow_same : (m n : ℕ) → m < 2 ^ 32 → n < 2 ^ 32 → decimal m ≡ decimal n → m ≡ n
 narrow_same m n h k e = decimal_same m n (omega arith) (omega arith) e
-
-variables_same : (m n : Written) → FitsFields m → FitsFields n → model_rows m ≡ model_rows n
-    → m.variables ≡ n.variables
-variables_same m n h k e = grind (arith, nat_tests, narrow_same)
 
 -- ---- the entries
 
@@ -111,14 +103,12 @@ all_small : (n : ℕ) (es : List Entry) → n < 2 ^ 32 → AllByRecursion (IsPla
     → weight_total es ≤ 2 ^ 124 → AllByRecursion IsSmall es
 all_small n [] narrow placed light = tt
 all_small n (e ∷ es) narrow placed light =
-    let total : weight_total (e ∷ es) ≡ unsigned_abs e.weight + weight_total es =
-    sum_by-cons (λ (e : Entry). unsigned_abs e.weight) e es in
-    grind (arith, nat_tests, all_small n es narrow placed.1 (omega arith))
+    let total = sum_by-cons (λ (e : Entry). unsigned_abs e.weight) e es in
+    grind (arith, nat_tests, all_small n es narrow placed.1)
 
 model_all_small : (m : Written) → IsWellFormed m → FitsFields m → AllByRecursion IsSmall m.entries
 model_all_small m formed h =
-    let placed = recursion_from_All (IsPlaced m.nodes) m.entries formed.placed in
-    all_small m.nodes m.entries h.nodes placed h.weights
+    all_small m.nodes m.entries h.nodes (recursion_from_All (IsPlaced m.nodes) m.entries formed.placed) h.weights
 
 -- two models whose weights have the same rows have the same entries
 model_entries_same : (m n : Written) → IsWellFormed m → IsWellFormed n → FitsFields m
@@ -137,19 +127,13 @@ chain_same : (c d : List ℕ) → AllByRecursion (λ n. n < 2 ^ 32) c
 chain_same [] [] h k e = refl
 chain_same [] (y ∷ d) h k e = absurd cc
 chain_same (x ∷ c) [] h k e = absurd cc
-chain_same (x ∷ c) (y ∷ d) h k e =
-    let first = narrow_same x y h.0 k.0 cc in
-    let rest = chain_same c d h.1 k.1 cc in
-    cc
+chain_same (x ∷ c) (y ∷ d) h k e = grind (arith, nat_tests, narrow_same x y, chain_same c d h.1 k.1)
 
 -- what two lists of chains tell, each with a header and further rows below
 record AreSame (cs ds : List (List ℕ)) (h k : Row) (ws vs : List Row) : Type 0 where
   chains : cs ≡ ds
   header : h ≡ k
   rows : ws ≡ vs
-
-no_comment : codes "p" ≡ codes "c" → ⊥
-no_comment e = eqb-false 112 99 refl (ap (λ (bs : List ℕ). get_or bs 0 0) e)
 
 -- chains end where a row begins with another word
 chains_told : (node : ℕ) (cs ds : List (List ℕ)) (header other : Row) (rows others : List Row)
@@ -168,9 +152,6 @@ chains_told node (c ∷ cs) (d ∷ ds) header other rows others h k e =
 
 -- ---- the kind, and what stands below the figures
 
-other_word : codes "qubo" ≡ codes "ising" → ⊥
-other_word e = cc
-
 -- what the rows below the figures tell
 record IsTold (a b : Kind) (m n : Written) : Type 0 where
   kind : a ≡ b
@@ -182,7 +163,7 @@ later_told : (a b : Kind) (m n : Written) → FitsKind a m → FitsKind b n → 
     → AllByRecursion AreNarrow m.chains → AllByRecursion AreNarrow n.chains
     → later_rows a m ≡ later_rows b n → IsTold a b m n
 later_told a b m n plain others_plain g k small others_small e =
-    grind (arith, nat_tests, other_word, no_comment, chains_told, narrow_same)
+    grind (arith, nat_tests, chains_told, narrow_same)
 
 pub texts_tell_models : TextsTellModels
 texts_tell_models m n formed other_formed h k e =
@@ -190,14 +171,4 @@ texts_tell_models m n formed other_formed h k e =
     let later : later_rows m.kind m ≡ later_rows n.kind n = cc in
     let small = recursion_from_All AreNarrow m.chains h.qubits in
     let others_small = recursion_from_All AreNarrow n.chains k.qubits in
-    let told = later_told m.kind n.kind m n formed.kind other_formed.kind h.graph k.graph small
-    others_small later in
-    λ i. record {
-      kind = told.kind i;
-      variables = variables_same m n h k rows i;
-      figures = figures_same m n h.figures k.figures rows i;
-      unit = unit_same m n h k rows i;
-      nodes = narrow_same m.nodes n.nodes h.nodes k.nodes told.nodes i;
-      entries = model_entries_same m n formed other_formed h k told.entries i;
-      chains = told.chains i;
-    }
+    grind (arith, nat_tests, later_told, figures_same, unit_same, narrow_same, model_entries_same)

@@ -1,20 +1,13 @@
 -- The text of a number is a word, and tells the number.
-use Rattle.model_text.proofs.Common.{nat_tests, ints, ◌≡◌, ℕ, zero, suc, ◌/◌, ◌%◌, ◌^◌, ◌<◌, ◌≤◌, false, eqb, ℤ, pos, negsuc, List, [], ◌∷◌, arith, unsigned_abs, w128, FitsSigned, decimal, signed_decimal, digits, digits_onto, digit_glyph, ne_eqb, decimal_is_IsNumeral_wide}
+use Rattle.model_text.proofs.Common.{nat_tests, ints, ◌≡◌, ℕ, zero, suc, ◌/◌, ◌^◌, ◌<◌, ◌≤◌, false, ℤ, List, [], ◌∷◌, arith, unsigned_abs, w128, FitsSigned, decimal, signed_decimal, digits, digits_onto, decimal_is_IsNumeral_wide}
 use Rattle.model_text.proofs.RowTexts.{Lacks, IsWord, no_such_byte}
-
-glyph_from_zero : (d : ℕ) → 48 ≤ digit_glyph false d
-glyph_from_zero d = grind (arith, nat_tests)
 
 -- no digit is below 48
 digits_lack : (c k n : ℕ) (bs : List ℕ) → c < 48 → Lacks c bs
     → Lacks c (digits_onto k 10 false n bs)
 digits_lack c zero n bs small h = h
 digits_lack c (suc k) n bs small h =
-    let glyph = digit_glyph false (n % 10) in
-    let more = digits_onto k 10 false (n / 10) (glyph ∷ bs) in
-    let above : 48 ≤ glyph = glyph_from_zero (n % 10) in
-    let other : eqb glyph c ≡ false = ne_eqb glyph c (λ e. omega arith) in
-    grind (arith, nat_tests, digits_lack c k (n / 10) (glyph ∷ bs) small (other, h))
+    grind (arith, nat_tests, digits_lack c k (n / 10))
 
 decimal_lacks : (c n : ℕ) → c < 48 → Lacks c (decimal n)
 unfolding digits
@@ -43,5 +36,4 @@ signed_same y z h k e = grind (arith, nat_tests, ints, decimal_same, no_minus)
 
 -- the numbers of 128 bits
 pub size_fits : (z : ℤ) → FitsSigned w128 z → unsigned_abs z ≤ 2 ^ 127
-size_fits (pos n) h = omega (arith, h.sfits)
-size_fits (negsuc n) h = omega (arith, h.sfits)
+size_fits z h = grind (arith, nat_tests, ints)

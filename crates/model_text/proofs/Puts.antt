@@ -1,5 +1,5 @@
 -- A text that is put piece by piece: what of it was put, and what is left.
-use Rattle.model_text.proofs.Common.{nat_tests, arith, ◌≡◌, ℕ, List, [], ◌++◌, refl, sym, ap, ◌∙◌, subst, append_assoc, append-nil, Result, Ok, Err, OnOk, OnErr, Taken, Takes, TakesFront, Passes, Takes-trans, Passes-trans, Passes-front, Passes-kept, TakesFront-more}
+use Rattle.model_text.proofs.Common.{nat_tests, arith, ◌≡◌, ℕ, List, [], ◌++◌, refl, sym, ap, ◌∙◌, subst, append_assoc, append-nil, Result, OnOk, OnErr, Taken, Takes, TakesFront, Passes, Takes-trans, Passes-trans, Passes-front, Passes-kept, TakesFront-more}
 
 -- all of the text but the rest was put
 pub record IsPut (told now : Taken) (pending left text rest : List ℕ) : Type 0 where
@@ -15,7 +15,7 @@ pub put_more : (a b c : Taken) (p q r text rest piece later : List ℕ) → rest
     → IsPut a b p q text rest → Passes b c q r piece → IsPut a c p r text later
 put_more a b c p q r text rest piece later cut so_far put = record {
   done = so_far.done ++ piece;
-  split = so_far.split ∙ ap (λ (l : List ℕ). so_far.done ++ l) cut ∙ sym (append_assoc so_far.done piece later);
+  split = grind (arith, nat_tests, so_far.split, append_assoc);
   passed = Passes-trans a b c p q r so_far.done piece so_far.passed put;
 }
 
@@ -23,12 +23,9 @@ put_more a b c p q r text rest piece later cut so_far put = record {
 pub put_fault : (a b c : Taken) (p q text rest piece later : List ℕ) → rest ≡ piece ++ later
     → IsPut a b p q text rest → TakesFront b c (q ++ piece) → TakesFront a c (p ++ text)
 put_fault a b c p q text rest piece later cut so_far fault =
-    let done = so_far.done in
-    let front = TakesFront-more a c (p ++ (done ++ piece)) later (Passes-front a b c p q done piece so_far.passed fault) in
-    let all : (p ++ (done ++ piece)) ++ later ≡ p ++ text =
-    append_assoc p (done ++ piece) later
-    ∙ ap (λ (l : List ℕ). p ++ l) (append_assoc done piece later ∙ sym (ap (λ (l : List ℕ). done ++ l) cut) ∙ sym so_far.split) in
-    subst (TakesFront a c) all front
+    let front = TakesFront-more a c (p ++ (so_far.done ++ piece)) later (Passes-front a b c p q so_far.done piece so_far.passed fault) in
+    let split = so_far.split in
+    grind (arith, nat_tests, append_assoc)
 
 -- nothing is left
 pub put_all : (a b : Taken) (p q text rest : List ℕ) → rest ≡ [] → IsPut a b p q text rest
@@ -37,26 +34,23 @@ put_all a b p q text rest none so_far = grind (arith, nat_tests, append-nil)
 
 -- what holds anyhow holds at an error
 pub at_error : {T E : Type 0} {P : Type 0} (result : Result T E) → P → OnErr result P
-at_error (Ok x) h = tt
-at_error (Err e) h = h
+at_error result h = grind (arith, nat_tests)
 
 -- what follows from an answer holds of it, and so for an error
 pub then_ok : {T E : Type 0} {P Q : Type 0} (result : Result T E) → (P → Q) → OnOk result P → OnOk result Q
-then_ok (Ok x) f h = f h
-then_ok (Err e) f h = tt
+then_ok result f h = grind (arith, nat_tests)
 
 pub then_error : {T E : Type 0} {P Q : Type 0} (result : Result T E) → (P → Q) → OnErr result P → OnErr result Q
-then_error (Ok x) f h = tt
-then_error (Err e) f h = f h
+then_error result f h = grind (arith, nat_tests)
 
 -- the same text in other words
 pub same_front : {T E : Type 0} (result : Result T E) (a b : Taken) (p xs ys : List ℕ) → xs ≡ ys
     → OnErr result (TakesFront a b (p ++ xs)) → OnErr result (TakesFront a b (p ++ ys))
-same_front result a b p xs ys e h = subst (λ (l : List ℕ). OnErr result (TakesFront a b (p ++ l))) e h
+same_front result a b p xs ys e h = grind (arith, nat_tests)
 
 pub same_passed : {T E : Type 0} (result : Result T E) (a b : Taken) (p q xs ys : List ℕ) → xs ≡ ys
     → OnOk result (Passes a b p q xs) → OnOk result (Passes a b p q ys)
-same_passed result a b p q xs ys e h = subst (λ (l : List ℕ). OnOk result (Passes a b p q l)) e h
+same_passed result a b p q xs ys e h = grind (arith, nat_tests)
 
 -- ---- the last bytes are written
 
@@ -68,6 +62,5 @@ flushed a b c p q text none put written =
 pub flushed_front : (a b c : Taken) (p q text : List ℕ) → p ≡ [] → Passes a b p q text
     → TakesFront b c q → TakesFront a c text
 flushed_front a b c p q text none put fault =
-    let cut : text ≡ (put.0 ++ fault.0) ++ fault.1 =
-    ap (λ (l : List ℕ). l ++ text) (sym none) ∙ put.1 ∙ ap (λ (l : List ℕ). put.0 ++ l) fault.2 ∙ sym (append_assoc put.0 fault.0 fault.1) in
+    let cut : text ≡ (put.0 ++ fault.0) ++ fault.1 = grind (arith, nat_tests, put.1, fault.2, append_assoc) in
     (put.0 ++ fault.0, fault.1, cut, Takes-trans a b c put.0 fault.0 put.2 fault.3)

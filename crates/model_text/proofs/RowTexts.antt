@@ -1,6 +1,6 @@
 -- A text tells its rows, where a row has a word and no word has a space or a line feed in it: both
 -- texts are cut at their first line feed, and both lines at their first space.
-use Rattle.model_text.proofs.Common.{nat_tests, arith, ◌≡◌, ℕ, false, eqb, List, [], ◌∷◌, ◌++◌, refl, sym, ap, append_assoc, AllByRecursion, join_with_byte, Row, rows_text}
+use Rattle.model_text.proofs.Common.{all_append, nat_tests, arith, ◌≡◌, ℕ, false, eqb, List, [], ◌∷◌, ◌++◌, refl, ap, append_assoc, AllByRecursion, join_with_byte, Row, rows_text}
 
 -- no byte of it is c
 abbrev pub Lacks : ℕ → List ℕ → Type 0
@@ -19,11 +19,6 @@ IsRow (w ∷ ws) = AllByRecursion IsWord (w ∷ ws)
 abbrev pub AreRows : List Row → Type 0
 AreRows rows = AllByRecursion IsRow rows
 
-pub all_append : {X : Type 0} (P : X → Type 0) (xs ys : List X) → AllByRecursion P xs
-    → AllByRecursion P ys → AllByRecursion P (xs ++ ys)
-all_append P [] ys h k = k
-all_append P (x ∷ xs) ys h k = (h.0, all_append P xs ys h.1 k)
-
 -- ---- where a byte is that the fronts lack
 
 pub no_such_byte : (c : ℕ) (front bs rest : List ℕ) → Lacks c bs → bs ≡ front ++ c ∷ rest → ⊥
@@ -39,21 +34,17 @@ cut_at c [] [] xs ys h k e = (refl, cc)
 cut_at c [] (b ∷ other) xs ys h k e = grind (arith, nat_tests)
 cut_at c (a ∷ front) [] xs ys h k e = grind (arith, nat_tests)
 cut_at c (a ∷ front) (b ∷ other) xs ys h k e =
-    let rest = cut_at c front other xs ys h.1 k.1 cc in (cc, rest.1)
+    grind (arith, nat_tests, cut_at c front other xs ys h.1 k.1)
 
 -- ---- the words of a row
 
 words_same : (w : List ℕ) (ws : Row) (v : List ℕ) (vs : Row) → IsRow (w ∷ ws) → IsRow (v ∷ vs)
     → join_with_byte 32 (w ∷ ws) ≡ join_with_byte 32 (v ∷ vs) → w ∷ ws ≡ v ∷ vs
 words_same w [] v [] h k e = ap (λ (u : List ℕ). u ∷ []) e
-words_same w [] v (y ∷ ys) h k e =
-    absurd (no_such_byte 32 v w (join_with_byte 32 (y ∷ ys)) h.0.space e)
-words_same w (x ∷ xs) v [] h k e =
-    absurd (no_such_byte 32 w v (join_with_byte 32 (x ∷ xs)) k.0.space (sym e))
+words_same w [] v (y ∷ ys) h k e = grind (arith, nat_tests, no_such_byte 32 v w)
+words_same w (x ∷ xs) v [] h k e = grind (arith, nat_tests, no_such_byte 32 w v)
 words_same w (x ∷ xs) v (y ∷ ys) h k e =
-    let halves = cut_at 32 w v _ _ h.0.space k.0.space e in
-    let rest : x ∷ xs ≡ y ∷ ys = words_same x xs y ys h.1 k.1 halves.1 in
-    cc
+    grind (arith, nat_tests, cut_at 32 w v, words_same x xs y ys h.1 k.1)
 
 line_lacks_feed : (w : List ℕ) (ws : Row) → IsRow (w ∷ ws) → Lacks 10 (join_with_byte 32 (w ∷ ws))
 line_lacks_feed w [] h = h.0.feed
@@ -69,14 +60,11 @@ not_empty (b ∷ line) rest e = cc
 pub rows_same : (rows others : List Row) → AreRows rows → AreRows others
     → rows_text rows ≡ rows_text others → rows ≡ others
 rows_same [] [] h k e = refl
-rows_same [] (row ∷ others) h k e = absurd (not_empty (join_with_byte 32 row) (rows_text others) e)
-rows_same (row ∷ rows) [] h k e =
-    absurd (not_empty (join_with_byte 32 row) (rows_text rows) (sym e))
+rows_same [] (row ∷ others) h k e = grind (arith, nat_tests, not_empty)
+rows_same (row ∷ rows) [] h k e = grind (arith, nat_tests, not_empty)
 rows_same ([] ∷ rows) (other ∷ others) h k e = absurd h.0
 rows_same ((w ∷ ws) ∷ rows) ([] ∷ others) h k e = absurd k.0
 rows_same ((w ∷ ws) ∷ rows) ((v ∷ vs) ∷ others) h k e =
     let cut = simp append_assoc at e in
     let halves = cut_at 10 _ _ _ _ (line_lacks_feed w ws h.0) (line_lacks_feed v vs k.0) cut in
-    let first : w ∷ ws ≡ v ∷ vs = words_same w ws v vs h.0 k.0 halves.0 in
-    let rest : rows ≡ others = rows_same rows others h.1 k.1 halves.1 in
-    cc
+    grind (arith, nat_tests, words_same w ws v vs h.0 k.0, rows_same rows others h.1 k.1)

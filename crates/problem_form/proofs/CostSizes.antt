@@ -1,5 +1,5 @@
 -- Sums over products and clauses lie within the sizes of their numbers.
-use Rattle.problem_form.proofs.Common.{nat_tests, ◌≡◌, ℕ, ◌+◌, ◌≤◌, Bool, true, false, arith, ap, List, [], ℤ, pos, ◌+ℤ◌, unsigned_abs, sum_by, list_any, sum_by-le-sum_by, total_by, if_so, size-total_by, Product, Clause, all_hold, ProblemContent, fails, fails_hard, own_cost, problem_total, product_value, sum_of, is_violated, soft_cost, soft_weight, products_total, is_empty, product_constant}
+use Rattle.problem_form.proofs.Common.{nat_tests, ◌≡◌, ℕ, ◌+◌, ◌≤◌, Bool, true, false, arith, ap, List, ℤ, pos, ◌+ℤ◌, unsigned_abs, sum_by, list_any, sum_by-le-sum_by, total_by, if_so, size-total_by, Product, Clause, all_hold, ProblemContent, fails, fails_hard, own_cost, problem_total, product_value, sum_of, is_violated, soft_cost, soft_weight, products_total, is_empty, product_constant}
 use Rattle.base.specs.declared.costs.Cost.TheVariants.{Whole}
 
 if_so-size : (b : Bool) (c : ℤ) → unsigned_abs (if_so b c) ≤ unsigned_abs c

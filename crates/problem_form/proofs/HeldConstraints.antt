@@ -1,6 +1,6 @@
 -- Constraints whose products lie one after another: more products leave them as they are, and one
 -- more constraint.
-use Rattle.problem_form.proofs.Common.{nat_tests, ◌≡◌, ◌+◌, arith, refl, sym, ap, ◌∙◌, List, [], ◌∷◌, ◌++◌, length, length-append, map, take, drop, All, slice_range, take-append-drop, map-append, All-tail, take-append_seam, Product, Row, constraint_of, LiesWithin, slice_range-append, slice_range-last, All-push}
+use Rattle.problem_form.proofs.Common.{nat_tests, ◌≡◌, arith, refl, sym, ap, ◌∙◌, List, [], ◌∷◌, ◌++◌, length, length-append, map, take, drop, All, slice_range, take-append-drop, map-append, All-tail, take-append_seam, Product, Row, constraint_of, LiesWithin, slice_range-append, slice_range-last, All-push}
 
 -- ---- more products
 

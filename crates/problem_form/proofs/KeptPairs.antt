@@ -1,5 +1,5 @@
 -- What is kept of a hard clause of two literals, by their variables and signs.
-use Rattle.problem_form.proofs.Common.{◌≡◌, ◌≢◌, ◌<◌, true, false, not, arith, List, [], ◌∷◌, None, pos, ◌+ℤ◌, ◌++◌, ◌+◌, Less, Greater, nat_cmp_is, nat_tests, beq, Literal, literal_set, has_clash-literal_set, Clause, All, ints, IsSound, kept_clause, with_clause, ProblemContent, refl, Product, ℤ, sym, ap, ◌∙◌, append-nil, kept_product, with_product}
+use Rattle.problem_form.proofs.Common.{◌≡◌, ◌≢◌, ◌<◌, true, false, not, arith, List, [], ◌∷◌, None, pos, ◌+ℤ◌, ◌++◌, Less, Greater, nat_cmp_is, nat_tests, beq, Literal, literal_set, has_clash-literal_set, Clause, All, ints, IsSound, kept_clause, with_clause, ProblemContent, refl, Product, ℤ, sym, ap, ◌∙◌, append-nil, kept_product, with_product}
 use Rattle.problem_form.proofs.KeptClauses.{with_clause-sound}
 use Rattle.problem_form.proofs.KeptProducts.{kept_product-kept}
 

@@ -2,11 +2,11 @@
 pub use Rattle.std.proofs.Common.{◌≡◌, ℕ, ℤ, pos, ◌*ℤ◌, ◌≤ℤ◌, Bool, List, length, get_or, take, Ok, Some, None, refl, sym, ap, ◌∙◌, subst, arith, Option, ◌≤◌, IfOk, Err, Result, [], ◌∷◌, reverse, ◌^◌, zero, suc, ◌+◌, ◌<◌, true, false, ◌++◌, length-append, append_assoc, append-nil, slice_index_or, Bor, IsOk, OnOk, OnErr, not, ◌&&◌, ◌||◌, cond, map, find, ◌-◌, ◌+ℤ◌, ◌≢◌, string_bytes, rules, of_z, to_z, decimal}
 pub use Rattle.model_pipeline.proofs.Common.{ints, to_z-of_z, Form, IsOf, energy, times-lt, Relaxes, Decoding, Written, weight_total, read_off, IsLeast, ising_of, site_chains, IsingContent, IfFault, CanStandBy, IsFaultBy, graph_in, fabric_in, chains_of, CanStandAt, upper, limit_fault, auxiliary_bits, Embedding, ising_figures, decoding_to, form_model, kind_of, qubit_model, le-ltb, AllByRecursion, length-map, take-take, take-map, if◌then◌else◌, nat_lt, All, total_by, StandsAtLeast, StandsBy, length-map-range_with_len, QuadContent, length-fields, IfOk-weaker, w128, nat_tests}
 pub use Rattle.run_steps.proofs.Common.{NamedFiles, text_at, if_named, last_files, model_files, CertificateContent, proof_fault, AreFilesOf, AreRead, weight, eqb-true}
-pub use Rattle.faithful.proofs.Common.{by_lt_z, Source, first_decoded, IsWellFormed, form_of, decoding_of, IsLeastState, HasCost, IsFeasible, length-take-le}
+pub use Rattle.model_pipeline.proofs.faithful.Common.{by_lt_z, Source, first_decoded, IsWellFormed, form_of, decoding_of, IsLeastState, HasCost, IsFeasible, length-take-le}
 pub use Rattle.elimination_order.proofs.Common.{IsFirstLeastBy, list_any, ⊤, width, IsWithinWidth, IsFirstWider, first_wide, IsFirstLeast}
 pub use Rattle.model_text.proofs.Common.{FitsFields, Row, rows_text, Taken, joined_bytes, Takes, TakesFront, join_with_byte, codes, signed_decimal}
-pub use Rattle.faithful.specs.Faithful.{Demand, Faithful, HasChains, HasUnit, scale_of}
-pub use Rattle.faithful.proofs.Told.{least_states_tell, length-read_off, below, above}
+pub use Rattle.model_pipeline.specs.faithful.Faithful.{Demand, Faithful, HasChains, HasUnit, scale_of}
+pub use Rattle.model_pipeline.proofs.faithful.Told.{least_states_tell, length-read_off, below, above}
 pub use Rattle.problem_form.specs.Problems.{ProblemContent, own_cost, fails, fails_hard, soft_cost, sum_of}
 unfoldable pub use Rattle.model_text.specs.Rows.{model_text}
 pub use Rattle.model_text.specs.Told.{IsTextOf}
@@ -38,7 +38,7 @@ pub use Rattle.program_run.specs.Headline.{DeliversHeadline, IsAskedAt, IsHeadli
 pub use Rattle.model_pipeline.specs.declared.kept.FormSteps.{FormSteps}
 pub use Rattle.model_pipeline.specs.declared.kept.Keeping.{Keeping}
 pub use Rattle.model_pipeline.specs.Kept.{AreSteps, HasSteps, Keeps}
-pub use Rattle.faithful.specs.Bounds.{IsBounded}
+pub use Rattle.model_pipeline.specs.faithful.Bounds.{IsBounded}
 pub use Rattle.embedding_check.proofs.Unique.{checked_unique}
 pub use Rattle.std.specs.Result.{is_err}
 pub use Rattle.program_run.specs.Lines.{IsSaid}
@@ -52,8 +52,8 @@ pub use Rattle.answer_text.specs.Sizes.{size_text}
 pub use Rattle.form_steps.proofs.Rewritten.{rewritten_relaxes}
 pub use Rattle.form_steps.specs.Stated.{DecodesAlike}
 pub use Rattle.form_steps.proofs.Alike.{relaxes_alike}
-pub use Rattle.faithful.proofs.LeastStates.{relaxed_stands, standing_is_faithful}
-pub use Rattle.faithful.proofs.LongerSources.{rewritten_stands}
+pub use Rattle.model_pipeline.proofs.faithful.LeastStates.{relaxed_stands, standing_is_faithful}
+pub use Rattle.model_pipeline.proofs.faithful.LongerSources.{rewritten_stands}
 pub use Rattle.program_run.specs.Thresholds.{RowsGoByTheThreshold}
 pub use Rattle.wbo_reader.specs.Wbo.{WboContent}
 pub use Rattle.source_texts.proofs.Cleared.{cleared_costs, cleared_stands}

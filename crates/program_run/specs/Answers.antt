@@ -8,8 +8,8 @@ use Rattle.base.specs.Costs.{Form, IsOf, Source, energy}
 use Rattle.base.specs.declared.costs.Cost.TheVariants.{Whole}
 use Rattle.form_steps.specs.Relations.{Relaxes}
 use Rattle.bits_model.specs.Output.{Written, form_of, decoding_of}
-use Rattle.faithful.specs.Bounds.{IsBounded}
-use Rattle.faithful.specs.Faithful.{Faithful}
+use Rattle.model_pipeline.specs.faithful.Bounds.{IsBounded}
+use Rattle.model_pipeline.specs.faithful.Faithful.{Faithful}
 use Rattle.form_steps.specs.Least.{IsFeasible, IsLeastState}
 use Rattle.problem_form.specs.Limits.{auxiliary_bits}
 use Rattle.sample_text.specs.Sample.{sample_text}
@@ -40,7 +40,7 @@ use Rattle.state_scores.specs.Scores.{IsSmall, Judgement, best_of, score_of}
 use Rattle.state_scores.specs.Texts.{evaluation_text}
 use Rattle.basic_solve.specs.FirstLeast.{IsFirstLeast}
 use Rattle.elimination_order.specs.Renumbered.{IsFirstLeastBy}
-use Rattle.faithful.specs.Told.{TellsOptimum, whole_energy}
+use Rattle.model_pipeline.specs.faithful.Told.{TellsOptimum, whole_energy}
 use Rattle.model_pipeline.specs.Extensions.{form_nodes_by, extension_of, state_by}
 use Rattle.run_steps.specs.declared.placements.Placement.{Placement}
 use Rattle.run_steps.specs.declared.plans.Plan.{Plan}

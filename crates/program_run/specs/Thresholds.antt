@@ -4,8 +4,8 @@ use Rattle.base.specs.declared.costs.Cost.TheVariants.{Whole}
 use Rattle.base.specs.Costs.{Source}
 use Rattle.form_steps.specs.Least.{IsLeastAt, IsLeastState}
 use Rattle.bits_model.specs.Output.{Written, decoding_of, form_of}
-use Rattle.faithful.specs.Faithful.{Demand, Faithful}
-use Rattle.faithful.specs.Told.{whole_energy}
+use Rattle.model_pipeline.specs.faithful.Faithful.{Demand, Faithful}
+use Rattle.model_pipeline.specs.faithful.Told.{whole_energy}
 use Rattle.model_text.specs.Rows.{Row}
 use Rattle.answer_text.specs.Answers.{optimum_rows}
 

@@ -1,7 +1,6 @@
 -- What passes no limit passes none where assignments may cost at most so much: the penalty is no
 -- greater, and so is the weight.
-use Rattle.run_steps.proofs.Common.{nat_tests, ints, ◌≡◌, ℕ, ◌+◌, ◌-◌, ◌*◌, ◌^◌, ◌≤◌, ℤ, Option, None, List, [], ◌∷◌, ap, sym, subst, arith, count_by, is_none, sum_by, sum_by-le-sum_by, add-le-add, mul-le, Normal, Clause, Constraint, ProblemContent, with_most, Counted, cost_size, degree, first_passed, limit_fault, lower, most_degree, negations, pairs, penalty, penalty_above, reach, weight}
-use Rattle.problem_form.specs.declared.limits.LimitKind.TheVariants.{Variables, Degree, Negations, Pairs, Weight}
+use Rattle.run_steps.proofs.Common.{nat_tests, ints, ◌≡◌, ℕ, ◌+◌, ◌-◌, ◌*◌, ◌^◌, ◌≤◌, ℤ, Option, None, List, [], ◌∷◌, ap, arith, count_by, is_none, sum_by, sum_by-le-sum_by, add-le-add, mul-le, Normal, Clause, Constraint, ProblemContent, with_most, Counted, cost_size, degree, limit_fault, lower, most_degree, negations, pairs, penalty, penalty_above, reach, weight, Degree, Negations, Pairs, Weight}
 
 -- ---- the weight
 
@@ -20,12 +19,9 @@ weight_with-le p m n le = grind (arith, nat_tests, add-le-add, mul-le, sum_by-le
 weight-le : (p : ProblemContent) (most : Option ℤ) → p.most ≡ None
     → weight (with_most p most) ≤ weight p
 weight-le p most free =
-    let own : penalty p ≡ cost_size p + 1 = ap (λ m. penalty_above m (lower p) (cost_size p)) free in
-    let le : penalty (with_most p most) ≤ penalty p =
-    subst (λ n. penalty_above most (lower p) (cost_size p) ≤ n) (sym own)
-    (penalty_above-le most (lower p) (cost_size p)) in
-    let more : weight_with p (penalty (with_most p most)) ≤ weight_with p (penalty p) =
-    weight_with-le p (penalty (with_most p most)) (penalty p) le in
+    let own = ap (λ m. penalty_above m (lower p) (cost_size p)) free in
+    let le = penalty_above-le most (lower p) (cost_size p) in
+    let more = weight_with-le p (penalty (with_most p most)) (penalty p) (omega (arith, own, le)) in
     omega (arith, more)
 
 -- ---- the limits
@@ -46,13 +42,6 @@ abbrev from_degree : Normal → ProblemContent → ℕ → List Counted
 from_degree normal p n =
     record { kind = Degree; number = degree p; most = most_degree } ∷ from_negations normal p n
 
-lighter_none : (normal : Normal) (p : ProblemContent) (m n : ℕ) → m ≤ n
-    → first_passed (record { kind = Variables; number = p.variables; most = 2 ^ 20 }
-    ∷ from_degree normal p n) ≡ None
-    → first_passed (record { kind = Variables; number = p.variables; most = 2 ^ 20 }
-    ∷ from_degree normal p m) ≡ None
-lighter_none normal p m n le = grind (arith, nat_tests)
-
 pub within_bounded : (normal : Normal) (p : ProblemContent) (most : Option ℤ) → p.most ≡ None
     → limit_fault normal p ≡ None → limit_fault normal (with_most p most) ≡ None
-within_bounded normal p most free = grind (arith, nat_tests, ints, lighter_none, weight-le)
+within_bounded normal p most free = grind (arith, nat_tests, ints, weight-le)

@@ -1,6 +1,5 @@
 -- A certificate that is read, and a state that it proves or does not; the last step of a command.
-use Rattle.run_steps.proofs.Common.{nat_tests, arith, ◌≡◌, ℕ, Bool, List, [], ◌++◌, Ok, Some, None, Result, IfErr, NamedFiles, Counts, Written, CertificateContent, proof_fault, Which, WordAt, Ask, text_at, certificate_of, Status, asked_width, bits_at, Steps, ends, stating, certifying, certified, proving, proof_end, Bits, last_step, Meets, Refuses, IsReading, IsUnproved, ended, AreRead, AreRefused, AreFilesOf}
-use Rattle.command_words.specs.declared.commands.Ask.TheVariants.{Prove}
+use Rattle.run_steps.proofs.Common.{nat_tests, arith, ◌≡◌, ℕ, Bool, List, [], ◌++◌, Ok, Some, None, Result, IfErr, NamedFiles, Counts, Written, CertificateContent, proof_fault, Which, WordAt, Ask, text_at, certificate_of, Status, asked_width, bits_at, Steps, ends, stating, certifying, certified, proving, proof_end, Bits, last_step, Meets, Refuses, IsReading, IsUnproved, ended, AreRead, AreRefused, AreFilesOf, Prove}
 use Rattle.run_steps.proofs.FilesRead.{made_then, read_then, read_wanting}
 use Rattle.run_steps.proofs.Stepping.{bits_meet, meets_next, refuses_on}
 

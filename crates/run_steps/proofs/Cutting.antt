@@ -1,6 +1,5 @@
 -- A file that is cut into words as it comes.
-use Rattle.run_steps.proofs.Common.{nat_tests, ◌≡◌, ℕ, ◌+◌, ◌≤◌, List, [], ◌++◌, length, take, Some, None, Ok, Result, refl, sym, subst, append_assoc, arith, append-nil, length-append, length-take, take-append-le, Consumes, IsAtEnd, Option, NamedFiles, IsFront, WhereTold, find_file, Style, Word, tokens_of, LexerState, StandsFor, Which, Format, Read, problem_of_words, style_of, Status, Steps, cutting, ◌>>=◌, ends, gives, taking, text_end, Meets, Refuses, AreWordsOf, IsCut, reading_file}
-use Rattle.command_words.specs.declared.names.Which.TheVariants.{Source}
+use Rattle.run_steps.proofs.Common.{nat_tests, ◌≡◌, ℕ, ◌+◌, ◌≤◌, List, [], ◌++◌, length, take, Some, None, Ok, Result, refl, sym, subst, append_assoc, arith, append-nil, length-append, length-take, take-append-le, Consumes, IsAtEnd, Option, NamedFiles, IsFront, WhereTold, find_file, Style, Word, tokens_of, LexerState, StandsFor, Which, Format, Read, problem_of_words, style_of, Status, Steps, cutting, ◌>>=◌, ends, gives, taking, text_end, Meets, Refuses, AreWordsOf, IsCut, reading_file, Source}
 use Rattle.run_steps.proofs.Stepping.{bound, meets_next}
 
 -- the front of a file, with the piece that was taken next

@@ -1,7 +1,5 @@
 -- What the store of files counts where files are taken, and then others.
-use Rattle.run_steps.proofs.Common.{nat_tests, ◌≡◌, ◌≤◌, ℕ, suc, ◌+◌, List, [], ◌∷◌, ◌++◌, length, refl, sym, ap, ◌∙◌, subst, append_assoc, arith, inl, inr, append-nil, length-append, Counts, LimitKind, Which, Status, AreBegun, IsBegun, AreWanting, IsReadTo, IsCause, IsLimited, last_of, AreRead, IsAt, AreRefused, AreFilesOf, IsRefusedBy}
-use Rattle.command_words.specs.declared.names.Which.TheVariants.{State}
-use Rattle.run_steps.specs.declared.status.Status.TheVariants.{Done, Usage, ReadFault, WriteFault, BadText, Limit, NotEmbedded, TooWide, NotProved, NoState, NoMemory}
+use Rattle.run_steps.proofs.Common.{nat_tests, ◌≡◌, ◌≤◌, ℕ, suc, ◌+◌, List, [], ◌∷◌, ◌++◌, length, refl, sym, ap, subst, append_assoc, arith, inl, inr, append-nil, length-append, Counts, LimitKind, Which, Status, AreBegun, IsBegun, AreWanting, IsReadTo, IsCause, IsLimited, last_of, AreRead, IsAt, AreRefused, AreFilesOf, IsRefusedBy, State, Done, Usage, ReadFault, WriteFault, BadText, Limit, NotEmbedded, TooWide, NotProved, NoState, NoMemory}
 
 -- ---- files after others
 
@@ -14,32 +12,15 @@ moved : (name : Which → List ℕ) (files : List Which) (a b : Counts) → AreR
     → IsMoved (length files) a b
 moved name files a b same = grind (arith, nat_tests)
 
-begun_more : (n k : ℕ) (a b c : Counts) → AreBegun n a b → AreBegun (suc k) b c
-    → AreBegun (n + suc k) a c
-begun_more n k a b c first next = grind (arith, nat_tests)
-
 module _ (n k : ℕ) (a b c : Counts) (some : IsMoved n a b) where
   read_more : (name : List ℕ) → IsReadTo name (suc k) b c → IsReadTo name (n + suc k) a c
-  read_more name read = record {
-    begun = begun_more n k a b c some.begun read.begun;
-    named = read.named;
-    ended = read.ended;
-    later = omega (arith, some.later, read.later);
-  }
+  read_more name read = grind (arith, nat_tests)
 
   cause_more : (name : List ℕ) → IsCause name (suc k) b c → IsCause name (n + suc k) a c
-  cause_more name cause = record {
-    rose = cause.rose;
-    later = omega (arith, some.later, cause.later);
-    named = cause.named;
-    begun = begun_more n k a b c some.begun cause.begun;
-  }
+  cause_more name cause = grind (arith, nat_tests)
 
   named_more : (name : List ℕ) → IsBegun name (suc k) b c → IsBegun name (n + suc k) a c
-  named_more name is = record {
-    begun = begun_more n k a b c some.begun is.begun;
-    named = is.named;
-  }
+  named_more name is = grind (arith, nat_tests)
 
   limited_more : (kind : LimitKind) (number : ℕ) (name : List ℕ)
       → IsLimited kind number name (suc k) b c → IsLimited kind number name (n + suc k) a c
@@ -54,13 +35,11 @@ at_more : (first files : List Which) (which : Which) (P Q : ℕ → Type 0)
     → ((k : ℕ) → P (suc k) → Q (length first + suc k)) → IsAt files which P
     → IsAt (first ++ files) which Q
 at_more first files which P Q more at =
-    let before = at.0 in
-    let after = at.1 in (
-      first ++ before,
-      after,
-      ap (λ l. first ++ l) at.2 ∙ sym (append_assoc first before (which ∷ after)),
-      subst Q (at_seam first before) (more (length before) at.3),
-    )
+    let k = length at.0 in
+    let here = more k at.3 in
+    let seam = at_seam first at.0 in
+    let split = append_assoc first at.0 (which ∷ at.1) in
+    grind (arith, nat_tests)
 
 -- and at the same number before others
 at_first : (files more : List Which) (which : Which) (P : ℕ → Type 0) → IsAt files which P
@@ -161,15 +140,10 @@ refused_first name files more status a b at = absurd at
 -- a file alone is refused
 pub refused_alone : (name : Which → List ℕ) (which : Which) (status : Status) (a b : Counts)
     → IsRefusedBy which (name which) status a b → AreRefused name (which ∷ []) status a b
-refused_alone name which (ReadFault other) a b by =
-    subst (λ w. IsAt (which ∷ []) w (λ n. IsCause (name w) n a b)) (sym by.0) ([], [], refl, by.1)
-refused_alone name which (Limit other kind number) a b by =
-    subst (λ w. IsAt (which ∷ []) w (λ n. IsLimited kind number (name w) n a b)) (sym by.0)
-    ([], [], refl, by.1)
-refused_alone name which (BadText other kind line) a b by =
-    subst (λ w. IsAt (which ∷ []) w (λ n. IsReadTo (name w) n a b)) (sym by.0) ([], [], refl, by.1)
-refused_alone name which (NoState width) a b by =
-    subst (λ w. IsAt (which ∷ []) w (λ n. IsReadTo (name w) n a b)) by.0 ([], [], refl, by.1)
+refused_alone name which (ReadFault other) a b by = rw by.0 ([], [], refl, by.1)
+refused_alone name which (Limit other kind number) a b by = rw by.0 ([], [], refl, by.1)
+refused_alone name which (BadText other kind line) a b by = rw by.0 ([], [], refl, by.1)
+refused_alone name which (NoState width) a b by = rw (← by.0) ([], [], refl, by.1)
 refused_alone name which NoMemory a b (inl none) = inl none
 refused_alone name which NoMemory a b (inr is) = inr (which, ([], [], refl, is))
 refused_alone name which status a b by = absurd by

@@ -1,7 +1,5 @@
 -- Which files a store may hold.
-use Rattle.run_steps.proofs.Common.{nat_tests, arith, ◌≡◌, ℕ, List, [], ◌∷◌, ◌++◌, Some, None, refl, sym, subst, Option, NamedFiles, WhereTold, Which, WordAt, Command, text_at, name_of, certificate_of, if_named, model_files, last_files, bits_at, MayHold, WhereHeld, board_files, state_files}
-use Rattle.command_words.specs.declared.names.Which.TheVariants.{Source, State, Certificate}
-use Rattle.command_words.specs.declared.commands.Ask.TheVariants.{Evaluate}
+use Rattle.run_steps.proofs.Common.{nat_tests, arith, ◌≡◌, ℕ, List, [], ◌∷◌, ◌++◌, Some, None, refl, Option, NamedFiles, WhereTold, Which, WordAt, Command, text_at, name_of, certificate_of, if_named, model_files, last_files, bits_at, MayHold, board_files, state_files, Evaluate, Source, State, Certificate}
 
 -- what may be held where all files are taken may be where the first ones are
 pub may_first : (told : Option NamedFiles) (first files : List Which) (held : NamedFiles)
@@ -11,31 +9,18 @@ may_first told first files held may = grind (arith, nat_tests)
 -- and where the others are, of a store that holds the same
 pub may_next : (told later : Option NamedFiles) (first files : List Which) (held : NamedFiles)
     → later ≡ told → MayHold told (first ++ files) held → MayHold later files held
-may_next told later first files held same may =
-    subst (λ (t : Option NamedFiles). MayHold t files held) (sym same) (go told first may)
-  where
-    go : (t : Option NamedFiles) (first : List Which) → MayHold t (first ++ files) held
-        → MayHold t files held
-    go (Some t) first may = may
-    go None [] may = may
-    go None (file ∷ first) may = absurd may
+may_next (Some t) later first files held same may = rw same may
+may_next None later [] files held same may = rw same may
+may_next None later (file ∷ first) files held same may = absurd may
 
 -- ---- the files of a model: the source, and those of the board
-
-grouped : (command : Command) → model_files command ≡ if_named command Source ++ board_files command
-grouped command = grind (arith, nat_tests)
 
 -- what holds of the source's file and then the board's holds of the model's
 pub of_model_files : (command : Command) (P : List Which → Type 0)
     → P (if_named command Source ++ board_files command) → P (model_files command)
-of_model_files command P is = subst P (sym (grouped command)) is
+of_model_files command P is = grind (arith, nat_tests)
 
 -- ---- a file alone
-
--- what is told holds of what may be held, where a file is taken
-pub of_told : (told : Option NamedFiles) (which : Which) (P : NamedFiles → Type 0)
-    → WhereTold told P → WhereHeld told (which ∷ []) P
-of_told told which P is held may = grind (arith, nat_tests)
 
 -- the states of a command that evaluates them are its last file
 pub has_states : (words : List (List ℕ)) (command : Command) (at : WordAt)

@@ -11,3 +11,4 @@ pub mod Certified
 pub mod BoundedLimits
 pub mod Sampled
 pub mod StateBits
+mod Lemmas

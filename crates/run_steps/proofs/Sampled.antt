@@ -1,7 +1,6 @@
 -- The text of a sample is read, and passes no limit.
-use Rattle.run_steps.proofs.Common.{nat_tests, arith, ◌≡◌, ℕ, ◌≤◌, Ok, Err, None, Result, ap, ◌∙◌, TextFault, ProblemContent, limit_fault, Command, wanted, Normal, sample_text, each_sample_is_read, Read, own, problem_of, IsDrawnInto, clauses_have_no_conflicts, wcnf_problem}
+use Rattle.run_steps.proofs.Common.{nat_tests, arith, ◌≡◌, ℕ, ◌≤◌, Ok, Err, None, Result, ap, ◌∙◌, TextFault, ProblemContent, limit_fault, Command, wanted, Normal, sample_text, each_sample_is_read, Read, own, problem_of, IsDrawnInto, clauses_have_no_conflicts, wcnf_problem, Wcnf}
 use Rattle.whole_text.specs.Steps.{◌>>=◌}
-use Rattle.command_words.specs.declared.commands.Format.TheVariants.{Wcnf}
 use Rattle.problem_form.specs.declared.limits.Normal.TheVariants.{Literal}
 use Rattle.run_steps.proofs.BoundedLimits.{within_bounded}
 

@@ -1,9 +1,6 @@
 -- The source of a command, where it is read, within the limits, or refused.
-use Rattle.run_steps.proofs.Common.{nat_tests, arith, ◌≡◌, ℕ, List, Ok, Err, Result, Some, None, refl, ◌∙◌, ap, subst, sym, NamedFiles, LimitFault, limit_fault, Format, WordAt, Command, text_at, sample_text, Read, problem_of, Status, Refuses, checking, ends, limited, reading_source, sourcing, text_end, wanted, checking_file, reading_file, IsDrawnFor}
-use Rattle.command_words.specs.declared.names.Which.TheVariants.{Source}
-use Rattle.command_words.specs.declared.commands.Format.TheVariants.{Wcnf}
+use Rattle.run_steps.proofs.Common.{nat_tests, arith, ◌≡◌, ℕ, List, Ok, Err, Result, Some, None, refl, ◌∙◌, ap, subst, sym, NamedFiles, LimitFault, limit_fault, Format, WordAt, Command, text_at, sample_text, Read, problem_of, Status, Refuses, checking, ends, limited, reading_source, sourcing, text_end, wanted, checking_file, reading_file, IsDrawnFor, Wcnf, Source, Limit}
 use Rattle.command_words.specs.declared.commands.Origin.TheVariants.{File, Drawn}
-use Rattle.run_steps.specs.declared.status.Status.TheVariants.{Limit}
 use Rattle.run_steps.proofs.Stepping.{next_end, refuses_on}
 
 -- what is read is what a command wants within its limits, or passes one of them

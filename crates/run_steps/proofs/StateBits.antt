@@ -1,6 +1,5 @@
 -- The bits that a text has, and the file that they are taken from.
-use Rattle.run_steps.proofs.Common.{nat_tests, arith, ◌≡◌, ℕ, Bool, true, ◌&&◌, List, [], ◌∷◌, length, map, find, Ok, Some, length-map, eqb-true, Option, option_map, NamedFiles, find_file, is_one, is_state, lines_of, stating}
-use Rattle.state_file.specs.States.{state_of}
+use Rattle.run_steps.proofs.Common.{nat_tests, arith, ◌≡◌, ℕ, Bool, true, List, [], ◌∷◌, length, map, find, Ok, Some, length-map, eqb-true, Option, option_map, NamedFiles, find_file, is_one, is_state, lines_of, stating, state_of}
 
 -- ---- how many they are
 
@@ -10,13 +9,10 @@ line_passes : (p : List ℕ → Bool) (lines : List (List ℕ)) (line : List ℕ
 line_passes p [] line e = absurd cc
 line_passes p (first ∷ rest) line e = grind (arith, nat_tests, line_passes p rest line)
 
-first_true : (a b : Bool) → (a && b) ≡ true → a ≡ true
-first_true a b e = grind (arith, nat_tests)
-
 fitting_width : (width : ℕ) (found : Option (List ℕ)) (bits : List Bool)
     → ((line : List ℕ) → found ≡ Some line → is_state width line ≡ true)
     → option_map (map is_one) found ≡ Some bits → length bits ≡ width
-fitting_width width found bits fits e = grind (arith, nat_tests, length-map, eqb-true, first_true)
+fitting_width width found bits fits e = grind (arith, nat_tests, length-map, eqb-true)
 
 -- a state has as many bits as were asked for
 pub state_has_width : (width : ℕ) (text : List ℕ) (bits : List Bool)

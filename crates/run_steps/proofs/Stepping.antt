@@ -1,26 +1,15 @@
 -- Steps that are taken one after another.
-use Rattle.run_steps.proofs.Common.{nat_tests, arith, ◌≡◌, Bool, List, Ok, Err, Some, None, Result, refl, Option, Contains, Contains-append_left, Contains-append_right, Which, Status, Steps, Last, Bits, go_on, gives, ◌>>=◌, Meets, Refuses}
-use Rattle.run_steps.specs.declared.status.Status.TheVariants.{ReadFault, NoMemory}
-
-bound_on : {A B : Type 0} (taken : List Which) (end : Option (Result A Status)) (f : A → Steps B)
-    (b : B) → (go_on taken end f).end ≡ Some (Ok b)
-    → (a : A) × (end ≡ Some (Ok a)) × ((f a).end ≡ Some (Ok b))
-bound_on taken end f b e = grind (arith, nat_tests)
+use Rattle.run_steps.proofs.Common.{nat_tests, arith, ◌≡◌, Bool, List, Ok, Err, Some, None, Result, refl, Option, Contains, Contains-append_left, Contains-append_right, Which, Status, Steps, Last, Bits, go_on, gives, ◌>>=◌, Meets, Refuses, ReadFault, NoMemory}
 
 -- where two steps give a value, so does each
 pub bound : {A B : Type 0} (m : Steps A) (f : A → Steps B) (b : B) → (m >>= f).end ≡ Some (Ok b)
     → (a : A) × (m.end ≡ Some (Ok a)) × ((f a).end ≡ Some (Ok b))
-bound m f b e = bound_on m.taken m.end f b e
+bound m f b e = grind (arith, nat_tests)
 
 -- after a value the end is that of the next steps
 pub next_end : {A B : Type 0} (m : Steps A) (f : A → Steps B) (a : A) → m.end ≡ Some (Ok a)
     → (m >>= f).end ≡ (f a).end
 next_end m f a e = rw e refl
-
--- what refuses, refuses whatever comes next
-pub refused_end : {A B : Type 0} (m : Steps A) (f : A → Steps B) (status : Status)
-    → m.end ≡ Some (Err status) → (m >>= f).end ≡ Some (Err status)
-refused_end m f status e = rw e refl
 
 taken_first_on : {A B : Type 0} (taken : List Which) (end : Option (Result A Status))
     (f : A → Steps B) (which : Which) → Contains taken which
@@ -42,7 +31,7 @@ taken_next m f a which e is = rw e (Contains-append_right m.taken (f a).taken wh
 -- steps that refuse, refuse whatever comes next
 pub refuses_on : {A B : Type 0} (status : Status) (m : Steps A) (f : A → Steps B)
     → Refuses status m → Refuses status (m >>= f)
-refuses_on status m f refused = grind (arith, nat_tests, taken_first, refused_end)
+refuses_on status m f refused = grind (arith, nat_tests, taken_first)
 
 -- after a value, what refuses next refuses
 pub refuses_next : {A B : Type 0} (status : Status) (m : Steps A) (f : A → Steps B) (a : A)

@@ -2,7 +2,7 @@
 use Rattle.std.specs.Prelude.{ℕ, [], false}
 use Rattle.bits_model.specs.declared.output.Kind.{Kind}
 use Rattle.base.specs.declared.unit.UnitChoice.{UnitChoice}
-use Rattle.faithful.specs.Faithful.{Demand}
+use Rattle.model_pipeline.specs.faithful.Faithful.{Demand}
 use Rattle.command_words.specs.declared.commands.ChainStrength.{ChainStrength}
 use Rattle.command_words.specs.declared.commands.ChainStrength.TheVariants.{Choi}
 use Rattle.model_pipeline.specs.Models as models

@@ -1,17 +1,7 @@
 -- What stands for a source stands for it still where assignments of both may cost at most the same.
-use Rattle.source_texts.proofs.Common.{nat_tests, ◌≡◌, ℤ, ◌≤ℤ◌, Option, ap, arith, ints, Cost, Form, Source, Rewrites, ProblemContent, cut_off, own_cost, lesser_of, own_upper, Read, bounded_read, StandsBounded, CostsAs}
-use Rattle.base.specs.declared.costs.Cost.TheVariants.{Whole}
+use Rattle.source_texts.proofs.Common.{nat_tests, ◌≡◌, ℤ, Option, ap, arith, Form, Source, Rewrites, ProblemContent, cut_off, own_cost, lesser_of, own_upper, Read, bounded_read, StandsBounded, CostsAs}
 
 -- ---- costs
-
--- what is whole once it is cut off is whole before
-whole_before : (most : Option ℤ) (c : Cost) (v : ℤ) → cut_off most c ≡ Whole v → c ≡ Whole v
-whole_before most c v e = grind (arith, nat_tests, ints)
-
--- and what is at most that is whole still
-still_whole : (most : Option ℤ) (v w : ℤ) → cut_off most (Whole v) ≡ Whole v → w ≤ℤ v
-    → cut_off most (Whole w) ≡ Whole w
-still_whole most v w e le = grind (arith, nat_tests, ints)
 
 -- ---- forms
 
@@ -26,8 +16,8 @@ own_form p = record { bits = p.variables; cost = own_cost p }
 rewrites_cut : (most : Option ℤ) (f f' : Form) → Rewrites f f' → Rewrites (cut most f) (cut most f')
 rewrites_cut most f f' r = record {
   more = r.more;
-  bound = λ x w v whole. grind (arith, nat_tests, whole_before, still_whole);
-  reached = λ x w v whole. grind (arith, nat_tests, whole_before);
+  bound = λ x w v whole. grind (arith, nat_tests);
+  reached = λ x w v whole. grind (arith, nat_tests);
 }
 
 -- ---- sources

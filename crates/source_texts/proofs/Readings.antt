@@ -1,18 +1,13 @@
 -- A problem with the costs of a source stands for the source, and texts that are read into such a
 -- problem.
-use Rattle.source_texts.proofs.Common.{nat_tests, ◌≡◌, false, None, take, Ok, Err, Result, refl, ap, sym, ◌∙◌, subst, arith, ints, take_all, length-replicate, Form, Source, Rewrites, HasSameCosts, rewritten_relaxes, TextFault, ◌>>=◌, own_upper, upper, Read, CostsAs, PlainOwnsAll, RelaxesStoodFor, StandsBounded}
+use Rattle.source_texts.proofs.Common.{nat_tests, ◌≡◌, false, None, Ok, Err, Result, refl, ◌∙◌, subst, arith, ints, take_all, length-replicate, Form, Source, Rewrites, HasSameCosts, rewritten_relaxes, TextFault, ◌>>=◌, own_upper, upper, Read, CostsAs, PlainOwnsAll, RelaxesStoodFor, StandsBounded}
 use Rattle.source_texts.proofs.Bounded.{own_form, rewritten_stand}
 
 -- forms with as many bits and the same costs rewrite each other
 pub same_costs_rewrite : (f f' : Form) → HasSameCosts f' f → Rewrites f f'
 same_costs_rewrite f f' same = record {
   more = omega (arith, same.width);
-  bound = λ x w v whole.
-      let all : take f.bits x ≡ x = take_all f.bits x (omega (arith, w, same.width)) in (
-        v,
-        ap f.cost all ∙ sym (same.costs x) ∙ whole,
-        grind (arith, ints),
-      );
+  bound = λ x w v whole. (v, grind (arith, nat_tests, take_all), grind (arith, ints));
   reached = λ x w v whole. grind (arith, nat_tests, take_all);
 }
 
@@ -50,8 +45,8 @@ module _ {S : Type 0} (form : S → Form) (kept : S → Read) where
       → ((s : S) → ((kept s).variables ≡ (kept s).problem.variables) × ((kept s).soft ≡ None)
       × (own_upper (kept s).problem ≡ upper (kept s).problem)) → AreRead
   read_alike same all = record {
-    stands = λ s. same_costs_stand (source_by s) (kept s) (same s) (all s).0 (all s).2;
-    costs = λ s. same_costs (source_by s) (kept s) (same s) (all s).0 (all s).1;
+    stands = λ s. same_costs_stand _ (kept s) (same s) (all s).0 (all s).2;
+    costs = λ s. same_costs _ (kept s) (same s) (all s).0 (all s).1;
   }
 
   pub read_stands : (said : Result S TextFault) (r : Read) → AreRead
@@ -72,5 +67,4 @@ module _ {S : Type 0} (form : S → Form) (kept : S → Read) where
 -- what is read is kept as something else
 pub kept_as : {S P R : Type 0} (said : Result S TextFault) (problem : S → P) (kept : P → R)
     → (said >>= λ s. Ok (kept (problem s))) ≡ ((said >>= λ s. Ok (problem s)) >>= λ p. Ok (kept p))
-kept_as (Ok s) problem kept = refl
-kept_as (Err fault) problem kept = refl
+kept_as said problem kept = grind (arith, nat_tests)

@@ -1,5 +1,5 @@
 -- WBO texts: the problems that they are rewritten to stand for what they say.
-use Rattle.source_texts.proofs.Common.{◌≡◌, List, Ok, refl, ◌∙◌, Word, ◌>>=◌, WboText, content_of, content_of_words, reading_keeps_costs_of_text, carries_assignments, content_is_normal, rewrites_its_text, Read, eased, StandsBounded, CostsAs}
+use Rattle.source_texts.proofs.Common.{arith, nat_tests, ◌≡◌, List, Ok, refl, Word, ◌>>=◌, WboText, content_of, content_of_words, reading_keeps_costs_of_text, carries_assignments, content_is_normal, rewrites_its_text, Read, eased, StandsBounded, CostsAs}
 use Rattle.command_words.specs.declared.commands.Format.TheVariants as formats
 use Rattle.wbo_reader.specs.Reading.{form_of, reading_of_words}
 use Rattle.source_texts.specs.Sources as sources
@@ -16,14 +16,7 @@ rewritten_stands t =
 
 rewritten_costs : (t : WboText) → CostsAs (source_by form_of kept t) (kept t)
 rewritten_costs t =
-    let carries = carries_assignments (content_of t) (content_is_normal t) in
-    record {
-      own = refl;
-      width = λ x w. (carries x w).width;
-      begins = λ x w. (carries x w).begins;
-      same = λ x w. (carries x w).costs ∙ reading_keeps_costs_of_text t x;
-      plain = λ none x. absurd cc;
-    }
+    grind (arith, nat_tests, carries_assignments (content_of t) (content_is_normal t), reading_keeps_costs_of_text)
 
 pub wbo_read : AreRead form_of (λ t. eased (content_of t))
 wbo_read = record { stands = rewritten_stands; costs = rewritten_costs }

@@ -1,5 +1,5 @@
 -- Weighted CNF texts: their problems stand for what they say.
-use Rattle.source_texts.proofs.Common.{nat_tests, arith, ◌≡◌, ℕ, List, Ok, None, refl, append-nil, HasSameCosts, Word, ◌>>=◌, normal_form, Wcnf, reading, normal_reading, Read, own, plain, words_in}
+use Rattle.source_texts.proofs.Common.{nat_tests, arith, ◌≡◌, ℕ, List, Ok, refl, append-nil, HasSameCosts, Word, ◌>>=◌, normal_form, Wcnf, reading, normal_reading, Read, own, plain, words_in}
 use Rattle.problem_form.specs.Problems as problems
 use Rattle.command_words.specs.declared.commands.Format.TheVariants as formats
 use Rattle.wcnf_reader.specs.Wcnf.{reading_of_words}
@@ -31,11 +31,6 @@ unfolding normal_reading reading
 wcnf_problem text =
     kept_as (reading_of_words (words_in formats.Wcnf text)) (λ s. normal_form (problem_of s)) own
 
--- and have no most
-pub wcnf_has_no_most : (text : List ℕ) (r : Read) → sources.problem_of formats.Wcnf text ≡ Ok r
-    → r.problem.most ≡ None
-wcnf_has_no_most text r e = grind (arith, nat_tests)
-
--- nor any constraints, so that there are no conflicts to be replaced
+-- and have no constraints, so that there are no conflicts to be replaced
 pub clauses_have_no_conflicts : sources.ClausesHaveNoConflicts
 clauses_have_no_conflicts text r e = grind (arith, nat_tests, append-nil, same)

@@ -9,19 +9,18 @@ pub use Rattle.whole_text.specs.Packed.{stride_of, strides, words_along, bytes_a
 pub use Rattle.std.specs.Char.{is_ascii_digit, digit_value}
 pub use Rattle.std.specs.List.{list_all, position_or_len, slice_range, prefix_len, AllByRecursion, slice_split, onto_first, flat_map, join_with_byte}
 pub use Rattle.std.specs.Str.Parse.{digits_value, AllDigits}
-pub use Rattle.std.proofs.lemmas.Bool.{and_left, and_right, lt-ltb, le-ltb, cases_Bool, ne_eqb, cases_lt, not-true, not-false, eqb-true, le-leb, ltb-true, ltb-false, eqb-false}
+pub use Rattle.std.proofs.lemmas.Bool.{cases_Bool, ne_eqb, cases_lt, not-true, eqb-true, le-leb, ltb-true, ltb-false, eqb-false}
 pub use Rattle.std.proofs.Math.Nat.{pow-suc, pow-le-pow_right}
 pub use Rattle.std.proofs.lemmas.List.Folds.{list_all-append, list_all_more}
 pub use Rattle.std.proofs.lemmas.Int.Digits.{digits_value_more}
 pub use Rattle.std.proofs.lemmas.Str.Parse.{digits_value-take-le, digit_from_value}
-pub use Rattle.whole_text.specs.Numbers.{is_point, are_digits}
+pub use Rattle.whole_text.specs.Numbers.{is_point}
 unfoldable pub use Rattle.whole_text.specs.Numbers.{digits_number, size_of, number_of}
-pub use Rattle.whole_text.specs.declared.faults.TextFault.{TextFault}
 pub use Rattle.whole_text.specs.declared.token_text.TokenText.{TokenText}
 pub use Rattle.whole_text.specs.TokenTexts.{words_of}
-pub use Rattle.whole_text.specs.Steps.{next_of, fault}
+pub use Rattle.whole_text.specs.Steps.{next_of}
 unfoldable pub use Rattle.whole_text.specs.Steps.{integer_at, natural_at}
-pub use Rattle.std.specs.Prelude.{Err, OnOk, filter, if◌then◌else◌, nat_abs, unwrap_or, slice_get}
+pub use Rattle.std.specs.Prelude.{OnOk, filter, if◌then◌else◌, nat_abs, unwrap_or, slice_get}
 pub use Rattle.std.proofs.lemmas.List.Sums.{prefix_len-le-length, prefix_len_passes, prefix_len_stops}
 pub use Rattle.whole_text.specs.declared.lexing.At.{At}
 pub use Rattle.whole_text.specs.declared.token.Token.{Token}

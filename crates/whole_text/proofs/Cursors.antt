@@ -1,31 +1,21 @@
 -- What the first mark says: the word that it cuts off, and the cursor behind that.
-use Rattle.whole_text.proofs.Common.{◌≡◌, ℕ, ◌+◌, ◌-◌, ◌<◌, ◌≤◌, ◌^◌, List, [], ◌∷◌, length, get_or, take, drop, length-drop, ap, arith, nat_tests, take_rest, Stride, word, stride_of, strides, words_along, bytes_along, lines_along, IsCursor}
+use Rattle.whole_text.proofs.Common.{◌≡◌, ℕ, ◌+◌, ◌-◌, ◌<◌, ◌≤◌, ◌^◌, List, ◌∷◌, length, get_or, take, drop, length-drop, ap, arith, nat_tests, take_rest, Stride, word, stride_of, strides, words_along, bytes_along, lines_along, IsCursor}
 
 -- those after the first, as the code lends them
 abbrev pub later : {A : Type 0} → List A → List A
 later xs = take (length xs - 1) (drop 1 xs)
 
--- a mark that is not 0 says its stride
-narrow_step : (marks : List ℕ) (wide : List Stride) → 1 ≤ length marks → (get_or marks 0 0 ≡ 0 → ⊥)
-    → strides marks wide ≡ stride_of (get_or marks 0 0) ∷ strides (drop 1 marks) wide
-narrow_step marks wide some not = grind (arith, nat_tests)
-
 pub narrow_first : (marks : List ℕ) (wide : List Stride) → 1 ≤ length marks
     → (get_or marks 0 0 ≡ 0 → ⊥)
     → strides marks wide ≡ stride_of (get_or marks 0 0) ∷ strides (later marks) wide
 narrow_first marks wide some not =
-    grind (arith, nat_tests, narrow_step marks wide some not, take_rest marks 1)
-
--- a mark of 0 stands for the next wide stride
-wide_step : (marks : List ℕ) (wide : List Stride) (d : Stride) → 1 ≤ length marks → get_or marks 0 0 ≡ 0
-    → 1 ≤ length wide → strides marks wide ≡ get_or wide 0 d ∷ strides (drop 1 marks) (drop 1 wide)
-wide_step marks wide d some is more = grind (arith, nat_tests)
+    grind (arith, nat_tests, take_rest marks 1)
 
 pub wide_first : (marks : List ℕ) (wide : List Stride) (d : Stride) → 1 ≤ length marks
     → get_or marks 0 0 ≡ 0 → 1 ≤ length wide
     → strides marks wide ≡ get_or wide 0 d ∷ strides (later marks) (later wide)
 wide_first marks wide d some is more =
-    grind (arith, nat_tests, wide_step marks wide d some is more, take_rest marks 1, take_rest wide 1)
+    grind (arith, nat_tests, take_rest marks 1, take_rest wide 1)
 
 -- the first stride keeps within the bytes and the lines, and the cursor behind it too
 module _ (line : ℕ) (bytes marks marks' : List ℕ) (wide wide' : List Stride) (s : Stride) (cursor : IsCursor line bytes marks wide) (is : strides marks wide ≡ s ∷ strides marks' wide') where
@@ -37,11 +27,7 @@ module _ (line : ℕ) (bytes marks marks' : List ℕ) (wide wide' : List Stride)
 
   pub cursor_behind : (line' : ℕ) (back : List ℕ) → line' ≡ line + s.lines → back ≡ drop s.len bytes
       → IsCursor line' back marks' wide'
-  cursor_behind line' back next rest = record {
-    within =
-        omega (arith, cursor.within, ap bytes_along is, ap length rest, length-drop s.len bytes);
-    few = omega (arith, cursor.few, ap lines_along is, next);
-  }
+  cursor_behind line' back next rest = grind (arith, nat_tests, length-drop)
 
   pub words_cut : (line' : ℕ) (front back : List ℕ) → line' ≡ line + s.lines → front ≡ take s.len bytes
       → back ≡ drop s.len bytes → words_along line bytes (strides marks wide)

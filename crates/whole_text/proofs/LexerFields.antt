@@ -1,6 +1,5 @@
 -- A lexer's fields, and what it is seen as.
-use Rattle.whole_text.proofs.Common.{nat_tests, ◌≡◌, ℕ, ◌+◌, ◌-◌, ◌<◌, ◌≤◌, Bool, true, false, eqb, suc, List, [], ◌∷◌, ◌++◌, length, take, drop, refl, sym, ap, ◌∙◌, subst, append_assoc, append-nil, arith, Result, Ok, Err, OnOk, slice_range, prefix_len, AllByRecursion, cases_Bool, drop_all, length-drop, take-take, length-take-le, take-append-le, drop-append-le, get_or-drop, prefix_len-le-length, At, Token, Word, word, is_feed, is_blank, joins, comment_byte, words_at, AreJoined, Place, Fresh, Between, Inside, Comment, LexerState, StandsFor, place_at, IsWordStart, begun, is_above_blank, IsLive}
-use Rattle.whole_text.specs.declared.lexing.At.TheVariants as at
+use Rattle.whole_text.proofs.Common.{nat_tests, ◌≡◌, ℕ, ◌+◌, ◌<◌, ◌≤◌, Bool, true, false, eqb, suc, List, [], ◌∷◌, ◌++◌, length, take, drop, refl, subst, append_assoc, append-nil, arith, Result, OnOk, slice_range, prefix_len, AllByRecursion, cases_Bool, drop_all, length-drop, take-take, length-take-le, take-append-le, drop-append-le, get_or-drop, prefix_len-le-length, At, Token, word, is_feed, is_blank, joins, comment_byte, words_at, AreJoined, Place, Fresh, Between, Inside, Comment, LexerState, StandsFor, place_at, IsWordStart, begun, is_above_blank, IsLive}
 use Rattle.whole_text.specs.declared.token.Style.TheVariants.{Plain}
 use Rattle.whole_text.proofs.LexerSteps.{after_ink, cut_off, stands_ink, stands_kept}
 use Rattle.whole_text.proofs.Pieces.{last_of}
@@ -8,8 +7,7 @@ use Rattle.whole_text.proofs.Pieces.{last_of}
 -- where a step answers, the lexer is in a state that stands for one byte more
 pub stands_on : {A E : Type 0} (r : Result A E) (old new next : LexerState) (b : ℕ) → OnOk r (new ≡ next)
     → ((text : List ℕ) → StandsFor old text → StandsFor next (text ++ b ∷ [])) → OnOk r ((text : List ℕ) → StandsFor old text → StandsFor new (text ++ b ∷ []))
-stands_on (Ok x) old new next b e f = λ text h. subst (λ (s : LexerState). StandsFor s (text ++ b ∷ [])) (sym e) (f text h)
-stands_on (Err x) old new next b e f = tt
+stands_on r old new next b e f = grind (arith, nat_tests)
 
 -- ---- bytes behind the last word that has ended
 
@@ -39,21 +37,11 @@ begun_held a bytes start h live = grind (arith, nat_tests, drop_all)
 
 -- in a comment nothing changes
 pub ink_comment : (s : LexerState) (text : List ℕ) (b : ℕ) → s.place ≡ Comment → is_feed b ≡ false → is_blank b ≡ false → StandsFor s text → StandsFor s (text ++ b ∷ [])
-ink_comment s text b here feed ink h =
-    let kept : cut_off s.style s.line s.place b ≡ [] = ap (λ (p : Place). cut_off s.style s.line p b) here in
-    let same : after_ink s.style s.place b ≡ s.place = ap (λ (p : Place). after_ink s.style p b) here ∙ sym here in
-    subst (λ (p : Place). StandsFor (record s { place = p }) (text ++ b ∷ [])) same (stands_kept s text b s.size kept feed ink (omega arith) h)
+ink_comment s text b here feed ink h = grind (arith, nat_tests, stands_kept s text b s.size)
 
 -- the byte that begins a comment
 pub ink_begins : (s : LexerState) (text : List ℕ) (b : ℕ) → s.place ≡ Fresh → b ≡ comment_byte s.style → is_feed b ≡ false → is_blank b ≡ false → StandsFor s text → StandsFor (record s { place = Comment }) (text ++ b ∷ [])
-ink_begins s text b here mark feed ink h =
-    let kept : cut_off s.style s.line s.place b ≡ [] = ap (λ (p : Place). cut_off s.style s.line p b) here in
-    let yes : eqb b (comment_byte s.style) ≡ true = rw mark (eqb_self (comment_byte s.style)) in
-    let same : after_ink s.style s.place b ≡ Comment = ap (λ (p : Place). after_ink s.style p b) here ∙ rw yes refl in
-    subst (λ (p : Place). StandsFor (record s { place = p }) (text ++ b ∷ [])) same (stands_kept s text b s.size kept feed ink (omega arith) h)
-  where
-    eqb_self : (n : ℕ) → eqb n n ≡ true
-    eqb_self n = grind arith
+ink_begins s text b here mark feed ink h = grind (arith, nat_tests, stands_kept s text b s.size)
 
 -- the byte begins a token, or goes on with the one that has begun
 pub record GoesOn (s : LexerState) (b : ℕ) : Type 0 where
@@ -62,11 +50,10 @@ pub record GoesOn (s : LexerState) (b : ℕ) : Type 0 where
 
 pub ink_pushed : (s : LexerState) (text : List ℕ) (b : ℕ) → GoesOn s b → is_feed b ≡ false → is_blank b ≡ false
     → StandsFor s text → StandsFor (record s { place = Inside (begun s.place ++ b ∷ []); size = s.size + 1 }) (text ++ b ∷ [])
-ink_pushed s text b on feed ink h =
-    subst (λ (p : Place). StandsFor (record s { place = p; size = s.size + 1 }) (text ++ b ∷ [])) on.after (stands_kept s text b (s.size + 1) on.kept feed ink (omega arith) h)
+ink_pushed s text b on feed ink h = grind (arith, nat_tests, stands_kept s text b (s.size + 1))
 
 pub ink_fresh : (s : LexerState) (b : ℕ) → s.place ≡ Fresh → eqb b (comment_byte s.style) ≡ false → GoesOn s b
-ink_fresh s b here other = record { kept = rw here refl; after = rw (here, other) refl }
+ink_fresh s b here other = grind (arith, nat_tests)
 
 pub ink_between : (s : LexerState) (b : ℕ) → s.place ≡ Between → GoesOn s b
 ink_between s b here = record { kept = rw here refl; after = rw here refl }
@@ -79,11 +66,7 @@ pub ink_apart : (s : LexerState) (text w : List ℕ) (b : ℕ) → s.place ≡ I
     → is_feed b ≡ false → is_blank b ≡ false → StandsFor s text
     → StandsFor (record s { words = s.words ++ word s.line w ∷ []; place = Inside (b ∷ []); size = s.size + 1 }) (text ++ b ∷ [])
 ink_apart s text w b here apart feed ink h =
-    let off : cut_off s.style s.line s.place b ≡ word s.line w ∷ [] = rw (here, apart) refl in
-    let after : after_ink s.style s.place b ≡ Inside (b ∷ []) = rw (here, apart) refl in
-    subst (λ (p : Place). StandsFor (record s { words = s.words ++ word s.line w ∷ []; place = p; size = s.size + 1 }) (text ++ b ∷ [])) after
-    (subst (λ (ws : List Word). StandsFor (record s { words = s.words ++ ws; place = after_ink s.style s.place b; size = s.size + 1 }) (text ++ b ∷ [])) off
-    (stands_ink s text b (s.size + 1) feed ink (omega arith) h))
+    rw (here, apart) at (stands_ink s text b (s.size + 1) feed ink (omega arith) h)
 
 -- the last byte of all is that of the token that has begun
 pub last_begun : (bytes : List ℕ) (start : ℕ) → start < length bytes → last_of (drop start bytes) ≡ last_of bytes
@@ -100,12 +83,6 @@ place_inside a held w other e = grind (arith, nat_tests)
 
 -- ---- a run of bytes above the blank, inside a token of the plain style
 
-above_feed : (b : ℕ) → is_above_blank b ≡ true → is_feed b ≡ false
-above_feed b above = grind arith
-
-above_ink : (b : ℕ) → is_above_blank b ≡ true → is_blank b ≡ false
-above_ink b above = grind arith
-
 -- the state with the run in its token
 abbrev run_state : LexerState → List ℕ → List ℕ → LexerState
 run_state s w bs = record s { place = Inside (w ++ bs); size = s.size + length bs }
@@ -118,12 +95,9 @@ stands_run s text w (b ∷ bs) plain here above h =
     let next = record s { place = Inside (w ++ b ∷ []); size = s.size + 1 } in
     let one : StandsFor next (text ++ b ∷ []) =
     subst (λ (p : Place). StandsFor (record s { place = Inside (begun p ++ b ∷ []); size = s.size + 1 }) (text ++ b ∷ [])) here
-    (ink_pushed s text b (ink_inside s w b here (rw plain refl)) (above_feed b above.0) (above_ink b above.0) h) in
+    (ink_pushed s text b (ink_inside s w b here (rw plain refl)) (grind arith) (grind arith) h) in
     let more = stands_run next (text ++ b ∷ []) (w ++ b ∷ []) bs plain refl above.1 one in
-    let size : s.size + 1 + length bs ≡ s.size + suc (length bs) = omega arith in
-    subst (λ (p : Place). StandsFor (record s { place = p; size = s.size + suc (length bs) }) (text ++ b ∷ bs)) (ap Inside (append_assoc w (b ∷ []) bs))
-    (subst (λ (n : ℕ). StandsFor (record s { place = Inside ((w ++ b ∷ []) ++ bs); size = n }) (text ++ b ∷ bs)) size
-    (subst (StandsFor (run_state next (w ++ b ∷ []) bs)) (append_assoc text (b ∷ []) bs) more))
+    grind (arith, nat_tests, append_assoc)
 
 -- the bytes in front that pass a test
 pub front_passes : (p : ℕ → Bool) (xs : List ℕ) → AllByRecursion (λ x. p x ≡ true) (take (prefix_len p xs) xs)
@@ -139,9 +113,7 @@ pub run_fed : (now new : LexerState) (w rest : List ℕ) (size len : ℕ) → no
     → (text : List ℕ) → StandsFor now text → StandsFor new (text ++ take len rest)
 run_fed now new w rest size len plain here counted le is text h =
     let bs = take len (take size rest) in
-    let above : AllByRecursion (λ b. is_above_blank b ≡ true) bs =
-    subst (λ (n : ℕ). AllByRecursion (λ b. is_above_blank b ≡ true) (take n (take size rest))) (sym counted) (front_passes is_above_blank (take size rest)) in
-    let long : length bs ≡ len = length-take-le len (take size rest) (omega (arith, counted, prefix_len-le-length is_above_blank (take size rest))) in
-    let same : run_state now w bs ≡ new = (λ i. record now { place = Inside (begun (sym here i) ++ bs); size = now.size + long i }) ∙ sym is in
-    subst (λ (s : LexerState). StandsFor s (text ++ take len rest)) same
-    (subst (λ (l : List ℕ). StandsFor (run_state now w bs) (text ++ l)) (take-take len size rest le) (stands_run now text w bs plain here above h))
+    let above = front_passes is_above_blank (take size rest) in
+    let few = prefix_len-le-length is_above_blank (take size rest) in
+    let ran = stands_run now text w bs plain here (rw counted above) h in
+    grind (arith, nat_tests, length-take-le, take-take)

@@ -1,5 +1,5 @@
 -- A lexer that stands for a text stands for one byte more after each of its steps.
-use Rattle.whole_text.proofs.Common.{nat_tests, ◌≡◌, ℕ, ◌+◌, ◌≤◌, true, false, eqb, List, [], ◌∷◌, ◌++◌, length, refl, sym, ap, ◌∙◌, arith, append_assoc, inl, inr, filter, if◌then◌else◌, slice_split, onto_first, cases_Bool, append-nil, length-append, slice_split-cons_yes, slice_split-cons_no, Style, Word, word, joins, is_blank, is_feed, is_filled, words, comment_byte, begins_with, is_comment, tokens_of_line, tokens_from, tokens_of, Place, Fresh, Between, Inside, Comment, Spent, LexerState, IsPlace, to_come, feeds, StandsFor, ended, after_blank}
+use Rattle.whole_text.proofs.Common.{nat_tests, ◌≡◌, ℕ, ◌+◌, ◌≤◌, true, false, eqb, List, [], ◌∷◌, ◌++◌, length, refl, arith, append_assoc, if◌then◌else◌, slice_split, cases_Bool, append-nil, length-append, slice_split-cons_yes, slice_split-cons_no, Style, Word, word, joins, is_blank, is_feed, words, comment_byte, is_comment, tokens_of_line, tokens_from, tokens_of, Place, Fresh, Between, Inside, Comment, Spent, LexerState, IsPlace, to_come, feeds, StandsFor, ended, after_blank}
 use Rattle.whole_text.proofs.LineWords.{words_none, words_blank, comment_line, other_line}
 use Rattle.whole_text.proofs.Pieces.{last_of, one_begun, begun_more, blank_ends, line_ends, apart_ends}
 
@@ -15,14 +15,10 @@ blank_line : (style : Style) (n b : ℕ) (l : List ℕ) → is_blank b ≡ true 
 unfolding tokens_of_line is_comment
 blank_line style n b l e = rw (words_blank b l e) refl
 
-begins_first : (c b : ℕ) (parts : List (List ℕ)) → begins_with c (filter is_filled (onto_first b parts)) ≡ eqb b c
-begins_first c b [] = refl
-begins_first c b (p ∷ ps) = refl
-
 -- a byte in front that is no blank decides whether the line is a comment
 first_decides : (style : Style) (b : ℕ) (l : List ℕ) → is_blank b ≡ false → is_comment style (b ∷ l) ≡ eqb b (comment_byte style)
 unfolding words is_comment
-first_decides style b l e = rw e (begins_first (comment_byte style) b (slice_split is_blank l))
+first_decides style b l e = rw e (grind (arith, nat_tests))
 
 -- ---- what is still to come
 
@@ -62,14 +58,6 @@ ink_step style place n b l lines h e =
 
 -- ---- places go on
 
-place_blank : (style : Style) (place : Place) → IsPlace style place
-    → IsPlace style (after_blank place)
-place_blank style place h = grind (arith, nat_tests)
-
-place_ink : (style : Style) (place : Place) (b : ℕ) → IsPlace style place → is_blank b ≡ false
-    → IsPlace style (after_ink style place b)
-place_ink style place b h e = grind (arith, nat_tests, one_begun, cases_Bool, last_of, begun_more)
-
 feeds-push : (text : List ℕ) (b : ℕ) → feeds (text ++ b ∷ []) ≡ feeds text + (if is_feed b then 1 else 0)
 feeds-push [] b = omega arith
 feeds-push (c ∷ text) b = omega (arith, feeds-push text b)
@@ -84,11 +72,7 @@ feeds-few (b ∷ text) = grind (arith, nat_tests, feeds-few text)
 some_line : (bs : List ℕ) → (l : List ℕ) × (ls : List (List ℕ)) × (slice_split is_feed bs ≡ l ∷ ls)
 some_line [] = ([], [], refl)
 some_line (b ∷ bs) =
-    let more = some_line bs in
-    elim (cases_Bool (is_feed b)) [
-      | inl e ↦ ([], slice_split is_feed bs, slice_split-cons_yes is_feed b bs e)
-      | inr e ↦ (b ∷ more.0, more.1, slice_split-cons_no is_feed b bs e ∙ ap (onto_first b) more.2)
-    ]
+    grind (arith, nat_tests, some_line bs, cases_Bool, slice_split-cons_yes is_feed b bs, slice_split-cons_no is_feed b bs)
 
 -- the state behind a line feed
 abbrev pub feed_state : LexerState → LexerState
@@ -106,11 +90,7 @@ unfolding to_come
 stands_feed s text b feed h = record {
   place = tt;
   words = λ rest.
-      let lines = slice_split is_feed rest in
-      ap (tokens_of s.style) (append_assoc text (b ∷ []) rest) ∙ h.words (b ∷ rest)
-      ∙ ap (λ (ls : List (List ℕ)). s.words ++ to_come s.style s.place s.line ls) (slice_split-cons_yes is_feed b rest feed)
-      ∙ ap (λ (ws : List Word). s.words ++ ws) (feed_step s.style s.place s.line lines h.place)
-      ∙ sym (append_assoc s.words (ended s.line s.place) (tokens_from s.style (s.line + 1) lines));
+      grind (arith, nat_tests, append_assoc, h.words (b ∷ rest), slice_split-cons_yes is_feed b rest feed, feed_step);
   line = rw (feeds-push text b, feed) (omega (arith, h.line));
   size = omega (arith, longer text b s.size h.size);
 }
@@ -124,20 +104,14 @@ stands_behind s text b size off after feed place le step h = record {
   place = place;
   words = λ rest.
       let more = some_line rest in
-      let cut : slice_split is_feed (b ∷ rest) ≡ (b ∷ more.0) ∷ more.1 = slice_split-cons_no is_feed b rest feed ∙ ap (onto_first b) more.2 in
-      ap (tokens_of s.style) (append_assoc text (b ∷ []) rest) ∙ h.words (b ∷ rest)
-      ∙ ap (λ (ls : List (List ℕ)). s.words ++ to_come s.style s.place s.line ls) cut
-      ∙ ap (λ (ws : List Word). s.words ++ ws) (step more.0 more.1)
-      ∙ sym (append_assoc s.words off (to_come s.style after s.line (more.0 ∷ more.1)))
-      ∙ ap (λ (ls : List (List ℕ)). (s.words ++ off) ++ to_come s.style after s.line ls) (sym more.2);
+      rw (append_assoc text (b ∷ []) rest, h.words (b ∷ rest), slice_split-cons_no is_feed b rest feed, more.2, step more.0 more.1, append_assoc) refl;
   line = rw (feeds-push text b, feed) (omega (arith, h.line));
   size = omega (arith, length-append text (b ∷ []), h.size);
 }
 
 pub stands_blank : (s : LexerState) (text : List ℕ) (b : ℕ) → is_feed b ≡ false → is_blank b ≡ true → StandsFor s text → StandsFor (blank_state s) (text ++ b ∷ [])
 stands_blank s text b feed blank h =
-    stands_behind s text b s.size (ended s.line s.place) (after_blank s.place) feed (place_blank s.style s.place h.place)
-    (omega arith) (λ l lines. blank_step s.style s.place s.line b l lines h.place blank) h
+    stands_behind s text b s.size _ _ feed (grind (arith, nat_tests)) (omega arith) (λ l lines. blank_step s.style s.place s.line b l lines h.place blank) h
 
 -- the state behind another byte, which counts where it is held
 abbrev pub ink_state : LexerState → ℕ → ℕ → LexerState
@@ -149,8 +123,7 @@ ink_state s b size = record s {
 
 pub stands_ink : (s : LexerState) (text : List ℕ) (b size : ℕ) → is_feed b ≡ false → is_blank b ≡ false → size ≤ s.size + 1 → StandsFor s text → StandsFor (ink_state s b size) (text ++ b ∷ [])
 stands_ink s text b size feed ink le h =
-    stands_behind s text b size (cut_off s.style s.line s.place b) (after_ink s.style s.place b) feed
-    (place_ink s.style s.place b h.place ink) le (λ l lines. ink_step s.style s.place s.line b l lines h.place ink) h
+    stands_behind s text b size _ _ feed (grind (arith, nat_tests, one_begun, cases_Bool, last_of, begun_more)) le (λ l lines. ink_step s.style s.place s.line b l lines h.place ink) h
 
 -- where no token ends before it
 pub stands_kept : (s : LexerState) (text : List ℕ) (b size : ℕ) → cut_off s.style s.line s.place b ≡ []
@@ -168,4 +141,4 @@ stands_end s text h =
 -- without a text
 pub stands_empty : (style : Style) → StandsFor (record { style = style; words = []; place = Fresh; line = 1; size = 0 }) []
 unfolding to_come tokens_of
-stands_empty style = record { place = tt; words = λ rest. refl; line = refl; size = omega arith }
+stands_empty style = grind (arith, nat_tests)

@@ -1,6 +1,7 @@
 -- The tokens of lines: a line of words that is no comment has its words as tokens.
-use Rattle.whole_text.proofs.Common.{nat_tests, ◌≡◌, ℕ, ◌+◌, ◌<◌, false, cond, List, [], ◌∷◌, ◌++◌, length, map, refl, ap, ◌∙◌, arith, append_assoc, filter, AllByRecursion, flat_map, join_with_byte, slice_split, All-from_recursion, slice_split_at, slice_split_none, Word, word, is_blank, is_feed, is_filled, words, begins_with, is_comment, tokens_of_line, tokens_from}
+use Rattle.whole_text.proofs.Common.{nat_tests, ◌≡◌, ℕ, ◌+◌, ◌<◌, false, cond, List, [], ◌∷◌, ◌++◌, length, map, refl, arith, append_assoc, filter, AllByRecursion, flat_map, join_with_byte, slice_split, All-from_recursion, slice_split_at, slice_split_none, Word, word, is_blank, is_feed, is_filled, words, begins_with, is_comment, tokens_of_line, tokens_from}
 use Rattle.whole_text.specs.declared.token.Style.TheVariants.{Plain}
+use Rattle.whole_text.proofs.LineWords.{kept_first}
 use Rattle.whole_text.proofs.Pieces.{plain_line}
 
 -- ---- words that stand for themselves
@@ -31,27 +32,18 @@ all_append P (x ∷ xs) ys h k = (h.0, all_append P xs ys h.1 k)
 
 split_ink : (w : List ℕ) (ws : List (List ℕ)) → AreInk (w ∷ ws)
     → slice_split is_blank (join_with_byte 32 (w ∷ ws)) ≡ w ∷ ws
-split_ink w [] h =
-    slice_split_none is_blank w (All-from_recursion (λ b. is_blank b ≡ false) w h.0.blank)
+split_ink w [] h = grind (arith, nat_tests, slice_split_none, All-from_recursion)
 split_ink w (v ∷ vs) h =
-    slice_split_at is_blank w 32 (join_with_byte 32 (v ∷ vs))
-    (All-from_recursion (λ b. is_blank b ≡ false) w h.0.blank) refl
-    ∙ ap (λ (rest : List (List ℕ)). w ∷ rest) (split_ink v vs h.1)
-
-kept_first : (w : List ℕ) (ws : List (List ℕ)) → 0 < length w
-    → filter is_filled (w ∷ ws) ≡ w ∷ filter is_filled ws
-kept_first [] ws some = absurd (omega arith)
-kept_first (c ∷ cs) ws some = refl
+    grind (arith, nat_tests, slice_split_at, All-from_recursion, split_ink v vs h.1)
 
 all_kept : (ws : List (List ℕ)) → AreInk ws → filter is_filled ws ≡ ws
 all_kept [] h = refl
-all_kept (w ∷ ws) h =
-    kept_first w ws h.0.filled ∙ ap (λ (rest : List (List ℕ)). w ∷ rest) (all_kept ws h.1)
+all_kept (w ∷ ws) h = grind (arith, nat_tests, kept_first, all_kept ws h.1)
 
 words_joined : (w : List ℕ) (ws : List (List ℕ)) → AreInk (w ∷ ws)
     → words (join_with_byte 32 (w ∷ ws)) ≡ w ∷ ws
 unfolding words
-words_joined w ws h = ap (filter is_filled) (split_ink w ws h) ∙ all_kept (w ∷ ws) h
+words_joined w ws h = grind (arith, nat_tests, split_ink, all_kept)
 
 -- ---- the tokens of a line
 
@@ -81,12 +73,7 @@ pub line_then : (n : ℕ) (bytes rest : List ℕ) → LacksFeeds bytes
     ≡ tokens_of_line Plain n bytes ++ tokens_from Plain (n + 1) (slice_split is_feed rest)
 unfolding tokens_from
 line_then n bytes rest h =
-    let grouped : (bytes ++ 10 ∷ []) ++ rest ≡ bytes ++ 10 ∷ rest =
-    append_assoc bytes (10 ∷ []) rest in
-    let cut : slice_split is_feed (bytes ++ 10 ∷ rest) ≡ bytes ∷ slice_split is_feed rest =
-    slice_split_at is_feed bytes 10 rest
-    (All-from_recursion (λ b. is_feed b ≡ false) bytes h) refl in
-    ap (tokens_from Plain n) (ap (slice_split is_feed) grouped ∙ cut)
+    rw (append_assoc bytes (10 ∷ []) rest, slice_split_at is_feed bytes 10 rest (All-from_recursion (λ b. is_feed b ≡ false) bytes h) refl) refl
 
 pub no_lines : (n : ℕ) → tokens_after n [] ≡ []
 unfolding tokens_from tokens_of_line is_comment words

@@ -1,5 +1,5 @@
 -- The words of a line, from left to right.
-use Rattle.whole_text.proofs.Common.{nat_tests, ◌≡◌, ℕ, suc, ◌+◌, ◌-◌, ◌<◌, ◌≤◌, Bool, true, false, not, eqb, List, [], ◌∷◌, ◌++◌, length, map, take, drop, get_or, refl, sym, ap, ◌∙◌, arith, inl, inr, append_assoc, filter, slice_range, position_or_len, cases_lt, cases_Bool, not-true, not-false, drop_more, drop_all, take_all, map-append, length-take, length-drop, get_or-drop, get_or_read, prefix_len-le-length, prefix_len_passes, prefix_len_stops, slice_split_first, slice_split_none, Style, Token, word, word_at, is_blank, is_filled, words, pieces_of_line, comment_byte, begins_with, is_comment, tokens_of_line}
+use Rattle.whole_text.proofs.Common.{nat_tests, ◌≡◌, ℕ, suc, ◌+◌, ◌<◌, ◌≤◌, Bool, true, false, not, eqb, List, [], ◌∷◌, ◌++◌, length, map, take, drop, get_or, refl, ap, ◌∙◌, arith, inl, inr, append_assoc, filter, slice_range, position_or_len, cases_lt, cases_Bool, not-true, drop_more, drop_all, take_all, map-append, length-take, length-drop, get_or-drop, get_or_read, prefix_len-le-length, prefix_len_passes, prefix_len_stops, slice_split_first, slice_split_none, Style, Token, word, word_at, is_blank, is_filled, words, pieces_of_line, comment_byte, begins_with, is_comment, tokens_of_line}
 use Rattle.whole_text.proofs.Slices.{slice_length, slice_at, slice_dropped, slice_taken}
 
 -- a byte of a word
@@ -15,24 +15,18 @@ words_blank c cs e = rw e refl
 pub words_skip : (bs : List ℕ) → words bs ≡ words (drop (position_or_len is_ink bs) bs)
 words_skip [] = refl
 words_skip (c ∷ cs) =
-    elim (cases_Bool (is_blank c)) [
-      | inl e ↦ words_blank c cs e ∙ words_skip cs ∙ rw (e, one_more (position_or_len is_ink cs)) refl
-      | inr e ↦ rw e refl
-    ]
-  where
-    one_more : (n : ℕ) → 1 + n ≡ suc n
-    one_more n = omega arith
+    let more : suc (position_or_len is_ink cs) ≡ 1 + position_or_len is_ink cs = omega arith in
+    grind (arith, nat_tests, cases_Bool, words_blank, words_skip cs)
 
 pub skip_stops : (bs : List ℕ) → position_or_len is_ink bs < length bs → is_blank (get_or bs (position_or_len is_ink bs) 0) ≡ false
-skip_stops bs lt = not-true _ (not-false _ (prefix_len_stops (λ c. not (is_ink c)) bs 0 lt))
+skip_stops bs lt = grind (arith, nat_tests, prefix_len_stops)
 
 pub words_none : words [] ≡ []
 unfolding words
 words_none = refl
 
 pub kept_first : (w : List ℕ) (ws : List (List ℕ)) → 0 < length w → filter is_filled (w ∷ ws) ≡ w ∷ filter is_filled ws
-kept_first [] ws some = absurd (omega arith)
-kept_first (c ∷ cs) ws some = refl
+kept_first w ws some = grind (arith, nat_tests)
 
 -- a line with a blank: the word before it, and the words after it
 words_cut : (bs : List ℕ) → position_or_len is_blank bs < length bs → 0 < position_or_len is_blank bs → words bs ≡ take (position_or_len is_blank bs) bs ∷ words (drop (position_or_len is_blank bs + 1) bs)
@@ -48,7 +42,7 @@ words_one bs all some =
 -- a line that begins with no blank begins with a word
 pub word_len_some : (bs : List ℕ) → 0 < length bs → is_blank (get_or bs 0 0) ≡ false → 0 < position_or_len is_blank bs
 word_len_some [] some ink = absurd (omega arith)
-word_len_some (c ∷ cs) some ink = rw ink (omega arith)
+word_len_some (c ∷ cs) some ink = grind (arith, nat_tests)
 
 -- in both cases the first word is what stands before the first blank
 pub words_first : (bs : List ℕ) → 0 < length bs → is_blank (get_or bs 0 0) ≡ false → words bs ≡ take (position_or_len is_blank bs) bs ∷ words (drop (position_or_len is_blank bs) bs)
@@ -57,11 +51,12 @@ words_first bs some ink =
     let filled = word_len_some bs some ink in
     elim (cases_lt n (length bs)) [
       | inl lt ↦
-          let stop : is_blank (get_or bs n 0) ≡ true = not-false _ (prefix_len_stops is_ink bs 0 lt) in
-          words_cut bs lt filled ∙ ap (λ (ws : List (List ℕ)). take n bs ∷ ws) (sym (ap words (drop_more bs n 0 lt) ∙ words_blank (get_or bs n 0) (drop (n + 1) bs) stop))
+          let stop = prefix_len_stops is_ink bs 0 lt in
+          let cut = words_cut bs lt filled in
+          grind (arith, nat_tests, drop_more, words_blank)
       | inr ge ↦
           let all : n ≡ length bs = omega (arith, prefix_len-le-length is_ink bs) in
-          words_one bs all some ∙ rw (take_all n bs ge, drop_all n bs ge, words_none) refl
+          grind (arith, nat_tests, words_one, take_all, drop_all, words_none)
     ]
 
 -- the first word begins with the first byte
@@ -86,7 +81,7 @@ comment_from_byte style bs n byte first lt read = grind (arith, nat_tests, get_o
 -- a line of blanks is no comment
 pub comment_none : (style : Style) (bs : List ℕ) (n : ℕ) → n ≡ position_or_len is_ink bs → length bs ≤ n → false ≡ is_comment style bs
 unfolding is_comment
-comment_none style bs n first le = sym (ap (begins_with (comment_byte style)) (words_skip bs ∙ ap words (drop_all (position_or_len is_ink bs) bs (rw (← first) le)) ∙ words_none))
+comment_none style bs n first le = grind (arith, nat_tests, words_skip, drop_all, words_none)
 
 -- a comment has no tokens, and another line its pieces
 pub comment_line : (style : Style) (n : ℕ) (line : List ℕ) → is_comment style line ≡ true → tokens_of_line style n line ≡ []
@@ -100,8 +95,7 @@ other_line style n line e = rw e refl
 -- one more token of a line is pushed
 pub token_taken : (text : List ℕ) (was now : List Token) (t : Token) (before after : List (List ℕ)) → before ≡ slice_range text t.start t.end ∷ after → now ≡ was ++ t ∷ []
     → map (word_at text) now ++ map (word t.line) after ≡ map (word_at text) was ++ map (word t.line) before
-token_taken text was now t before after e n =
-    rw (n, e, map-append (word_at text) was (t ∷ [])) (append_assoc (map (word_at text) was) (word_at text t ∷ []) (map (word t.line) after))
+token_taken text was now t before after e n = grind (arith, nat_tests, map-append, append_assoc)
 
 -- the blanks that are skipped at a place of a text, and where that ends
 pub skipped : (text : List ℕ) (a b n : ℕ) → a ≤ b → b ≤ length text → n ≡ position_or_len is_ink (slice_range text a b)
@@ -113,14 +107,4 @@ skipped text a b n ab bl e =
 pub taken : (text : List ℕ) (a b n : ℕ) → a < b → b ≤ length text → is_blank (get_or text a 0) ≡ false → n ≡ position_or_len is_blank (slice_range text a b)
     → (0 < n) × (a + n ≤ b) × (words (slice_range text a b) ≡ slice_range text a (a + n) ∷ words (slice_range text (a + n) b))
 taken text a b n ab bl ink e =
-    let bs = slice_range text a b in
-    let len = slice_length text a b bl in
-    let le : n ≤ b - a = omega (arith, prefix_len-le-length is_ink bs) in
-    let some : 0 < length bs = omega arith in
-    let zero_more : a + 0 ≡ a = omega arith in
-    let first : get_or bs 0 0 ≡ get_or text a 0 = slice_at text a b 0 (omega arith) ∙ ap (λ k. get_or text k 0) zero_more in
-    let ink' : is_blank (get_or bs 0 0) ≡ false = ap is_blank first ∙ ink in
-    let front : take n bs ≡ slice_range text a (a + n) = slice_taken text a n b (omega arith) in
-    let moved : drop n bs ≡ slice_range text (a + n) b = slice_dropped text a n b (omega arith) in
-    let cut : words bs ≡ take n bs ∷ words (drop n bs) = rw e (words_first bs some ink') in
-    (rw e (word_len_some bs some ink'), omega arith, rw (← front, ← moved) cut)
+    grind (arith, nat_tests, slice_length, prefix_len-le-length, slice_at, slice_taken, slice_dropped, words_first, word_len_some)

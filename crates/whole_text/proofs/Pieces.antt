@@ -1,6 +1,6 @@
 -- The pieces of words: a piece goes on, or ends where neighbours do not join, at a blank or at the
 -- end of the line.
-use Rattle.whole_text.proofs.Common.{nat_tests, ◌≡◌, ℕ, suc, ◌+◌, ◌-◌, ◌<◌, ◌≤◌, Bool, true, false, cond, List, [], ◌∷◌, ◌++◌, length, map, take, drop, get_or, refl, sym, ap, subst, ◌∙◌, arith, filter, slice_split, slice_range, onto_first, flat_map, AllByRecursion, position_or_len, cases_Bool, length-append, take-append-drop, drop_more, take_more, length-take, take_all, drop_all, get_or-take, All-from_recursion, slice_split_at, slice_split_none, slice_split-cons_no, Style, word, is_blank, is_filled, words, joins, pieces, pieces_of_line, is_comment, tokens_of_line, IsBegun}
+use Rattle.whole_text.proofs.Common.{nat_tests, ◌≡◌, ℕ, ◌+◌, ◌-◌, ◌<◌, ◌≤◌, Bool, true, false, cond, List, [], ◌∷◌, ◌++◌, length, map, take, drop, get_or, refl, sym, ap, ◌∙◌, arith, filter, slice_split, slice_range, onto_first, flat_map, AllByRecursion, position_or_len, cases_Bool, length-append, take-append-drop, drop_more, take_more, length-take, take_all, drop_all, get_or-take, All-from_recursion, slice_split_at, slice_split_none, slice_split-cons_no, Style, word, is_blank, is_filled, words, joins, pieces, pieces_of_line, is_comment, tokens_of_line, IsBegun}
 use Rattle.whole_text.specs.declared.token.Style.TheVariants.{Plain}
 use Rattle.whole_text.proofs.Slices.{slice_length, slice_at, slice_dropped, slice_taken}
 use Rattle.whole_text.proofs.LineWords.{words_none, words_blank, words_first, kept_first, other_line}
@@ -15,18 +15,12 @@ abbrev pub last_of : List ℕ → ℕ
 last_of w = get_or w (length w - 1) 0
 
 last_next : (x y : ℕ) (ys : List ℕ) → last_of (x ∷ y ∷ ys) ≡ last_of (y ∷ ys)
-last_next x y ys =
-    let k : length (x ∷ y ∷ ys) - 1 ≡ suc (length (y ∷ ys) - 1) = omega arith in rw k refl
-
-onto_one : (x : ℕ) (ys : List ℕ) (parts : List (List ℕ)) → onto_first x parts ≡ (x ∷ ys) ∷ []
-    → 0 < length ys → parts ≡ ys ∷ []
-onto_one x ys parts e h = grind (arith, nat_tests)
+last_next x y ys = grind (arith, nat_tests)
 
 chosen_run : (b : Bool) (x y : ℕ) (ys : List ℕ) (parts : List (List ℕ))
     → cond b (onto_first x parts) ((x ∷ []) ∷ parts) ≡ (x ∷ y ∷ ys) ∷ []
     → (b ≡ true) × (parts ≡ (y ∷ ys) ∷ [])
-chosen_run true x y ys parts e = (refl, onto_one x (y ∷ ys) parts e (omega arith))
-chosen_run false x y ys parts e = absurd cc
+chosen_run b x y ys parts e = grind (arith, nat_tests)
 
 run_parts : (style : Style) (x y : ℕ) (ys : List ℕ) → IsRun style (x ∷ y ∷ ys)
     → (joins style x y ≡ true) × IsRun style (y ∷ ys)
@@ -44,18 +38,14 @@ run_ends_at : (style : Style) (x : ℕ) (xs : List ℕ) (d : ℕ) (cs : List ℕ
 unfolding pieces
 run_ends_at style x [] d cs run apart = rw apart refl
 run_ends_at style x (y ∷ ys) d cs run apart =
-    let parts = run_parts style x y ys run in
-    let rest = run_ends_at style y ys d cs parts.1 (ap (λ n. joins style n d) (sym (last_next x y ys)) ∙ apart) in
-    rw (parts.0, rest) refl
+    grind (arith, nat_tests, run_parts style x y ys run, last_next, run_ends_at style y ys d cs)
 
 run_grows : (style : Style) (x : ℕ) (xs : List ℕ) (d : ℕ) → IsRun style (x ∷ xs)
     → joins style (last_of (x ∷ xs)) d ≡ true → IsRun style ((x ∷ xs) ++ d ∷ [])
 unfolding pieces
 run_grows style x [] d run together = rw together refl
 run_grows style x (y ∷ ys) d run together =
-    let parts = run_parts style x y ys run in
-    let rest = run_grows style y ys d parts.1 (ap (λ n. joins style n d) (sym (last_next x y ys)) ∙ together) in
-    rw (parts.0, rest) refl
+    grind (arith, nat_tests, run_parts style x y ys run, last_next, run_grows style y ys d)
 
 -- a run ends where neighbours do not join
 pub run_ends : (style : Style) (w : List ℕ) (d : ℕ) (cs : List ℕ) → 0 < length w → IsRun style w
@@ -78,10 +68,7 @@ plain_run (x ∷ y ∷ ys) some = ap (onto_first x) (plain_run (y ∷ ys) (omega
 
 plain_filled : (ws : List (List ℕ)) → flat_map (pieces Plain) (filter is_filled ws) ≡ filter is_filled ws
 plain_filled [] = refl
-plain_filled ([] ∷ ws) = plain_filled ws
-plain_filled ((c ∷ cs) ∷ ws) =
-    (λ i. plain_run (c ∷ cs) (omega arith) i ++ flat_map (pieces Plain) (filter is_filled ws))
-    ∙ ap (λ (rest : List (List ℕ)). (c ∷ cs) ∷ rest) (plain_filled ws)
+plain_filled (w ∷ ws) = grind (arith, nat_tests, plain_run, plain_filled ws)
 
 -- so its pieces are its words
 pub plain_pieces : (line : List ℕ) → pieces_of_line Plain line ≡ words line
@@ -104,33 +91,21 @@ word_ended : (style : Style) (w : List ℕ) (b : ℕ) (l : List ℕ) → IsBegun
     → is_blank b ≡ true → words (w ++ b ∷ l) ≡ w ∷ words l
 unfolding words
 word_ended style w b l h e =
-    let cut : slice_split is_blank (w ++ b ∷ l) ≡ w ∷ slice_split is_blank l =
-    slice_split_at is_blank w b l (All-from_recursion (λ c. is_blank c ≡ false) w h.ink) e in
-    rw cut (kept_first w (slice_split is_blank l) h.some)
+    grind (arith, nat_tests, slice_split_at, All-from_recursion, kept_first)
 
 -- a word that the line ends
 word_last : (style : Style) (w : List ℕ) → IsBegun style w → words w ≡ w ∷ []
 unfolding words
-word_last style w h =
-    let cut : slice_split is_blank w ≡ w ∷ [] =
-    slice_split_none is_blank w (All-from_recursion (λ c. is_blank c ≡ false) w h.ink) in
-    rw cut (kept_first w [] h.some)
-
--- a run before other words
-run_before : (style : Style) (w : List ℕ) (ws : List (List ℕ)) → IsRun style w
-    → flat_map (pieces style) (w ∷ ws) ≡ w ∷ flat_map (pieces style) ws
-run_before style w ws run = λ i. run i ++ flat_map (pieces style) ws
+word_last style w h = grind (arith, nat_tests, slice_split_none, All-from_recursion, kept_first)
 
 -- a token that a blank ends
 pub blank_ends : (style : Style) (w : List ℕ) (b : ℕ) (l : List ℕ) → IsBegun style w
     → is_blank b ≡ true → pieces_of_line style (w ++ b ∷ l) ≡ w ∷ pieces_of_line style l
-blank_ends style w b l h e =
-    ap (flat_map (pieces style)) (word_ended style w b l h e) ∙ run_before style w (words l) h.run
+blank_ends style w b l h e = grind (arith, nat_tests, word_ended)
 
 -- a token that the line ends
 pub line_ends : (style : Style) (w : List ℕ) → IsBegun style w → pieces_of_line style w ≡ w ∷ []
-line_ends style w h =
-    ap (flat_map (pieces style)) (word_last style w h) ∙ run_before style w [] h.run
+line_ends style w h = grind (arith, nat_tests, word_last)
 
 -- the first word of a line that begins with no blank, without its first byte, and the other words
 first_split : (b : ℕ) (l : List ℕ) → is_blank b ≡ false
@@ -166,8 +141,7 @@ one_begun style b ink = record { some = omega arith; ink = (ink, tt); run = one_
 -- the first byte, which is no blank
 pub piece_begins : (style : Style) (bs : List ℕ) → 0 < length bs → is_blank (get_or bs 0 0) ≡ false
     → IsBegun style (take 1 bs)
-piece_begins style [] some ink = absurd (omega (arith, some))
-piece_begins style (b ∷ bs) some ink = one_begun style b ink
+piece_begins style bs some ink = grind (arith, nat_tests, one_begun)
 
 ink_push : (w : List ℕ) (b : ℕ) → AllByRecursion (λ c. is_blank c ≡ false) w → is_blank b ≡ false
     → AllByRecursion (λ c. is_blank c ≡ false) (w ++ b ∷ [])
@@ -177,20 +151,13 @@ ink_push (c ∷ w) b h e = (h.0, ink_push w b h.1 e)
 -- a token that goes on by a byte
 pub begun_more : (style : Style) (w : List ℕ) (b : ℕ) → IsBegun style w → is_blank b ≡ false
     → joins style (last_of w) b ≡ true → IsBegun style (w ++ b ∷ [])
-begun_more style w b h ink together = record {
-  some = omega (arith, length-append w (b ∷ []));
-  ink = ink_push w b h.ink ink;
-  run = run_goes_on style w b h.some h.run together;
-}
+begun_more style w b h ink together = grind (arith, nat_tests, length-append, ink_push, run_goes_on)
 
 pub piece_more : (style : Style) (bs : List ℕ) (i : ℕ) → 0 < i → i < length bs
     → IsBegun style (take i bs) → is_blank (get_or bs i 0) ≡ false
     → joins style (get_or bs (i - 1) 0) (get_or bs i 0) ≡ true → IsBegun style (take (i + 1) bs)
 piece_more style bs i some lt begun ink together =
-    let last = last_taken bs i some (omega arith) in
-    subst (IsBegun style) (sym (take_more bs i 0 lt))
-    (begun_more style (take i bs) (get_or bs i 0) begun ink
-    (ap (λ n. joins style n (get_or bs i 0)) last ∙ together))
+    rw (take_more bs i 0 lt) (begun_more style (take i bs) (get_or bs i 0) begun ink (grind (arith, nat_tests, last_taken)))
 
 pub piece_ends : (style : Style) (bs : List ℕ) (i : ℕ) → 0 < i → i < length bs
     → IsBegun style (take i bs)

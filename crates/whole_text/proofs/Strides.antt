@@ -1,5 +1,5 @@
 -- Strides, and the tokens and words that they stand for.
-use Rattle.whole_text.proofs.Common.{nat_tests, ◌≡◌, ℕ, suc, ◌+◌, ◌-◌, ◌*◌, ◌<◌, ◌≤◌, eqb, List, [], ◌∷◌, ◌++◌, length, drop, refl, ap, ◌∙◌, arith, slice_get, if◌then◌else◌, option_map_or, ne_eqb, drop-drop, Stride, Token, words_at, AreJoined, last_line, stride_of, strides, placed, words_along, bytes_along, lines_along, wide_marks}
+use Rattle.whole_text.proofs.Common.{nat_tests, ◌≡◌, ℕ, suc, ◌+◌, ◌*◌, ◌<◌, ◌≤◌, eqb, List, [], ◌∷◌, ◌++◌, length, drop, refl, ap, arith, if◌then◌else◌, drop-drop, Stride, Token, words_at, AreJoined, last_line, stride_of, strides, placed, words_along, bytes_along, lines_along, wide_marks}
 
 -- ---- marks
 
@@ -10,11 +10,8 @@ stride_again s small = grind (arith, nat_tests)
 -- one more mark that is not 0
 pub strides_mark : (marks : List ℕ) (wide : List Stride) (mark : ℕ) → wide_marks marks ≡ length wide → 0 < mark
     → strides (marks ++ mark ∷ []) wide ≡ strides marks wide ++ stride_of mark ∷ []
-strides_mark [] [] mark e some = rw (ne_eqb mark 0 (λ z. omega arith)) refl
-strides_mark [] (s ∷ wide) mark e some = rw (ne_eqb mark 0 (λ z. omega arith)) (absurd (omega (arith, e)))
-strides_mark (m ∷ marks) [] mark e some = grind (arith, nat_tests, strides_mark marks)
-strides_mark (m ∷ marks) (s ∷ wide) mark e some =
-    grind (arith, nat_tests, strides_mark marks wide mark, strides_mark marks (s ∷ wide) mark)
+strides_mark [] wide mark e some = grind (arith, nat_tests)
+strides_mark (m ∷ marks) wide mark e some = grind (arith, nat_tests, strides_mark marks)
 
 -- one more wide stride, with its mark of 0
 pub strides_wide : (marks : List ℕ) (wide : List Stride) (last : Stride) → wide_marks marks ≡ length wide
@@ -28,9 +25,7 @@ strides_wide (m ∷ marks) (s ∷ wide) last e =
 -- as many strides as marks
 pub length-strides : (marks : List ℕ) (wide : List Stride) → wide_marks marks ≡ length wide → length (strides marks wide) ≡ length marks
 length-strides [] wide e = refl
-length-strides (m ∷ marks) [] e = grind (arith, nat_tests, length-strides marks)
-length-strides (m ∷ marks) (s ∷ wide) e =
-    grind (arith, nat_tests, length-strides marks wide, length-strides marks (s ∷ wide))
+length-strides (m ∷ marks) wide e = grind (arith, nat_tests, length-strides marks)
 
 -- one more mark, 0 or not
 pub wide_marks-push : (marks : List ℕ) (mark : ℕ) → wide_marks (marks ++ mark ∷ []) ≡ wide_marks marks + (if eqb mark 0 then 1 else 0)
@@ -74,17 +69,12 @@ joined-push low (u ∷ ts) t h some = (h.0, h.1, joined-push u.end ts t h.2 some
 
 -- ---- lines
 
--- of a list with two elements or more, the last one is that of the rest
-last_of_rest : {A : Type 0} (f : A → ℕ) (d : ℕ) (x y : A) (xs : List A)
-    → option_map_or f (slice_get (x ∷ y ∷ xs) (length (x ∷ y ∷ xs) - 1)) d ≡ option_map_or f (slice_get (y ∷ xs) (length (y ∷ xs) - 1)) d
-last_of_rest f d x y xs = grind (arith, nat_tests)
-
 -- the line of a token that was pushed
 pub last_line_pushed : (ts : List Token) (t : Token) → last_line (ts ++ t ∷ []) ≡ t.line
 last_line_pushed [] t = refl
-last_line_pushed (u ∷ []) t = last_of_rest (λ (v : Token). v.line) 1 u t []
+last_line_pushed (u ∷ []) t = omega arith
 last_line_pushed (u ∷ v ∷ ts) t =
-    last_of_rest (λ (w : Token). w.line) 1 u v (ts ++ t ∷ []) ∙ last_line_pushed (v ∷ ts) t
+    grind (arith, nat_tests, last_line_pushed (v ∷ ts) t)
 
 last_from : (at line : ℕ) (s : Stride) (ss : List Stride) → last_line (placed at line (s ∷ ss)) ≡ line + lines_along (s ∷ ss)
 last_from at line s [] = omega arith

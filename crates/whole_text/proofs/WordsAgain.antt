@@ -1,6 +1,5 @@
 -- Numbers that are written in decimal are words, and are read again.
-use Rattle.whole_text.proofs.Common.{nat_tests, ◌≡◌, ℕ, suc, ◌<◌, ◌≤◌, ◌^◌, false, ℤ, pos, negsuc, List, [], ◌∷◌, Option, Ok, refl, ap, arith, nat_abs, ok_or, decimal, signed_decimal, AllDigits, le-leb, decimal_is_IsNumeral_wide, digit_from_value, word, is_blank, begins_with, fault, integer_at, natural_at}
-use Rattle.whole_text.specs.declared.faults.TextKind.TheVariants as kinds
+use Rattle.whole_text.proofs.Common.{nat_tests, ◌≡◌, ℕ, suc, ◌<◌, ◌≤◌, ◌^◌, false, ℤ, pos, negsuc, List, [], ◌∷◌, Ok, refl, arith, nat_abs, decimal, signed_decimal, AllDigits, le-leb, decimal_is_IsNumeral_wide, digit_from_value, word, is_blank, begins_with, integer_at, natural_at}
 use Rattle.whole_text.proofs.NumberAgain.{number_again}
 use Rattle.whole_text.proofs.LineTokens.{IsInk, LacksBlanks, LacksFeeds}
 
@@ -12,7 +11,7 @@ no_blank b h = grind (arith, nat_tests)
 digits_lack_blanks : (bs : List ℕ) → AllDigits 10 bs → LacksBlanks bs
 digits_lack_blanks [] h = tt
 digits_lack_blanks (b ∷ bs) h =
-    let range = digit_from_value b h.0 in (no_blank b (omega arith), digits_lack_blanks bs h.1)
+    grind (arith, nat_tests, digit_from_value, no_blank, digits_lack_blanks bs h.1)
 
 digits_lack_feeds : (bs : List ℕ) → AllDigits 10 bs → LacksFeeds bs
 digits_lack_feeds [] h = tt
@@ -46,8 +45,7 @@ number_first n ws small = no_comment (decimal n) ws ((decimal_is_IsNumeral_wide 
 pub integer_again : (line : ℕ) (z : ℤ) → nat_abs z < 2 ^ 64
     → integer_at (word line (signed_decimal z)) ≡ Ok z
 unfolding integer_at
-integer_again line z small =
-    ap (λ (o : Option ℤ). ok_or o (fault kinds.Number line)) (number_again z small)
+integer_again line z small = grind (arith, nat_tests, number_again)
 
 pub natural_again : (least line n : ℕ) → least ≤ n → n < 2 ^ 64
     → natural_at least (word line (decimal n)) ≡ Ok n

@@ -1,4 +1,4 @@
-use Rattle.basic_solve.proofs.Common.{arith, ap, sym, ◌≡◌, ◌∙◌, ◌-◌, ◌++◌, append-nil, get_or, length-map, map}
+use Rattle.basic_solve.proofs.Common.{arith, ap, sym, ◌≡◌, ◌∙◌, ◌-◌, append-nil, get_or, length-map, map}
 use Rattle.std.proofs.lemmas.List.{get_or-map}
 use Rattle.basic_solve.specs.Columns.{turned}
 use Rattle.basic_solve.proofs.ColumnLists.{no_entry, none_before, none_left, step_down}
@@ -9,36 +9,26 @@ use Rattle.basic_solve.proofs.columns.write_column.Goals as goal
 read : (c : After-at-pair) → turned c.at-pair.result
     ≡ get_or (map turned c.args.pairs.now) (c.loop-start.start - 1) no_entry
 read c =
-    let long = length-map c.args.pairs.now turned in
-    let some = c.loop-start-test.true in
-    let low = c.loop-start.invariant.0 in
     ap turned c.at-pair.ensures.value
     ∙ sym (get_or-map turned c.args.pairs.now (c.loop-start.start - 1) no_entry no_entry
-    (omega (arith, long, c.requires.within, some, low)))
+    (omega (arith, length-map c.args.pairs.now turned, c.requires.within, c.loop-start-test.true, c.loop-start.invariant.0)))
 
 pub returns-then-pair-node-clause-left : goal.returns-then-pair-node-clause-left
 returns-then-pair-node-clause-left c =
-    none_before c.args.node (map turned c.args.pairs.now) c.loop-start.start c.args.end no_entry _
-    c.requires c.loop-start.invariant.0 c.loop-start-test.true
+    none_before _ _ _ _ no_entry _ c.requires c.loop-start.invariant.0 c.loop-start-test.true
     (read (goal.at.returns-then-pair-node-clause-left c).After-at-pair) c.if-pair-node.true
 
 pub returns-then-pair-node-clause-column : goal.returns-then-pair-node-clause-column
 returns-then-pair-node-clause-column c =
-    let es = map turned c.args.pairs.now in
-    let left = none_before c.args.node es c.loop-start.start c.args.end no_entry _ c.requires
-    c.loop-start.invariant.0 c.loop-start-test.true
+    let left = none_before _ _ _ _ no_entry _ c.requires c.loop-start.invariant.0 c.loop-start-test.true
     (read (goal.at.returns-then-pair-node-clause-column c).After-at-pair) c.if-pair-node.true in
-    let into = c.loop-start.into.items in
-    sym (append-nil into) ∙ ap (λ l. into ++ l) (sym (none_left c.args.node es c.loop-start.start left))
-    ∙ c.loop-start.invariant.1
+    rw (none_left _ _ _ left, append-nil) at c.loop-start.invariant.1
 
 pub loop-start-preserved : goal.loop-start-preserved
 loop-start-preserved c =
-    let es = map turned c.args.pairs.now in
     let so_far = c.loop-start.invariant in
-    let step = step_down c.args.node es c.loop-start.start c.args.end c.loop-start.into.items _ no_entry
+    let step = step_down c.args.node (map turned c.args.pairs.now) c.loop-start.start c.args.end _ _ no_entry
     c.turned.result (omega (arith, so_far.0, c.requires.within)) c.loop-start-test.true
     (c.turned.ensures ∙ read (goal.at.loop-start-preserved c).After-at-pair)
-    (ap (λ e. e.second) c.turned.ensures ∙ c.if-pair-node.false) c.in_ok-push.ensures.items so_far.1
-    so_far.2 in
+    (ap (λ e. e.second) c.turned.ensures ∙ c.if-pair-node.false) c.in_ok-push.ensures.items so_far.1 so_far.2 in
     (omega (arith, so_far.0), step.0, step.1)

@@ -1,13 +1,11 @@
-use Rattle.basic_solve.proofs.Common.{◌∙◌, [], ap, sym, replicate, subst, All, IsPlaced, AreEntriesOf}
+use Rattle.basic_solve.proofs.Common.{◌∙◌, [], ap, replicate, subst, All, IsPlaced}
 use Rattle.basic_solve.proofs.ColumnLists.{columns-entries}
 use Rattle.basic_solve.proofs.elimination.all_choices.Goals as goal
 
 pub choose_all-requires-clause-held : goal.choose_all-requires-clause-held
 choose_all-requires-clause-held g c =
-    let m = c.args.model.now in
-    let placed = subst (λ w. All (IsPlaced w.nodes) w.entries) c.model.view_is c.model.invariant.placed in
-    subst (AreEntriesOf m.nodes m.entries) (sym c.left-held.ensures)
-    (columns-entries m.nodes m.entries placed)
+    rw c.left-held.ensures
+    (columns-entries _ _ (subst (λ w. All (IsPlaced w.nodes) w.entries) c.model.view_is c.model.invariant.placed))
 
 pub choose_all-requires-clause-waiting : goal.choose_all-requires-clause-waiting
 choose_all-requires-clause-waiting g c =

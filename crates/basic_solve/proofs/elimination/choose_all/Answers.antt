@@ -1,4 +1,4 @@
-use Rattle.basic_solve.proofs.Common.{◌≡◌, ◌-◌, ◌∙◌, ◌∷◌, ◌++◌, [], map, All, ap, sym, arith, subst, map-append, IsPlaced, weight_total, all_bits, IsHandedOn}
+use Rattle.basic_solve.proofs.Common.{◌-◌, ◌∙◌, ◌∷◌, ◌++◌, [], map, All, ap, sym, arith, subst, map-append, IsPlaced, weight_total, all_bits, IsHandedOn}
 use Rattle.basic_solve.proofs.Eliminated.{Eliminated, NextNode, eliminated_at_first, next_node}
 use Rattle.basic_solve.proofs.elimination.choose_all.Given.{Over}
 use Rattle.basic_solve.proofs.elimination.choose_all.Goals.{After-deref-in-loop-step}
@@ -16,11 +16,9 @@ node : (g : Over) (c : After-deref-in-loop-step g)
     c.take_last-in-loop-step.new.self c.deref-in-loop-step.result.now c.list-set.result.now
     (c.model.inside.nodes - 1 - c.loop-step.step)
 node g c =
-    next_node _ _ c.requires.sets _ _ _ _ c.loop-step.invariant _ _ _ _
-    (c.in_ok-take_last.ensures
-    ∙ ap (λ es. c.take_last.new.self ++ es ∷ []) (sym c.deref.ensures.value))
-    (c.take_last-in-loop-step.ensures
-    ∙ ap (λ ts. c.take_last-in-loop-step.new.self ++ ts ∷ []) (sym c.deref-in-loop-step.ensures.value))
+    next_node _ _ c.requires.sets _ _ _ _ _ _
+    (rw (c.in_ok-take_last.ensures, c.take_last-in-loop-step.ensures, ← c.deref.ensures.value, ← c.deref-in-loop-step.ensures.value)
+    at c.loop-step.invariant)
     _ c.list-set.ensures.listed _
     (omega (arith, ap (λ w. w.nodes) c.model.view_is, c.loop-step-test.true))
     _ (ap (λ w. w.kind) c.model.view_is)
@@ -28,15 +26,15 @@ node g c =
 
 pub settle-requires-clause-own : goal.settle-requires-clause-own
 settle-requires-clause-own g c =
-    (node g (goal.at.settle-requires-clause-own g c).After-deref-in-loop-step).entries
+    (node g (goal.at.settle-requires-clause-own g c).After-deref-in-loop-step).node.entries
 
 pub settle-requires-clause-members : goal.settle-requires-clause-members
 settle-requires-clause-members g c =
-    (node g (goal.at.settle-requires-clause-members g c).After-deref-in-loop-step).leads
+    (node g (goal.at.settle-requires-clause-members g c).After-deref-in-loop-step).node.leads
 
 pub settle-requires-clause-passed : goal.settle-requires-clause-passed
 settle-requires-clause-passed g c =
-    (node g (goal.at.settle-requires-clause-passed g c).After-deref-in-loop-step).passed
+    (node g (goal.at.settle-requires-clause-passed g c).After-deref-in-loop-step).node.passed
 
 pub settle-requires-clause-few : goal.settle-requires-clause-few
 settle-requires-clause-few g c =
@@ -58,18 +56,11 @@ pass_table-requires g c =
 
 pub loop-step-preserved : goal.loop-step-preserved
 loop-step-preserved g c =
-    let bits = all_bits c.settle.new.bytes.items in
-    let pushed : map all_bits c.push.new.self ≡ map all_bits c.loop-step.choices ++ bits ∷ []
-    = ap (map all_bits) c.in_ok-push.ensures.pushed
+    let pushed = ap (map all_bits) c.in_ok-push.ensures.pushed
     ∙ map-append all_bits c.loop-step.choices (c.deref-in-loop-step-2.result.now ∷ [])
-    ∙ ap (λ b. map all_bits c.loop-step.choices ++ all_bits b ∷ [])
-    c.deref-in-loop-step-2.ensures.value in
-    let handed =
-    subst
-    (λ vs. IsHandedOn (record { nodes = c.list-set.result.now; values = vs })
-    c.take_last-in-loop-step.new.self c.pass_table.new.waiting)
-    (λ i. map g.T.Number.value (c.replace-values.ensures.value i).items)
-    c.in_ok-pass_table.ensures in
+    ∙ ap (λ b. map all_bits c.loop-step.choices ++ all_bits b ∷ []) c.deref-in-loop-step-2.ensures.value in
+    let handed = subst
+    (λ vs. IsHandedOn (record { nodes = c.list-set.result.now; values = vs }) c.take_last-in-loop-step.new.self c.pass_table.new.waiting)
+    (λ i. map g.T.Number.value (c.replace-values.ensures.value i).items) c.in_ok-pass_table.ensures in
     subst (Eliminated _ _ _ _ _) (sym pushed)
-    ((node g (goal.at.loop-step-preserved g c).After-deref-in-loop-step).next _ bits
-    c.in_ok-settle.ensures _ handed)
+    ((node g (goal.at.loop-step-preserved g c).After-deref-in-loop-step).next _ _ c.in_ok-settle.ensures _ handed)

@@ -1,5 +1,4 @@
-use Rattle.basic_solve.proofs.Common.{◌≡◌, ◌∙◌, ap, arith, length, pos, get_or, to_z, of_z, unsigned_abs, eq-eqb, w128, sum_by, ints, length-replicate, sum_where, step_of}
-use Rattle.basic_solve.proofs.ListSums.{sum_left, sum-at}
+use Rattle.basic_solve.proofs.Common.{◌≡◌, ◌∙◌, ap, arith, length, pos, get_or, to_z, of_z, unsigned_abs, eq-eqb, w128, sum_by, ints, length-replicate, sum_where, step_of, get_or-le-sum_by, sum_by-drop_more}
 use Rattle.basic_solve.proofs.BitTables.{no_entry, written_items, step-size, not_node, none-sum, none-size, step_added, step_kept}
 use Rattle.basic_solve.proofs.elimination.steps.Goals as goal
 use Rattle.basic_solve.proofs.elimination.steps.Goals.{then-entry, else-entry}
@@ -19,7 +18,7 @@ add_for-requires-clause-small c =
     let entries = c.args.entries.now in
     let at = c.loop-entry.entry-index in
     let all = ap (sum_by unsigned_abs) c.deref_mut.ensures.value in
-    let left = sum_left (λ e. unsigned_abs e.weight) entries at no_entry c.loop-entry-test.true in
+    let left = sum_by-drop_more (λ e. unsigned_abs e.weight) entries at no_entry c.loop-entry-test.true in
     let size = step-size c.args.kind c.args.bit (get_or entries at no_entry) in
     omega (arith, ints, all, left, size, ap unsigned_abs c.step_of.ensures)
 
@@ -33,12 +32,12 @@ loop-entry-preserved c =
     let e = get_or entries at no_entry in
     let within = c.loop-entry-test.true in
     let so_far = c.loop-entry.invariant in
-    let left = sum_left (λ e. unsigned_abs e.weight) entries at no_entry within in
+    let left = sum_by-drop_more (λ e. unsigned_abs e.weight) entries at no_entry within in
     let size = step-size kind bit e in
     let into = c.loop-entry.into in
     elim c.if-entry.branch [
       | then-entry w ↦
-          let one = sum-at (λ e. unsigned_abs e.weight) entries at no_entry within in
+          let one = get_or-le-sum_by (λ e. unsigned_abs e.weight) entries at no_entry within in
           let added = to_z w128 (of_z w128 w.step_of.result) in
           let number : added ≡ step_of kind bit e
           = omega (arith, ints, w.step_of.ensures, size, one, c.requires.small) in

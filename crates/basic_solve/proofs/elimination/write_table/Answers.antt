@@ -1,5 +1,5 @@
-use Rattle.basic_solve.proofs.Common.{◌≡◌, ◌+ℤ◌, ◌∙◌, ◌++◌, ◌∷◌, ◌^◌, [], refl, ap, sym, arith, length, map, to_z, of_z, unsigned_abs, w128, sum_by, ints, drop_all, length-map, total_by, IsPassedTo, base_of, most, sum_where, table_energy, value_at}
-use Rattle.basic_solve.proofs.ListSums.{sum_left, total_left}
+use Rattle.basic_solve.proofs.Common.{◌≡◌, ◌+ℤ◌, ◌∙◌, ◌++◌, ◌∷◌, ◌^◌, [], refl, ap, sym, arith, length, map, to_z, of_z, unsigned_abs, w128, sum_by, ints, drop_all, length-map, total_by, IsPassedTo, base_of, most, sum_where, table_energy, value_at, sum_by-drop_more}
+use Rattle.basic_solve.proofs.ListSums.{total_left}
 use Rattle.basic_solve.proofs.BitTables.{written_items, base-small, begun-length, begun_holds, begun-small}
 use Rattle.basic_solve.proofs.PassedTables.{pow-few}
 use Rattle.basic_solve.proofs.elimination.write_table.Goals as goal
@@ -13,43 +13,35 @@ write_doubled-requires-clause-count g c =
 
 pub write_doubled-requires-clause-small : goal.write_doubled-requires-clause-small
 write_doubled-requires-clause-small g c =
-    let b = to_z w128 (of_z w128 c.base.result) in
     let small = base-small c.args.kind c.args.bit c.args.entries.now in
-    let base : b ≡ total_by (base_of c.args.kind c.args.bit) c.args.entries.now
+    let base : to_z w128 (of_z w128 c.base.result) ≡ total_by (base_of c.args.kind c.args.bit) c.args.entries.now
     = omega (arith, ints, c.base.ensures, small, c.requires.light) in
     let steps = ap (sum_by unsigned_abs) c.deref.ensures.value in
     omega (arith, ap unsigned_abs base, small, steps, c.in_ok-steps.ensures.size, c.requires.small)
 
 pub loop-table-init : goal.loop-table-init
 loop-table-init g c =
-    let kind = c.args.kind in
-    let v = c.args.node in
-    let bit = c.args.bit in
     let nodes = c.args.nodes.now in
-    let entries = c.args.entries.now in
     let b = to_z w128 (of_z w128 c.base.result) in
-    let small = base-small kind bit entries in
-    let base : b ≡ total_by (base_of kind bit) entries
+    let small = base-small c.args.kind c.args.bit c.args.entries.now in
+    let base : b ≡ total_by (base_of c.args.kind c.args.bit) c.args.entries.now
     = omega (arith, ints, c.base.ensures, small, c.requires.light) in
-    let steps = c.deref.result.now in
     let same = c.deref.ensures.value in
     let news = c.write_doubled.new.values in
-    let made = map g.T.Number.value news in
     let olds = c.resize.new.values in
     let sized : length news ≡ length olds.items
     = omega (arith, c.write_doubled.auto.values, ap length c.deref_mut.ensures.value) in
-    let all = ap (map g.T.Number.value)
-    (written_items olds.len news olds.items (omega (arith, olds.ok.0)) sized) in
-    let long : length steps ≡ length nodes = ap length same ∙ c.in_ok-steps.ensures.count in
+    let all = ap (map g.T.Number.value) (written_items olds.len news olds.items (omega (arith, olds.ok.0)) sized) in
+    let long : length c.deref.result.now ≡ length nodes = ap length same ∙ c.in_ok-steps.ensures.count in
     let is = c.write_doubled.ensures in
-    let le = begun-small kind v bit nodes entries (b ∷ []) steps made b long refl base is
+    let le = begun-small c.args.kind c.args.node c.args.bit nodes c.args.entries.now (b ∷ []) _ _ b long refl base is
     (omega (arith, ap (sum_by unsigned_abs) same, c.in_ok-steps.ensures.size)) in (
-      ap length all ∙ begun-length kind v bit nodes entries (b ∷ []) steps made b long refl base is,
+      ap length all ∙ begun-length c.args.kind c.args.node c.args.bit nodes c.args.entries.now (b ∷ []) _ _ b long refl base is,
       λ y w.
-          let more = total_by (table_energy (y ++ bit ∷ [])) c.args.tables.now in
+          let more = total_by (table_energy (y ++ c.args.bit ∷ [])) c.args.tables.now in
           ap (λ vs. value_at nodes vs y +ℤ more) all
           ∙ ap (λ s. s +ℤ more)
-          (begun_holds kind v bit nodes entries (b ∷ []) steps made b long refl base is c.requires.own
+          (begun_holds c.args.kind c.args.node c.args.bit nodes c.args.entries.now (b ∷ []) _ _ b long refl base is c.requires.own
           (λ z. ap (sum_where z nodes) same ∙ c.in_ok-steps.ensures.sums z) y w),
       omega (arith, ap most all, le),
     )
@@ -61,9 +53,8 @@ add_table-requires-clause-count g c =
 
 pub add_table-requires-clause-small : goal.add_table-requires-clause-small
 add_table-requires-clause-small g c =
-    let t = c.table-item.result in
     let same = ap (λ l. most (map g.T.Number.value l)) c.deref_mut-in-loop-table.ensures.value in
-    let left = sum_left (λ t. most t.values) c.args.tables.now c.loop-table.table-index t c.loop-table-test.true in
+    let left = sum_by-drop_more (λ t. most t.values) c.args.tables.now c.loop-table.table-index c.table-item.result c.loop-table-test.true in
     omega (arith, same, left, ap (λ t. most t.values) c.table-item.is, c.loop-table.invariant.2, c.requires.small)
 
 pub loop-table-preserved : goal.loop-table-preserved
@@ -91,7 +82,7 @@ loop-table-preserved g c =
           let added = c.in_ok-add_table.ensures.holds c.args.node y passed w in
           let left = total_left f tables at t within in
           omega (arith, ints, new, old, added, left, ap f c.table-item.is, so_far.1 y w),
-      let left = sum_left (λ t. most t.values) tables at t within in
+      let left = sum_by-drop_more (λ t. most t.values) tables at t within in
           let same = ap (λ t. most t.values) c.table-item.is in
           let small = c.in_ok-add_table.ensures.small in
           omega (arith, ap most items, ap most olds, small, left, same, so_far.2),
@@ -99,13 +90,10 @@ loop-table-preserved g c =
 
 pub returns : goal.returns
 returns g c =
-    let none = drop_all c.loop-table.table-index c.args.tables.now
-    (omega (arith, c.loop-table-test.false)) in
+    let none = drop_all c.loop-table.table-index c.args.tables.now (omega (arith, c.loop-table-test.false)) in
     let so_far = c.loop-table.invariant in
     record {
       count = so_far.0;
-      holds = λ y w.
-          let f = table_energy (y ++ c.args.bit ∷ []) in
-          omega (arith, ints, so_far.1 y w, ap (total_by f) none);
+      holds = λ y w. omega (arith, ints, so_far.1 y w, ap (total_by (table_energy (y ++ c.args.bit ∷ []))) none);
       small = omega (arith, so_far.2);
     }

@@ -21,21 +21,15 @@ overflow_add-sum c =
     omega (arith, more (goal.at.overflow_add-sum c).After-unsigned_abs-sum, c.model.invariant.light)
 
 pub loop-i-preserved : goal.loop-i-preserved
-loop-i-preserved c =
-    subst
-    (λ es. (c.loop-i.sum + c.unsigned_abs-sum.result) + weight_total (drop (c.loop-i.i + 1) es)
-    ≡ weight_total es) (ap (λ w. w.entries) c.model.view_is)
-    (more (goal.at.loop-i-preserved c).After-unsigned_abs-sum)
+loop-i-preserved c = rw (← c.model.view_is) (more (goal.at.loop-i-preserved c).After-unsigned_abs-sum)
 
 pub returns-clause-small : goal.returns-clause-small
 returns-clause-small c =
     let ps = c.model.inside.pairs in
-    let is = ap (λ w. w.entries) c.model.view_is in
-    let so_far = subst (λ es. c.loop-i.sum + weight_total (drop c.loop-i.i es) ≡ weight_total es) (sym is)
-    c.loop-i.invariant in
+    let so_far = rw (← c.model.view_is) at c.loop-i.invariant in
     let none = ap weight_total (drop_all c.loop-i.i (map turned ps)
     (omega (arith, c.loop-i-test.false, c.len-i-end.ensures, length-map ps turned))) in
-    let same = ap weight_total is in
+    let same = ap (λ w. weight_total w.entries) c.model.view_is in
     grind (arith, nat_tests)
 
 pub returns-clause-light : goal.returns-clause-light

@@ -2,40 +2,26 @@ use Rattle.basic_solve.proofs.Common.{is_in, true, get_or, ◌≡◌, ◌∙◌,
 use Rattle.basic_solve.specs.Columns.{with_lesser}
 use Rattle.basic_solve.proofs.ColumnLists.{handed_with, length-handed, length-with_lesser}
 use Rattle.basic_solve.proofs.Passing.{member_at}
-use Rattle.basic_solve.proofs.Neighbourhoods.{NextSet, SoFar, so_far_at_first, next_set, neighbourhoods_of, within_width}
+use Rattle.basic_solve.proofs.Neighbourhoods.{NextSet, so_far_at_first, next_set, neighbourhoods_of, within_width}
 use Rattle.basic_solve.proofs.neighbours.push_neighbours.Goals.{After-ascend}
 use Rattle.basic_solve.proofs.neighbours.push_neighbours.Goals as goal
 
 pub loop-step-init : goal.loop-step-init
-loop-step-init c = (
-  c.requires.count,
-  subst (SoFar 16 c.args.model.now 0 (with_lesser c.args.columns.now c.args.passed.now))
-      (sym c.requires.none)
-      (so_far_at_first 16 c.args.model.now (with_lesser c.args.columns.now c.args.passed.now) c.requires.lower),
-)
+loop-step-init c =
+    (c.requires.count, rw c.requires.none (so_far_at_first _ _ _ c.requires.lower))
 
 pub take_lesser-requires-clause-some : goal.take_lesser-requires-clause-some
 take_lesser-requires-clause-some c =
     let s = c.loop-step in
-    omega (
-      arith,
-      s.invariant.1.left,
-      length-with_lesser s.columns s.passed s.invariant.0,
-      c.loop-step-test.true,
-      ap (λ w. w.nodes) c.model.view_is,
-    )
+    omega (arith, s.invariant.1.left, length-with_lesser s.columns s.passed s.invariant.0, c.loop-step-test.true, ap (λ w. w.nodes) c.model.view_is)
 
 -- the node that this step eliminates
 set : (c : After-ascend) → NextSet 16 c.args.model.now c.loop-step.step
     (with_lesser c.take_lesser.new.columns c.take_lesser.new.passed) c.loop-step.sets
     c.ascend.new.list.items
 set c =
-    let s = c.loop-step in
-    let taken = c.take_lesser.new in
-    next_set 16 c.args.model.now s.step (with_lesser s.columns s.passed) (with_lesser taken.columns taken.passed)
-    s.sets taken.room.nodes.items c.ascend.new.list.items
-    (subst (λ w. All (IsPlaced w.nodes) w.entries) c.model.view_is c.model.invariant.placed)
-    s.invariant.1 c.in_ok-take_lesser.ensures.taken c.ascend.ensures.increasing
+    next_set _ _ _ _ _ _ _ _ (subst (λ w. All (IsPlaced w.nodes) w.entries) c.model.view_is c.model.invariant.placed)
+    c.loop-step.invariant.1 c.in_ok-take_lesser.ensures.taken c.ascend.ensures.increasing
     c.ascend.ensures.members
 
 pub overflow_cast-result-then-count-gt-MOST : goal.overflow_cast-result-then-count-gt-MOST

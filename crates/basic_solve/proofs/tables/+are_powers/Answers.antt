@@ -4,6 +4,5 @@ use Rattle.basic_solve.proofs.tables.+are_powers.Goals as goal
 
 pub overflow_add-digit : goal.overflow_add-digit
 overflow_add-digit t c =
-    let digits = c.args.digits.now in
-    let room = digit-room c.args.digit (length digits) 4294967296 c.in-len1-up.len_at_least in
+    let room = digit-room c.args.digit (length _) 4294967296 c.in-len1-up.len_at_least in
     omega (arith, room, c.requires)

@@ -12,11 +12,9 @@ write_moved_places-requires-clause-small t c x =
     omega (arith, room, ap (λ l. get_or l x 0) c.write_places.ensures)
 
 pub returns-in-empty : goal.returns-in-empty
-returns-in-empty t c = begun_places c.args.places.now c.args.steps.now c.in-empty.len_below
-    c.requires.count
+returns-in-empty t c = begun_places _ _ c.in-empty.len_below c.requires.count
 
 pub returns-in-len1-up : goal.returns-in-len1-up
 returns-in-len1-up t c =
-    doubled_joined ◌+◌ (0 ∷ []) c.args.steps.now c.write_places.new.places
-    c.write_moved_places.new.into 0 c.in-len1-up.len_at_least c.write_places.ensures
+    doubled_joined ◌+◌ (0 ∷ []) _ _ _ 0 c.in-len1-up.len_at_least c.write_places.ensures
     c.write_moved_places.ensures

@@ -1,4 +1,4 @@
-use Rattle.basic_solve.proofs.Common.{◌≡◌, ◌+◌, ◌*◌, ◌/◌, ◌<◌, ◌+ℤ◌, ◌∙◌, ap, arith, pos, map, get_or, set, length, length-set, unsigned_abs}
+use Rattle.basic_solve.proofs.Common.{◌≡◌, ◌+◌, ◌*◌, ◌/◌, ◌<◌, ◌+ℤ◌, ◌∙◌, ap, arith, pos, map, get_or, length, length-set, unsigned_abs}
 use Rattle.basic_solve.proofs.TableSizes.{most-at}
 use Rattle.basic_solve.proofs.NumberLists.{value-at, set-next, pair_more}
 use Rattle.basic_solve.proofs.tables.add_twice.Given.{Over}
@@ -37,15 +37,11 @@ second_is : (g : Over) (c : After-index-values-at-in-loop-at g)
     → g.T.Number.value c.index-values-at-in-loop-at.result
     ≡ get_or (map g.T.Number.value c.args.values.now) (2 * c.loop-at.at + 1) (pos 0)
 second_is g c =
-    let value = g.T.Number.value in
     let us = c.loop-at.values in
     let at = c.loop-at.at in
-    let v = c.plus.result in
-    let kept = c.loop-at.invariant.1 (2 * at + 1) (omega arith) in
     let lt : 2 * at + 1 < length us = omega (arith, c.loop-at-test.true, c.loop-at.auto.values) in
-    value-at value (set us (2 * at) v) (2 * at + 1) c.index-values-at-in-loop-at.result
-    (omega (arith, lt, length-set us (2 * at) v)) c.index-values-at-in-loop-at.is
-    ∙ set-next value us (2 * at) v ∙ kept
+    value-at _ _ (2 * at + 1) _ (omega (arith, lt, length-set us (2 * at) c.plus.result)) c.index-values-at-in-loop-at.is
+    ∙ set-next _ us (2 * at) c.plus.result ∙ c.loop-at.invariant.1 (2 * at + 1) (omega arith)
 
 pub plus-requires-in-loop-at : goal.plus-requires-in-loop-at
 plus-requires-in-loop-at g c =
@@ -53,16 +49,13 @@ plus-requires-in-loop-at g c =
 
 pub loop-at-preserved : goal.loop-at-preserved
 loop-at-preserved g c =
-    let value = g.T.Number.value in
-    let vs = c.args.values.now in
     let at = c.loop-at.at in
     let after = (goal.at.loop-at-preserved g c).After-index-values-at-in-loop-at in
     let more = more_is g after in
     let low : 2 * at / 2 ≡ at = omega arith in
     let high : (2 * at + 1) / 2 ≡ at = omega arith in
-    pair_more value vs c.loop-at.values
-    (λ x. get_or (map value vs) x (pos 0)
-    +ℤ get_or (map value c.args.from.now) (c.args.start + x / 2) (pos 0)) at
-    c.plus.result c.plus-in-loop-at.result c.loop-at.auto.values
+    pair_more _ _ _
+    (λ x. get_or (map _ c.args.values.now) x (pos 0)
+    +ℤ get_or (map _ c.args.from.now) (c.args.start + x / 2) (pos 0)) at _ _ c.loop-at.auto.values
     (omega (arith, c.loop-at-test.true)) (cc (c.plus.ensures, first_is g after, more, low))
     (cc (c.plus-in-loop-at.ensures, second_is g after, more, high)) c.loop-at.invariant

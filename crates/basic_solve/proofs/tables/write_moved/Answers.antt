@@ -18,10 +18,8 @@ loop-at-preserved g c =
     let at = c.loop-at.at in
     let there : at < length from = omega (arith, c.loop-at-test.true, c.requires.count) in
     let one = value-at value from at c.index-from-at.result there c.index-from-at.is in
-    value_more value c.args.into.now c.loop-at.into
-    (λ x. get_or (map value from) x (pos 0) +ℤ value c.args.step) at c.plus.result
-    c.loop-at.auto.into c.loop-at-test.true
-    (c.plus.ensures ∙ ap (λ v. v +ℤ value c.args.step) one) c.loop-at.invariant
+    value_more value _ _ (λ x. get_or (map value from) x (pos 0) +ℤ value c.args.step) at _
+    c.loop-at.auto.into c.loop-at-test.true (c.plus.ensures ∙ ap (λ v. v +ℤ value c.args.step) one) c.loop-at.invariant
 
 pub returns : goal.returns
 returns g c =

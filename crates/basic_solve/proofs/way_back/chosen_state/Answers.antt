@@ -1,4 +1,4 @@
-use Rattle.basic_solve.proofs.Common.{[], ◌<◌, ◌≡◌, ◌+◌, ◌-◌, ◌^◌, suc, ◌∙◌, ap, arith, length, map, get_or, false, length-append, length-map, get_or-map, energy, form_of, all_bits, index_of}
+use Rattle.basic_solve.proofs.Common.{[], ◌≡◌, ◌+◌, ◌-◌, ◌^◌, suc, ◌∙◌, ap, arith, length, map, get_or, false, length-append, length-map, get_or-map, energy, form_of, all_bits, index_of}
 use Rattle.basic_solve.proofs.BitPlaces.{bits-length}
 use Rattle.basic_solve.proofs.WayBack.{begun_more, first_least}
 use Rattle.basic_solve.proofs.way_back.chosen_state.Goals as goal
@@ -28,13 +28,11 @@ loop-node-preserved c =
 
 pub bit-requires : goal.bit-requires
 bit-requires c =
-    let m = c.args.model.now in
     let step = c.model.inside.nodes - 1 - c.loop-node.node in
     let nodes = ap (λ w. w.nodes) c.model.view_is in
-    let at : length c.loop-node.y.items + suc step ≡ m.nodes = omega (arith, nodes, c.loop-node.invariant.0) in
+    let at : length c.loop-node.y.items + suc step ≡ c.args.model.now.nodes = omega (arith, nodes, c.loop-node.invariant.0) in
     let choices = c.args.choices.now in
-    let within : step < length choices = omega (arith, at, c.requires.chosen.count, length-map choices all_bits) in
-    let item = ap length (get_or-map all_bits choices step [] [] within) in
+    let item = ap length (get_or-map all_bits choices step [] [] (omega (arith, at, c.requires.chosen.count, length-map choices all_bits))) in
     let listed = ap length c.list-in-loop-node.ensures.listed in
     let count = (c.requires.chosen.each step (omega (arith, at))).count in
     omega (arith, c.index_of-index.ensures.bound, ap (λ l. 2 ^ length l) c.list.ensures.listed, bits-length)

@@ -1,7 +1,5 @@
-use Rattle.run_steps.proofs.Common.{arith, nat_tests, ◌≡◌, Ok, Some, map, string_bytes, subst, text_at, Written, certifying, Refuses}
+use Rattle.run_steps.proofs.Lemmas.{arith, nat_tests, ◌≡◌, Ok, Some, map, string_bytes, subst, text_at, Written, certifying, Refuses, alone_refused, certificate_refuses, certified_meets, proved_files, reads, returned}
 use Rattle.posiform_check.specs.Certificates.{AreOfNodes}
-use Rattle.run_steps.proofs.Certified.{alone_refused, certificate_refuses, certified_meets, proved_files}
-use Rattle.run_steps.proofs.Taking.{reads, returned}
 use Rattle.run_steps.proofs.certificates.take_proof.Goals as goal
 
 pub returns-in_err-certificate-clause-step : goal.returns-in_err-certificate-clause-step

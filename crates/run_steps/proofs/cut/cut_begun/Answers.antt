@@ -1,6 +1,4 @@
-use Rattle.run_steps.proofs.Common.{nat_tests}
-use Rattle.std.proofs.Common.{arith, ◌∙◌}
-use Rattle.run_steps.proofs.Cutting.{cut_none, words_cut}
+use Rattle.run_steps.proofs.Lemmas.{nat_tests, arith, ◌∙◌, cut_none, words_cut}
 use Rattle.run_steps.proofs.cut.cut_begun.Goals as goal
 
 pub feed_rest-requires-clause-cut : goal.feed_rest-requires-clause-cut

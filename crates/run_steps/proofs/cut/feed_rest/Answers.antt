@@ -1,5 +1,4 @@
-use Rattle.run_steps.proofs.Common.{nat_tests, rules, arith, ◌∙◌, length-take}
-use Rattle.run_steps.proofs.Cutting.{cut_more}
+use Rattle.run_steps.proofs.Lemmas.{nat_tests, rules, arith, ◌∙◌, length-take, cut_more}
 use Rattle.run_steps.proofs.cut.feed_rest.Goals as goal
 
 pub feed-requires : goal.feed-requires

@@ -1,5 +1,5 @@
 use Rattle.std.proofs.Common.{string_bytes}
-use Rattle.run_steps.proofs.Cutting.{begun_held}
+use Rattle.run_steps.proofs.Lemmas.{begun_held}
 use Rattle.run_steps.proofs.Ended.{ended_to_end, ended_too_long, ended_fault, ended_taken}
 use Rattle.run_steps.proofs.cut.read_words.Goals as goal
 

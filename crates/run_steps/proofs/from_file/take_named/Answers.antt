@@ -1,6 +1,5 @@
-use Rattle.run_steps.proofs.Taking.{takes_named}
+use Rattle.run_steps.proofs.Lemmas.{string_bytes, map, takes_named}
 use Rattle.run_steps.proofs.from_file.take_named.Goals as goal
-use Rattle.run_steps.proofs.Common.{string_bytes, map}
 
 pub returns-clause-took : goal.returns-clause-took
 returns-clause-took g c =

@@ -1,8 +1,5 @@
-use Rattle.run_steps.proofs.Common.{arith, nat_tests, ◌≡◌, ℕ, refl, ◌∙◌, ap, Bool, Global, Vec, Ok, Some, map, string_bytes, subst, length, IfOk-weaker, text_at, stating, Refuses}
-use Rattle.run_steps.proofs.Certified.{alone_refused, bits_given, bits_refuse, proof_meets, then_returned}
+use Rattle.run_steps.proofs.Lemmas.{arith, nat_tests, ◌≡◌, ℕ, refl, ◌∙◌, ap, Bool, Global, Vec, Ok, Some, map, string_bytes, subst, length, IfOk-weaker, text_at, stating, Refuses, alone_refused, bits_given, bits_refuse, proof_meets, then_returned, may_certificate, may_state, state_alone, state_files_are, reads, returned}
 use Rattle.run_steps.proofs.FilesRead.{refused_first}
-use Rattle.run_steps.proofs.Holding.{may_certificate, may_state, state_alone, state_files_are}
-use Rattle.run_steps.proofs.Taking.{reads, returned}
 use Rattle.run_steps.proofs.last.take_last.Goals as goal
 
 pub returns-in_err-bits-clause-step : goal.returns-in_err-bits-clause-step

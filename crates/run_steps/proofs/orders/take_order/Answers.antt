@@ -1,4 +1,4 @@
-use Rattle.run_steps.proofs.Taking.{reads}
+use Rattle.run_steps.proofs.Lemmas.{reads}
 use Rattle.run_steps.proofs.orders.take_order.Goals as goal
 
 pub returns-clause-refusal : goal.returns-clause-refusal

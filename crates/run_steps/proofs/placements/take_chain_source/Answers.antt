@@ -1,7 +1,5 @@
-use Rattle.std.proofs.Common.{refl}
 use Rattle.model_pipeline.specs.declared.site.ChainSource.TheVariants.{Map}
-use Rattle.run_steps.proofs.Common.{gives, chains_step}
-use Rattle.run_steps.proofs.Taking.{still_refuses, takes_given, takes_none, takes_same}
+use Rattle.run_steps.proofs.Lemmas.{gives, chains_step, refl, still_refuses, takes_given, takes_none, takes_same}
 use Rattle.run_steps.proofs.placements.take_chain_source.Goals as goal
 
 pub returns-in-Clique : goal.returns-in-Clique

@@ -1,7 +1,5 @@
-use Rattle.std.proofs.Common.{refl}
 use Rattle.run_steps.specs.declared.placements.Placement.TheVariants.{Qubits}
-use Rattle.run_steps.proofs.Common.{gives, placing}
-use Rattle.run_steps.proofs.Taking.{still_refuses, takes_given, takes_none, takes_same}
+use Rattle.run_steps.proofs.Lemmas.{gives, placing, refl, still_refuses, takes_given, takes_none, takes_same}
 use Rattle.run_steps.proofs.placements.take_placement.Goals as goal
 
 pub returns-in-Nodes : goal.returns-in-Nodes

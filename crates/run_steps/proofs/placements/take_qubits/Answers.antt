@@ -1,7 +1,5 @@
-use Rattle.std.proofs.Common.{refl}
 use Rattle.model_pipeline.specs.declared.site.Qubits.TheVariants.{Working}
-use Rattle.run_steps.proofs.Common.{gives, surveying}
-use Rattle.run_steps.proofs.Taking.{still_refuses, takes_given, takes_none, takes_same}
+use Rattle.run_steps.proofs.Lemmas.{gives, surveying, refl, still_refuses, takes_given, takes_none, takes_same}
 use Rattle.run_steps.proofs.placements.take_qubits.Goals as goal
 
 pub returns-in-None : goal.returns-in-None

@@ -1,5 +1,4 @@
-use Rattle.run_steps.proofs.Common.{refl, List, ℕ, map, string_bytes, NamedFiles, Board, Qubits, ChainSource, Site, Steps, ◌>>=◌, gives, chains_step, siting}
-use Rattle.run_steps.proofs.Taking.{first_refuses, still_refuses, takes_given, then_takes}
+use Rattle.run_steps.proofs.Lemmas.{refl, List, ℕ, map, string_bytes, NamedFiles, Board, Qubits, ChainSource, Site, Steps, ◌>>=◌, gives, chains_step, siting, first_refuses, still_refuses, takes_given, then_takes}
 use Rattle.run_steps.proofs.placements.take_site.Goals as goal
 
 -- the site of these qubits and chains

@@ -1,5 +1,4 @@
-use Rattle.run_steps.proofs.Common.{string_bytes, map, arith, nat_tests, refl, List, ℕ, Command, NamedFiles, Read, Placement, Plan, Steps, ◌>>=◌, gives, placing, planning}
-use Rattle.run_steps.proofs.Taking.{refuses, source_refuses, source_then, still_refuses, takes_given}
+use Rattle.run_steps.proofs.Lemmas.{string_bytes, map, arith, nat_tests, refl, List, ℕ, Command, NamedFiles, Read, Placement, Plan, Steps, ◌>>=◌, gives, placing, planning, refuses, source_refuses, source_then, still_refuses, takes_given}
 use Rattle.run_steps.proofs.plans.take_plan.Goals as goal
 
 -- the plan of what is read, on what it stands

@@ -1,5 +1,4 @@
-use Rattle.run_steps.proofs.Common.{◌≡◌, sym, ap, ◌∙◌, sample_text, problem_of}
-use Rattle.command_words.specs.declared.commands.Format.TheVariants.{Wcnf}
+use Rattle.run_steps.proofs.Common.{◌≡◌, sym, ap, ◌∙◌, sample_text, problem_of, Wcnf}
 use Rattle.run_steps.proofs.Sampled.{drawn_is_read}
 use Rattle.run_steps.proofs.sources.read_drawn.Goals as goal
 

@@ -1,10 +1,5 @@
-use Rattle.run_steps.proofs.Common.{reading_file, checking_file, Some, Ok, ◌≡◌, arith, nat_tests, refl, Err}
-use Rattle.command_words.specs.declared.names.Which.TheVariants.{Source}
-use Rattle.run_steps.specs.declared.status.Status.TheVariants.{Limit}
-use Rattle.run_steps.proofs.Holding.{told_then}
+use Rattle.run_steps.proofs.Lemmas.{reading_file, checking_file, Some, Ok, ◌≡◌, arith, nat_tests, refl, Err, Source, Limit, told_then, file_ends, file_refuses, limited_is, limited_not, returned}
 use Rattle.run_steps.proofs.Refusals.{limits_refused}
-use Rattle.run_steps.proofs.Sourced.{file_ends, file_refuses, limited_is, limited_not}
-use Rattle.run_steps.proofs.Taking.{returned}
 use Rattle.run_steps.proofs.sources.take_file.Goals as goal
 
 pub returns-in_err-own-clause-took : goal.returns-in_err-own-clause-took

@@ -1,6 +1,4 @@
-use Rattle.run_steps.proofs.Common.{words_of}
-use Rattle.run_steps.proofs.Cutting.{read_from_words, read_refused}
-use Rattle.run_steps.proofs.Taking.{judged_meets, judged_passes, returned}
+use Rattle.run_steps.proofs.Lemmas.{words_of, read_from_words, read_refused, judged_meets, judged_passes, returned}
 use Rattle.run_steps.proofs.sources.take_read.Goals as goal
 
 pub returns-in_err-text-clause-took : goal.returns-in_err-text-clause-took

@@ -1,6 +1,4 @@
-use Rattle.run_steps.proofs.Common.{arith, nat_tests, refl}
-use Rattle.run_steps.proofs.Sourced.{drawn_is_checked, file_is_checked}
-use Rattle.run_steps.proofs.Taking.{takes_none, takes_same}
+use Rattle.run_steps.proofs.Lemmas.{arith, nat_tests, refl, drawn_is_checked, file_is_checked, takes_none, takes_same}
 use Rattle.run_steps.proofs.sources.take_source.Goals as goal
 
 pub returns-in_ok-read-in-Drawn-clause-took : goal.returns-in_ok-read-in-Drawn-clause-took

@@ -1,6 +1,4 @@
-use Rattle.run_steps.proofs.Common.{State, Global, Vec, taking, last_files, text_at, name_of, ℕ, map, string_bytes}
-use Rattle.run_steps.proofs.Holding.{has_states}
-use Rattle.run_steps.proofs.Taking.{takes_alone}
+use Rattle.run_steps.proofs.Lemmas.{State, Global, Vec, taking, last_files, text_at, name_of, ℕ, map, string_bytes, has_states, takes_alone}
 use Rattle.run_steps.proofs.states.take_states.Goals as goal
 
 pub returns-clause-refused : goal.returns-clause-refused

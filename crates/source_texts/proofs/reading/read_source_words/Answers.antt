@@ -1,18 +1,11 @@
 -- What the reader of a format makes of words is what they are read into.
-use Rattle.source_texts.proofs.Common.{rules, ◌≡◌, List, Result, Ok, sym, ap, subst, ◌∙◌, TextAnswer, TextFault, Word, Gives, words_of, Format, Read, problem_of_words, arith, nat_tests}
+use Rattle.source_texts.proofs.Common.{rules, ◌≡◌, List, Result, Ok, ap, ◌∙◌, TextFault, Word, words_of, Format, Read, problem_of_words, arith, nat_tests}
 use Rattle.source_texts.proofs.WcnfTexts.{wcnf_words}
 use Rattle.source_texts.proofs.OpbTexts.{opb_words}
 use Rattle.source_texts.proofs.WboTexts.{wbo_words}
 use Rattle.source_texts.proofs.PolyTexts.{poly_words}
 use Rattle.source_texts.proofs.EntryTexts.{ising_words, qubo_words}
 use Rattle.source_texts.proofs.reading.read_source_words.Goals as goal
-
--- words of this format are read into what its reader makes of them
-as_read : (result : Result Read TextAnswer) (format this : Format) (ws : List Word)
-    (read : Result Read TextFault) → format ≡ this → problem_of_words this ws ≡ read
-    → Gives (λ r. r) result read → Gives (λ r. r) result (problem_of_words format ws)
-as_read result format this ws read is same gives =
-    subst (Gives (λ r. r) result) (sym (ap (λ f. problem_of_words f ws) is ∙ same)) gives
 
 is_read : (format this : Format) (ws : List Word) (read : Result Read TextFault) (x : Read)
     → format ≡ this → problem_of_words this ws ≡ read → read ≡ Ok x

@@ -1,4 +1,4 @@
-use Rattle.whole_text.proofs.Common.{nat_tests, ℕ, List, ◌+◌, ◌++◌, [], map, sym, ap, ◌∙◌, arith, slice_range, flat_map, append-nil, Token, Word, word, word_at, pieces, pieces_of_line}
+use Rattle.whole_text.proofs.Common.{nat_tests, ℕ, List, ◌+◌, ◌++◌, map, sym, ap, ◌∙◌, arith, slice_range, flat_map, append-nil, Token, Word, word, word_at, pieces, pieces_of_line}
 use Rattle.whole_text.proofs.Slices.{slice_length, slice_none}
 use Rattle.whole_text.proofs.Order.{order_wider, order_pushed}
 use Rattle.whole_text.proofs.LineWords.{skipped, comment_line, other_line, token_taken, words_none}

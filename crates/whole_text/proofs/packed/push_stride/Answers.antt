@@ -1,4 +1,4 @@
-use Rattle.whole_text.proofs.Common.{nat_tests, arith, [], ne_eqb}
+use Rattle.whole_text.proofs.Common.{nat_tests, arith, ne_eqb}
 use Rattle.whole_text.proofs.Strides.{strides_mark, stride_again, wide_marks-push}
 use Rattle.whole_text.proofs.packed.push_stride.Goals as goal
 

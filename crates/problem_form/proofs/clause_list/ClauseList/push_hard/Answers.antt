@@ -1,4 +1,4 @@
-use Rattle.problem_form.proofs.Lemmas.{nat_tests, [], arith, length-append, by_result, on_ok, weighed_clauses-hard}
+use Rattle.problem_form.proofs.Lemmas.{nat_tests, arith, length-append, by_result, on_ok, weighed_clauses-hard}
 use Rattle.problem_form.proofs.clause_list.ClauseList.push_hard.Goals as goal
 
 pub invariant_of-self : goal.invariant_of-self

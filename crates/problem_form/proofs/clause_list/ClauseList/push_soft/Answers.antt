@@ -10,8 +10,7 @@ returns-clause-pushed c =
     let count = length held - length ns in
     let filled = ns ++ replicate count 0 in
     let lists : c.push.new.self ≡ held ++ ls ∷ [] = search rules in
-    let weights : c.push_weight.new.numbers.items ≡ filled ++ w ∷ [] =
-    c.in_ok-push_weight.ensures.pushed
+    let weights = c.in_ok-push_weight.ensures.pushed
     ∙ ap (λ (n : ℕ). (ns ++ replicate (n - length ns) 0) ++ w ∷ []) c.len.ensures in
     let same : length filled ≡ length held =
     omega (arith, c.self.invariant, length-append ns (replicate count 0), length-replicate {A = ℕ} count 0) in

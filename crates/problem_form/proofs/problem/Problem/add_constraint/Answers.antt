@@ -1,4 +1,4 @@
-use Rattle.problem_form.proofs.Lemmas.{◌+◌, List, [], ◌∷◌, ◌++◌, Constraint, IsSound, content_within, normal_constraint, with_constraint, by_result, at_view, with_constraint-sound}
+use Rattle.problem_form.proofs.Lemmas.{List, [], ◌∷◌, ◌++◌, Constraint, IsSound, content_within, normal_constraint, with_constraint, by_result, at_view, with_constraint-sound}
 use Rattle.problem_form.proofs.problem.Problem.add_constraint.Goals as goal
 
 pub invariant_of-self : goal.invariant_of-self

@@ -1,19 +1,16 @@
-use Rattle.problem_form.proofs.Lemmas.{◌≡◌, ◌+◌, ◌<◌, ◌^◌, ◌+ℤ◌, to_z, of_z, pos, subst, sym, ap, ◌∙◌, ◌++◌, arith, w128, ints, Clause, IsSound, content_within, clause_constant, kept_clause, weight_constant, ProblemContent, problem_total, soft_weight, with_clause, kept_clause-size, with_clause-sound, at_view}
+use Rattle.problem_form.proofs.Lemmas.{◌≡◌, ◌+◌, ◌<◌, ◌^◌, ◌+ℤ◌, to_z, of_z, subst, sym, ap, ◌∙◌, arith, w128, ints, Clause, IsSound, content_within, clause_constant, weight_constant, ProblemContent, problem_total, soft_weight, with_clause, kept_clause-size, with_clause-sound, at_view}
 use Rattle.problem_form.proofs.problem.Problem.add_literals.Goals as goal
 
 pub invariant_of-self-2 : goal.invariant_of-self-2
 invariant_of-self-2 c =
     let p = content_within c.self.inside in
     let written : Clause = record { literals = c.args.literals.now.items; weight = c.args.weight } in
-    let Fits : ProblemContent → Type 0 = λ f. problem_total f + soft_weight written < 2 ^ 100 in
-    let small : Fits p = subst Fits (sym c.self.view_is) c.requires.small in
-    let added : pos c.weight_constant-constant.result ≡ clause_constant written =
-    c.weight_constant-constant.ensures ∙ ap (weight_constant c.args.weight) c.deref.ensures.value in
+    let small = subst (λ (f : ProblemContent). problem_total f + soft_weight written < 2 ^ 100) (sym c.self.view_is) c.requires.small in
+    let added = c.weight_constant-constant.ensures ∙ ap (weight_constant c.args.weight) c.deref.ensures.value in
     let constant : to_z w128 (of_z w128 (to_z w128 (of_z w128 p.constant)
     +ℤ to_z w128 (of_z w128 c.from.result))) ≡ p.constant +ℤ clause_constant written =
     omega (arith, ints, added, c.from.ensures, kept_clause-size written, small) in
-    let clauses : c.keep_clause-kept.new.clauses ≡ p.clauses ++ kept_clause written = c.in_ok-kept.ensures.kept in
     let Sound : ProblemContent → Type 0 = IsSound in
-    subst Sound (λ i. record p { constant = sym constant i; clauses = sym clauses i })
+    subst Sound (λ i. record p { constant = sym constant i; clauses = sym c.in_ok-kept.ensures.kept i })
     (at_view (λ q. IsSound (with_clause q written)) p _ c.self.view_is
     (λ s. with_clause-sound _ written s c.requires.within c.requires.small) c.self.invariant)

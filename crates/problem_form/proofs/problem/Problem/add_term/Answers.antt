@@ -5,18 +5,15 @@ pub invariant_of-self-2 : goal.invariant_of-self-2
 invariant_of-self-2 c =
     let p = content_within c.self.inside in
     let written : Product = record { literals = c.args.literals.now.items; coefficient = c.args.coefficient } in
-    let Fits : ProblemContent → Type 0 = λ f. problem_total f + unsigned_abs written.coefficient < 2 ^ 100 in
-    let small : Fits p = subst Fits (sym c.self.view_is) c.requires.small in
+    let small = subst (λ (f : ProblemContent). problem_total f + unsigned_abs written.coefficient < 2 ^ 100) (sym c.self.view_is) c.requires.small in
     let same : to_z w128 (of_z w128 c.args.coefficient) ≡ c.args.coefficient = omega (arith, ints) in
     let count : c.len.result ≡ length written.literals = search rules in
-    let added : c.coefficient_constant-constant.result ≡ product_constant written =
     let empty = ap (λ n. eqb n 0) count ∙ is_empty-length written.literals in
-    c.coefficient_constant-constant.ensures ∙ (λ i. cond (empty i) (same i) (pos 0)) in
+    let added = c.coefficient_constant-constant.ensures ∙ (λ i. cond (empty i) (same i) (pos 0)) in
     let constant : to_z w128 (of_z w128 (to_z w128 (of_z w128 p.constant)
     +ℤ to_z w128 (of_z w128 c.coefficient_constant-constant.result))) ≡ p.constant +ℤ product_constant written =
     omega (arith, ints, added, kept_product-size written, small) in
-    let objective : c.keep_product-kept.new.products ≡ p.objective ++ kept_product written =
-    c.in_ok-kept.ensures.kept
+    let objective = c.in_ok-kept.ensures.kept
     ∙ (λ i. p.objective ++ kept_product (record { literals = written.literals; coefficient = same i })) in
     let Sound : ProblemContent → Type 0 = IsSound in
     subst Sound (λ i. record p { constant = sym constant i; objective = sym objective i })

@@ -1,10 +1,6 @@
-use Rattle.run_steps.proofs.Common.{judged, Meets, cutting, Some, Ok, ◌≡◌, ℕ, Global, Vec, tokens_of, words_of, ends, text_end, ordered}
+use Rattle.run_steps.proofs.Lemmas.{judged, Meets, cutting, Some, Ok, ◌≡◌, ℕ, Global, Vec, tokens_of, words_of, ends, text_end, ordered, Order, cut_next, cut_refuses, told_then, judged_meets, judged_passes, returned}
 use Rattle.whole_text.specs.declared.token.Style.TheVariants.{Plain}
-use Rattle.command_words.specs.declared.names.Which.TheVariants.{Order}
 use Rattle.elimination_order.specs.Orders.{order_of}
-use Rattle.run_steps.proofs.Cutting.{cut_next, cut_refuses}
-use Rattle.run_steps.proofs.Holding.{told_then}
-use Rattle.run_steps.proofs.Taking.{judged_meets, judged_passes, returned}
 use Rattle.run_steps.proofs.orders.VecU64FromFile.take.Goals as goal
 
 pub returns-in_err-text-clause-took : goal.returns-in_err-text-clause-took

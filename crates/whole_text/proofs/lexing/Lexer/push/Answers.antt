@@ -1,4 +1,4 @@
-use Rattle.whole_text.proofs.Common.{nat_tests, [], arith, drop-append-le, length-append}
+use Rattle.whole_text.proofs.Common.{nat_tests, arith, drop-append-le, length-append}
 use Rattle.whole_text.proofs.LexerFields.{words_kept, starts_within, begun_held}
 use Rattle.whole_text.proofs.lexing.Lexer.push.Goals as goal
 

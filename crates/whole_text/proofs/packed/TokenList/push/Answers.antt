@@ -1,4 +1,4 @@
-use Rattle.whole_text.proofs.Common.{nat_tests, arith, rules, ◌-◌, [], strides}
+use Rattle.whole_text.proofs.Common.{nat_tests, arith, rules, ◌-◌, strides}
 use Rattle.whole_text.proofs.Strides.{token_along, last_placed, placed-push, lines_along-push, joined_bytes}
 use Rattle.whole_text.proofs.packed.TokenList.push.Goals as goal
 
