@@ -1,5 +1,5 @@
 -- The parts of a list of codes, as literals: the part at a place, and one more part.
-use Rattle.literal_lists.proofs.Common.{nat_tests, ◌≡◌, ℕ, ◌+◌, ◌<◌, List, [], ◌∷◌, ◌++◌, length, map, get_or, refl, Some, arith, slice_get, slice_range, slice_get-map, map-append, AreEnds, start_of, parts-at, pushed, Literal, literal_parts, literal_of, code_of}
+use Rattle.literal_lists.proofs.Common.{nat_tests, ◌≡◌, ℕ, ◌<◌, List, [], ◌∷◌, ◌++◌, length, map, get_or, refl, Some, arith, slice_get, slice_range, slice_get-map, map-append, AreEnds, start_of, parts-at, pushed, Literal, literal_parts, literal_of, code_of}
 
 pub literal_parts-at : (codes ends : List ℕ) (i : ℕ) → i < length ends
     → slice_get (literal_parts codes ends) i

@@ -1,8 +1,8 @@
 -- What the proofs of this crate stand on, of std and of the crates below.
-pub use Rattle.std.proofs.Common.{◌≡◌, ℕ, ◌+◌, Bool, true, false, ◌<◌, List, [], ◌∷◌, ◌++◌, length, map, get_or, refl, ap, ◌∙◌, Some, arith, suc, ◌-◌, sym, take, drop, drop-cons, add-one, ◌≢◌, zero, ◌≤◌, ◌&&◌, ◌||◌, eqb, not, ◌⊎◌, inl, inr, Less, Equal, Greater, rules}
+pub use Rattle.std.proofs.Common.{◌≡◌, ℕ, ◌+◌, Bool, true, false, ◌<◌, List, [], ◌∷◌, ◌++◌, length, map, get_or, refl, ap, ◌∙◌, Some, arith, suc, ◌-◌, sym, take, drop, drop-cons, add-one, ◌≢◌, zero, ◌≤◌, ◌&&◌, ◌||◌, eqb, not, ◌⊎◌, inl, inr, Less, Equal, Greater, rules, append_assoc}
 pub use Rattle.std.specs.List.{slice_get, slice_range, dedup, AllAdjacentBelow, AllByRecursion, list_any, list_all}
 pub use Rattle.std.proofs.lemmas.Option.{slice_get-map, slice_get_within, get_or_from_slice_get}
-pub use Rattle.std.proofs.lemmas.List.{map-append, get_or_default, length-map}
+pub use Rattle.std.proofs.lemmas.List.{map-append, get_or_default, length-map, take_at, take_more}
 pub use Rattle.base.specs.FlatLists.{parts, AreEnds, start_of}
 pub use Rattle.base.proofs.FlatParts.{parts-at, pushed, length-parts, parts-map, part_lies}
 pub use Rattle.literal_lists.specs.declared.literal.Literal.{Literal}
@@ -24,3 +24,6 @@ pub use Rattle.literal_lists.specs.Literals.{literal_cmp, with_literal, literal_
 pub use Rattle.std.proofs.lemmas.List.Filters.{dedup_is}
 pub use Rattle.std.proofs.lemmas.Grind.{elements}
 pub use Rattle.std.proofs.lemmas.Bool.Decides.{nat_tests}
+pub use Rattle.std.proofs.lemmas.Map.Iter.{rest_more}
+pub use Rattle.std.specs.Cmp.Lexicographic.{slice_cmp}
+pub use Rattle.std.specs.Ordering.{nat_cmp}

@@ -1,4 +1,5 @@
 pub mod Common
+pub mod CodeOrder
 pub mod LentParts
 pub mod LiteralSets
 pub mod CodedParts

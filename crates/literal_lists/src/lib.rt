@@ -11,5 +11,6 @@ mod wide_lists;
 pub use literal::{Literal, LiteralList, all_hold};
 pub use literal_lists::LiteralLists;
 pub use literals::Literals;
+pub use narrow_lists::{append_codes, code_of};
 pub use sets::{clashes, make_set};
 pub use wide_lists::WideLists;

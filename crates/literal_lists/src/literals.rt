@@ -1,9 +1,12 @@
 //! Literals that are lent from a list.
-ghost use Rattle.std.specs.Prelude.{◌≡◌, OnOk, length};
+ghost use Rattle.std.specs.Prelude.{◌≡◌, OnOk, length, map};
+ghost use Rattle.std.specs.Cmp.Lexicographic.{slice_cmp};
 ghost use Rattle.literal_lists.specs.Codes.{literal_of};
+ghost use Rattle.literal_lists.specs.Literals.{literal_cmp};
 
 use crate::literal::Literal;
 use base::NoMemory;
+use std::cmp::Ordering;
 use std::marker::Model;
 use std::slice;
 
@@ -41,6 +44,32 @@ impl<'a> Model for Literals<'a> {
     ghost view = { λ a. literals_held a.held };
 }
 
+/// The order of lists of literals as codes, which is that of the codes.
+fn compared_codes(left: &[u32], right: &[u32]) -> Ordering
+    ensures { result ≡ slice_cmp literal_cmp (map literal_of left.now) (map literal_of right.now) }
+{
+    left.cmp(right)
+}
+
+/// The order of two lists, literal by literal.
+fn compared_one_by_one(left: Literals<'_>, mut right: Literals<'_>) -> Ordering
+    ensures { result ≡ slice_cmp literal_cmp left.entry right.entry }
+{
+    for literal in left {
+        match right.next() {
+            None => return Ordering::Greater,
+            Some(other) => match literal.cmp(&other) {
+                Ordering::Equal => {}
+                order => return order,
+            },
+        }
+    }
+    match right.next() {
+        None => Ordering::Equal,
+        Some(_) => Ordering::Less,
+    }
+}
+
 impl<'a> Literals<'a> {
     /// How many are left.
     pub fn len(&self) -> usize
@@ -49,6 +78,18 @@ impl<'a> Literals<'a> {
         match &self.held {
             HeldLiterals::Codes(rest) => rest.len(),
             HeldLiterals::Listed(rest) => rest.len(),
+        }
+    }
+
+    /// The order of two lists, by their first difference. A proper prefix stands first.
+    pub fn compared(self, other: Literals<'_>) -> Ordering
+        ensures { result ≡ slice_cmp literal_cmp self.entry other.entry }
+    {
+        match (&self.held, &other.held) {
+            (HeldLiterals::Codes(left), HeldLiterals::Codes(right)) => {
+                compared_codes(left.as_slice(), right.as_slice())
+            }
+            _ => compared_one_by_one(self, other),
         }
     }
 

@@ -15,7 +15,7 @@ use std::marker::Model;
 const CODED_VARIABLES: u64 = 1 << 31;
 
 /// Twice the variable, and one more where it is negated.
-fn code_of(literal: Literal) -> u32
+pub fn code_of(literal: Literal) -> u32
     requires { literal.variable < 2 ^ 31 }
     ensures { result ≡ code_of literal }
 {
@@ -24,7 +24,7 @@ fn code_of(literal: Literal) -> u32
 
 /// Appends the codes of literals. Where memory is refused the codes stay as they were.
 #[inline(always)]
-fn append_codes(codes: &mut Vec<u32>, literals: &[Literal]) -> Result<(), NoMemory>
+pub fn append_codes(codes: &mut Vec<u32>, literals: &[Literal]) -> Result<(), NoMemory>
     requires { All (λ l. l.variable < 2 ^ 31) literals.now }
     ensures appended { OnOk result (codes.new.items ≡ codes.old.items ++ map code_of literals.now) }
     ensures unchanged { OnErr result (codes.new.items ≡ codes.old.items) }

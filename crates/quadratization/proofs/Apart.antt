@@ -47,9 +47,6 @@ pub share-plus : (ks ls : List Literal) (c d : ℤ)
 share-plus [] ls c d = omega (arith, ints, if_so-plus (is_eq (set_cmp ls [])) c d)
 share-plus (k ∷ ks) ls c d = share-step k ks ls c d (share-plus ks)
 
-pub share-additive : (ls : List Literal) → IsAdditive (share_of ls)
-share-additive ls = λ ks c d. share-plus ks ls c d
-
 -- term by term
 pub sum_for-given : (ls : List Literal) (ts : List Term) → sum_for ls ts ≡ given (share_of ls) ts
 sum_for-given ls ts = grind (arith, nat_tests, total_by-flat_map)
@@ -58,7 +55,8 @@ sum_for-given ls ts = grind (arith, nat_tests, total_by-flat_map)
 pub sum_for-with_additions : (ls : List Literal) (ts : List Term)
     → sum_for ls (with_additions [] ts) ≡ sum_for ls ts
 sum_for-with_additions ls ts =
-    grind (arith, nat_tests, sum_for-given, given-with_additions, share-additive)
+    sum_for-given ls (with_additions [] ts) ∙ given-with_additions (share_of ls) (λ ks. share-plus ks ls) ts
+    ∙ sym (sum_for-given ls ts)
 
 -- Short and long terms apart: the long ones of a table are the table of the long additions, and they
 -- alone have new nodes.

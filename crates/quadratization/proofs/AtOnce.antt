@@ -2,7 +2,7 @@
 --
 -- The constant, the weight of each node and the sum of each pair of the image are what the parts
 -- give; couplers in order, none of them 0, are told by the sums of their pairs.
-use Rattle.quadratization.proofs.Common.{nat_tests, ◌≡◌, inl, inr, ℕ, ◌+◌, ◌*◌, ◌<◌, ◌≤◌, ◌^◌, arith, sym, ◌∙◌, refl, subst, List, [], ◌∷◌, length, get_or, pos, AllByRecursion, ints, cases_lt, same_lists, get_or_default, get_or-replicate, length-replicate, recursion_from_All, Entry, Literal, coefficient_of, terms_total, with_additions, TableContent, AreAdditions, table_size, coefficient_of-with_additions, node, IsLow-image, size-image, QuadContent, quad_total, quad_size, IsCoupler, IsQuad, zero_quad, weight_at, flat_sets, length-image, quad_total-image, quad_size-image, rising_from_ordered, couplers_are_pairs, nonzero_couplers, constant-fold, node-fold, pair-fold, IsQuad-image, same_entries, table_of, image, all_nodes, parts, sum_for, GivesSums, IsWithin, low_of, IsTable-low_of, total-low_of, share_at-append, ℤ, eqb, flat_map, flat_map-append, total_by, if_so, total_by-append, total_by-flat_map, Term, new_nodes, new_terms, all_new_terms, weight_for, short_couplers, Share, share_at, short_shares, short_constant-is, short_shares-are, short_couplers-are, short_terms, long_terms, place_couplers, all_shares, long_constant, all_places, constant_of, shares_of, couplers_of, IsSumOf, Amount, given}
+use Rattle.quadratization.proofs.Common.{nat_tests, ◌≡◌, inl, inr, ℕ, ◌+◌, ◌*◌, ◌<◌, ◌≤◌, ◌^◌, arith, sym, ◌∙◌, refl, subst, List, [], ◌∷◌, length, get_or, pos, AllByRecursion, ints, cases_lt, same_lists, get_or_default, get_or-replicate, length-replicate, recursion_from_All, Entry, Literal, coefficient_of, terms_total, with_additions, TableContent, AreAdditions, coefficient_of-with_additions, node, IsLow-image, QuadContent, IsCoupler, IsQuad, zero_quad, weight_at, flat_sets, length-image, rising_from_ordered, couplers_are_pairs, nonzero_couplers, constant-fold, node-fold, pair-fold, IsQuad-image, same_entries, table_of, image, all_nodes, parts, sum_for, GivesSums, IsWithin, low_of, IsTable-low_of, total-low_of, share_at-append, ℤ, eqb, flat_map, flat_map-append, total_by, if_so, total_by-append, total_by-flat_map, Term, new_nodes, new_terms, all_new_terms, weight_for, short_couplers, Share, share_at, short_shares, short_constant-is, short_shares-are, short_couplers-are, short_terms, long_terms, place_couplers, all_shares, long_constant, all_places, constant_of, shares_of, couplers_of, IsSumOf, Amount, given}
 use Rattle.term_table.specs.MultipliedOut.{contributions}
 use Rattle.quadratization.proofs.Apart.{sum_for-with_additions, nodes-table, parts-give, short_terms-short, long_terms-long, share_of, sum_for-given, sum_for-append}
 use Rattle.quadratization.proofs.LongTerms.{constants_close, shares_close, couplers_close}
@@ -10,17 +10,6 @@ use Rattle.quadratization.proofs.LongTerms.{constants_close, shares_close, coupl
 -- the nodes of all parts
 pub width-low_of : (t : TableContent) → (low_of t).width ≡ all_nodes t
 width-low_of t = nodes-table t
-
--- ---- how large the form is
-
-pub total-grows : (t : TableContent) → AreAdditions t
-    → quad_total (image t) + 1 ≤ (terms_total t.terms + 1) * 2 ^ 26
-total-grows t additions =
-    omega (arith, quad_total-image (low_of t) (IsLow-image (table_of t)), total-low_of t additions)
-
-pub size-grows : (t : TableContent) → quad_size (image t) ≤ table_size (table_of t) * 2 ^ 3
-size-grows t =
-    omega (arith, quad_size-image (low_of t) (IsLow-image (table_of t)), size-image (table_of t))
 
 -- ---- the sums of the image
 

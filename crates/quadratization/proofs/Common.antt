@@ -37,7 +37,7 @@ pub use Rattle.rosenberg_layer.proofs.Turns.{excess-size, width-pairs}
 pub use Rattle.std.proofs.lemmas.Option.{slice_get_within, get_or_from_slice_get, slice_get-map, slice_get-get_or}
 pub use Rattle.std.proofs.Math.Nat.{mul-le-mul, mul-le-mul_left, mul-le-mul_right}
 pub use Rattle.monomial_layer.specs.laws.Positive.{factor_cases, pairs, pairs_is}
-pub use Rattle.quad_form.proofs.HeldSums.{gain-both, length-widened, value-widened, size-with_weight, size-zeros, size-widened}
+pub use Rattle.quad_form.proofs.HeldSums.{gain-one, gain-both, length-widened, value-widened, size-with_weight, size-zeros, size-widened}
 pub use Rattle.quadratization.specs.Long.{AreLong, node_at, terms_of, node_count, product_term, IsPlaceOf, place_nodes, additions_at, set_at, summed_term, sums_with, first_nodes, addition_at, key_for, triple_key, code_of, IsCoded, IsNextSum}
 pub use Rattle.quadratization.specs.Held.{shares_total, HeldContent, AreHeld, HasPlaces, IsHeld, held_of, Gains}
 pub use Rattle.quadratization.specs.Rows.{AreRows, AreFromRow, row_of, IsRow}
@@ -68,3 +68,4 @@ pub use Rattle.quadratization.specs.declared.additions.Keyed.{Keyed}
 pub use Rattle.quadratization.specs.declared.additions.KeyLength.{KeyLength}
 pub use Rattle.std.proofs.lemmas.List.FromFn.{fill_by_all, get_or-map-range_with_len, length-map-range_with_len}
 pub use Rattle.quad_form.proofs.Additive.{Amount, IsAdditive, given, given-with_additions}
+pub use Rattle.std.proofs.Math.Seq.{take-append_seam}

@@ -1,12 +1,11 @@
 -- Steps of making the form of additions: one addition more, and the rows from the first to the last.
-use Rattle.quadratization.proofs.Common.{nat_tests, ◌≡◌, ℕ, ◌<◌, true, false, arith, List, [], ◌∷◌, ◌++◌, append-nil, length, ℤ, pos, filter-append, Term, TableContent, is_low, QuadContent, short_terms, long_additions, all_nodes, couplers_of, IsSumOf, AreRows, ints, ◌+◌, ◌-◌, ◌≤◌, ◌^◌, refl, sym, subst, ap, ◌∙◌, map, unsigned_abs, All, Result, OnOk, OnErr, map-append, All-push, All-weaker, filter_passes, recursion_from_All, sum_by-filter_both, sum_by-append, sum_by-cons, le-leb, lt-leb, Literal, Product, products_total, terms_total, IsTermSet, with_appended, IsTermSet-wider, terms_total-map, filter-all, filter-none, SumsContent, is_long, product_term, short_part, AreHeld, IsHeld, held_of, pairs, all-append, inl, inr, ◌*◌, ◌+ℤ◌, AllByRecursion, flat_map, IsPermutation, sum_by-IsPermutation, cases_lt, All-filter, All-map, total_by, total_by-append, total_by-IsPermutation, Entry, weight_total, with_additions, AreAdditions, terms_total-with_additions, OfSet, All-with_additions, new_nodes, IsPair, weight_for, weight_at, table_of, long_terms, short_shares, Gain, IsSums, size_of, widened, share_at-append, length-widened, value-widened, Place, places_in, term_places, all_places, place_couplers, all_shares, long_constant, terms_of, node_count, AreLong, HeldContent, IsQuad, IsWithin}
+use Rattle.quadratization.proofs.Common.{nat_tests, ◌≡◌, ℕ, ◌<◌, true, false, arith, List, [], ◌∷◌, ◌++◌, append-nil, length, ℤ, pos, filter-append, Term, TableContent, is_low, short_terms, long_additions, all_nodes, couplers_of, IsSumOf, AreRows, ints, ◌+◌, ◌-◌, ◌≤◌, ◌^◌, refl, sym, subst, ap, ◌∙◌, map, unsigned_abs, All, Result, OnOk, OnErr, map-append, All-push, All-weaker, filter_passes, recursion_from_All, sum_by-filter_both, sum_by-append, sum_by-cons, le-leb, lt-leb, Literal, Product, products_total, terms_total, IsTermSet, with_appended, IsTermSet-wider, terms_total-map, filter-all, filter-none, SumsContent, is_long, product_term, short_part, AreHeld, IsHeld, held_of, pairs, all-append, inl, inr, ◌*◌, ◌+ℤ◌, AllByRecursion, flat_map, IsPermutation, cases_lt, All-filter, All-map, total_by, total_by-append, total_by-IsPermutation, Entry, weight_total, with_additions, AreAdditions, terms_total-with_additions, OfSet, All-with_additions, new_nodes, IsPair, weight_for, weight_at, table_of, long_terms, short_shares, Gain, IsSums, size_of, widened, share_at-append, length-widened, value-widened, Place, places_in, term_places, all_places, place_couplers, all_shares, long_constant, terms_of, node_count, AreLong, HeldContent}
 use Rattle.quad_form.specs.Sums.{AreSummed}
 use Rattle.quadratization.specs.Held.{sums_of}
 use Rattle.quadratization.proofs.LongPlaces.{differs}
 use Rattle.quadratization.proofs.SortedAdditions.{AreLong-table}
 use Rattle.quadratization.proofs.GainedShares.{long_constants-size, AreShort}
 use Rattle.quadratization.proofs.RowForms.{weight-below, weight-place_other}
-use Rattle.quadratization.proofs.AtOnce.{image-quad, sum_is_image}
 
 -- ---- one addition more
 
@@ -224,9 +223,6 @@ rows-permuted nodes w ps qs others made moved rows = record {
       grind (arith, ints, rows.sums i j less, same, total_by-append (weight_for i j) qs others, total_by-append (weight_for i j) ps others);
 }
 
-pub total-permuted : (ps qs : List Entry) → IsPermutation ps qs → weight_total qs ≡ weight_total ps
-total-permuted ps qs moved = sum_by-IsPermutation (λ (e : Entry). unsigned_abs e.weight) ps qs moved
-
 -- ---- all sums
 
 -- the table of the long terms of additions
@@ -280,17 +276,8 @@ module _ (t : TableContent) (h : HeldContent) (additions : AreAdditions t) (pair
 
 -- What is made of additions that fit the fields of a form, and of those of a problem that is admitted.
 
--- where the numbers of additions fit, so do the nodes of the long terms that are held
-pub nodes-held : (t : TableContent) (h : HeldContent) → IsWithin t → AreHeld t h
-    → node_count (table_of (terms_of (length h.weights) h.long)) < 2 ^ 32
-nodes-held t h within held = omega (arith, ap node_count (same_table t h held), within.narrow)
-
 -- the sums, where the code has others for the constant and the weights
 pub made_sums : (t : TableContent) (c z : ℤ) (ws ds : List ℤ) (es : List Entry) → z ≡ c → ds ≡ ws
     → IsSumOf t (record { constant = c; diagonal = ws; couplers = es })
     → IsSumOf t (record { constant = z; diagonal = ds; couplers = es })
 made_sums t c z ws ds es constant weights sums = grind (arith, nat_tests, ints)
-
--- what has the sums is a quadratic form
-pub sums-quad : (t : TableContent) (q : QuadContent) → IsWithin t → IsSumOf t q → IsQuad q
-sums-quad t q within sums = subst IsQuad (sym (sum_is_image t q within sums)) (image-quad t within)

@@ -1,5 +1,6 @@
 -- What a problem adds can be summed.
-use Rattle.quadratization.proofs.Common.{◌≡◌, ◌≤◌, arith, ◌+◌, ◌^◌, None, ProblemContent, limit_fault, terms_total, AreAdditions, contributions, Admits, within_limits, contributions-total, contribution_sets, ℕ, ℤ, unsigned_abs, List, [], ◌∷◌, All, length, subst, sym, ap, Result, Ok, Err, OnOk, append-nil, All-head, All-tail, Literal, Term, IsTermSet, terms_total-cons, HasRoomFor, HeldContent, HasPlaces, ◌*◌, length-append, flat_map, nat_tests, sets_sum, sets_sum-cons, image_size, square, contributions_squares, short_terms, short_couplers, short_couplers-few, additions_of, AreHeld, FitsByPairs}
+use Rattle.quadratization.proofs.Common.{◌≡◌, ◌≤◌, arith, ◌+◌, ◌^◌, None, ProblemContent, limit_fault, terms_total, contributions, Admits, within_limits, contributions-total, contribution_sets, ℕ, ℤ, unsigned_abs, List, [], ◌∷◌, All, length, subst, sym, ap, Result, Ok, Err, OnOk, append-nil, All-head, All-tail, Literal, Term, IsTermSet, terms_total-cons, HasRoomFor, HeldContent, HasPlaces, ◌*◌, length-append, flat_map, nat_tests, sets_sum, sets_sum-cons, image_size, square, contributions_squares, short_terms, short_couplers, short_couplers-few, additions_of, AreHeld, FitsByPairs}
+use Rattle.penalty_layer.proofs.RoomForTerms.{AreAdditions-contributions}
 use Rattle.penalty_layer.specs.Penalty.{node_count}
 use Rattle.problem_form.specs.declared.limits.Normal.TheVariants as normals
 
@@ -8,12 +9,6 @@ use Rattle.problem_form.specs.declared.limits.Normal.TheVariants as normals
 pub total-additions : (p : ProblemContent) → limit_fault normals.Literal p ≡ None
     → terms_total (contributions p) + 1 ≤ 2 ^ 64
 total-additions p none = omega (arith, contributions-total p, (within_limits p none).weight)
-
-pub AreAdditions-of : (p : ProblemContent) → Admits p → AreAdditions (record { width = node_count p; terms = contributions p })
-AreAdditions-of p admitted = record {
-  sets = contribution_sets p admitted;
-  small = omega (arith, total-additions p admitted.within);
-}
 
 -- For which terms there is room among what is held.
 
@@ -65,7 +60,7 @@ room-contributions p h admitted wide total =
 
 pub room-of : (p : ProblemContent) → Admits p → FitsByPairs (additions_of p)
 room-of p admitted = record {
-  additions = AreAdditions-of p admitted;
+  additions = AreAdditions-contributions p admitted;
   total = omega (arith, total-additions p admitted.within);
   size = omega (arith, image_size p admitted);
 }

@@ -36,12 +36,6 @@ pub count_within : (w i : ℕ) (ps : List Product)
 count_within w i ps =
     omega (arith, ap (sum_by new_nodes) (take-map product_term i ps), sum_by-take-le new_nodes (map product_term ps) i)
 
--- ---- sets in order
-
-pub step_equal : (l k : Literal) (ls ks : List Literal) → Equal ≡ literal_cmp l k
-    → set_cmp (l ∷ ls) (k ∷ ks) ≡ set_cmp ls ks
-step_equal l k ls ks e = ap (λ o. ordering_then o (set_cmp ls ks)) (sym e)
-
 -- ---- keys, one after another
 
 pub keyed_more : (n : KeyLength) (additions : List Product) (i key : ℕ) (p : Product)

@@ -262,10 +262,6 @@ touched_kept sums left touched moved h permuted size kept = record {
 
 -- ---- weights of many entries
 
-with_entries-append : (sums : List ℤ) (es fs : List Entry)
-    → with_entries (with_entries sums es) fs ≡ with_entries sums (es ++ fs)
-with_entries-append sums es fs = sym (fold-append (λ s e. with_weight s e.second e.weight) sums es fs)
-
 pub size-with_entries : (sums : List ℤ) (es : List Entry)
     → AllByRecursion (λ e. e.second < length sums) es
     → size_of (with_entries sums es) ≤ size_of sums + weight_total es
@@ -338,7 +334,7 @@ module _ (sums : List ℤ) (left es rest : List Entry) (m : ℕ) (step : left �
       → AllByRecursion (λ e. e.second < w) es → with_entries sums left ≡ all
       → (with_entries new rest ≡ all) × (length new ≡ w) × (size_of new + weight_total rest ≤ m)
   part_added all new w made width within whole = (
-    ap (λ ss. with_entries ss rest) made ∙ with_entries-append sums es rest ∙ ap (with_entries sums) (sym step) ∙ whole,
+    ap (λ ss. with_entries ss rest) made ∙ sym (fold-append (λ s e. with_weight s e.second e.weight) sums es rest) ∙ ap (with_entries sums) (sym step) ∙ whole,
     ap length made ∙ length-with_entries sums es ∙ width,
     omega (arith, part_size, small, ap weight_total step, weights-append es rest, ap size_of made, size-with_entries sums es (rw width within)),
   )
@@ -394,12 +390,6 @@ turned c f m is (inl one) small = rw (is, one) (omega (arith, ints, small))
 turned c f m is (inr two) small = rw (is, two) (omega (arith, ints, small))
 
 -- What is kept of places: their couplers with new nodes, and that it fits its fields.
-
--- one key more
-pub heads_more : (t : TableContent) (v k : ℕ) (ks : List ℕ) (p : Place)
-    → places_in_term t v k ≡ p ∷ []
-    → map head_of (places_at t v (k ∷ ks)) ≡ head_of p ∷ map head_of (places_at t v ks)
-heads_more t v k ks p is = ap (λ ps. map head_of (ps ++ places_at t v ks)) is
 
 pub head_kept : (t : TableContent) (v : ℕ) (p : Place) → IsPlaceOf t v p → node_count t ≤ 2 ^ 32
     → IsHead (head_of p)

@@ -89,25 +89,6 @@ fn key_for(length: KeyLength, literals: Literals<'_>) -> u64
     }
 }
 
-/// The order of two sets, by their first difference. A proper prefix stands first.
-fn compared(left: Literals<'_>, mut right: Literals<'_>) -> Ordering
-    ensures { result ≡ set_cmp left.entry right.entry }
-{
-    for literal in left {
-        match right.next() {
-            None => return Ordering::Greater,
-            Some(other) => match literal.cmp(&other) {
-                Ordering::Equal => {}
-                order => return order,
-            },
-        }
-    }
-    match right.next() {
-        None => Ordering::Equal,
-        Some(_) => Ordering::Less,
-    }
-}
-
 /// The order of a set and the empty one.
 fn order_after_none(mut literals: Literals<'_>) -> Ordering
     ensures { result ≡ set_cmp literals.entry [] }
@@ -124,7 +105,7 @@ fn compared_at(additions: &ProductList, left: usize, right: usize) -> Ordering
         ≡ set_cmp (addition_at additions.now left).0 (addition_at additions.now right).0 }
 {
     match (left < additions.len(), right < additions.len()) {
-        (true, true) => compared(additions.at(left).literals, additions.at(right).literals),
+        (true, true) => (additions.at(left).literals).compared(additions.at(right).literals),
         (true, false) => order_after_none(additions.at(left).literals),
         (false, true) => order_after_none(additions.at(right).literals).reverse(),
         (false, false) => Ordering::Equal,

@@ -198,7 +198,10 @@ fn long_constant(negated: usize, coefficient: i128) -> i128
     if coefficient < 0 {
         0
     } else {
-        coefficient * (negated * negated.saturating_sub(1) / 2) as i128
+        product(
+            coefficient,
+            (negated * negated.saturating_sub(1) / 2) as i128,
+        )
     }
 }
 

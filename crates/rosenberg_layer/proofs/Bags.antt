@@ -37,8 +37,7 @@ same-filter : (test : Term → Bool) (ts us : List Term) → SameTerms ts us
 same-filter test ts us same = λ f.
     sum_by-filter f test ts ∙ same (λ t. cond (test t) (f t) 0) ∙ sym (sum_by-filter f test us)
 
-same-map : (g : Term → Term) (ts us : List Term) → SameTerms ts us
-    → SameTerms (map g ts) (map g us)
+same-map : (g : Term → Term) (ts us : List Term) → SameTerms ts us → SameTerms (map g ts) (map g us)
 same-map g ts us same = λ f. sum_by-map f g ts ∙ same (λ t. f (g t)) ∙ sym (sum_by-map f g us)
 
 -- a test that all terms of the one pass, all terms of the other pass

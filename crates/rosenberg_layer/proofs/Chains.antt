@@ -13,10 +13,6 @@ pub chain_appended : (nexts : List ℕ) (n i at : ℕ) (now after whole : List �
 chain_appended nexts n i at now after whole more new so_far =
     grind (arith, nat_tests, append_assoc, chain-next)
 
-pub chain_first : (nexts : List ℕ) (n i at : ℕ) → i < n
-    → All (λ t. t < length nexts) (chain nexts (n - i) at) → at < length nexts
-chain_first nexts n i at more all = grind (arith, nat_tests, chain-next)
-
 pub chain_rest : (nexts : List ℕ) (n i at : ℕ) → i < n
     → All (λ t. t < length nexts) (chain nexts (n - i) at)
     → All (λ t. t < length nexts) (chain nexts (n - (i + 1)) (get_or nexts at 0))
@@ -53,8 +49,7 @@ list_at-map f (h ∷ heads) (suc b) head within at =
 pub put_lists : (nexts nexts' : List ℕ) (heads heads' : List Head) (b t count : ℕ) (old : Head)
     → b < length heads → t < length nexts → IsApart (map (list_of nexts) heads) t
     → old ≡ get_or heads b old → nexts' ≡ set nexts t old.first → count ≡ old.count + 1
-    → heads' ≡ set heads b (record { first = t; count = count })
-    → map (list_of nexts') heads'
+    → heads' ≡ set heads b (record { first = t; count = count }) → map (list_of nexts') heads'
     ≡ set (map (list_of nexts) heads) b (t ∷ list_at (map (list_of nexts) heads) b)
 put_lists nexts nexts' heads heads' b t count old within inside apart at next more new =
     let after = set nexts t old.first in

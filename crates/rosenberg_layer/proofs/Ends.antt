@@ -16,8 +16,7 @@ short-none [] low = refl
 short-none (t ∷ ts) low = grind (arith, nat_tests, short-none ts low.1)
 
 pub low-none : (t : TableContent) → IsLow t → next_pair t.terms ≡ None
-low-none t low =
-    ap front_pair (short-none t.terms (recursion_from_All IsShort t.terms low))
+low-none t low = ap front_pair (short-none t.terms (recursion_from_All IsShort t.terms low))
 
 -- no pair is left exactly where the table is low
 pub none-low : (t : TableContent) → next_pair t.terms ≡ None → IsLow t

@@ -3,8 +3,7 @@ use Rattle.rosenberg_layer.proofs.Common.{◌≡◌, ℕ, ◌+◌, ◌-◌, ◌�
 
 -- with the node in place of the pair, the function is less by k
 abbrev pub Falls : (List Literal → ℕ) → ℕ → Pair → Literal → Type 0
-Falls f k pair w =
-    (t : Term) → has_pair pair t ≡ true → f (rest_of pair t.0 ++ w ∷ []) + k ≤ f t.0
+Falls f k pair w = (t : Term) → has_pair pair t ≡ true → f (rest_of pair t.0 ++ w ∷ []) + k ≤ f t.0
 
 one-le : (f : List Literal → ℕ) (k : ℕ) (pair : Pair) (w : Literal) (t : Term) → Falls f k pair w
     → f (new_term pair w t).0 + cond (has_pair pair t) k 0 ≤ f t.0

@@ -34,8 +34,7 @@ made-image t made adds long width k count bound sound number start pairs parts n
 -- .. and can be added
 pub adds-fit : (t : TableContent) (adds long : List Term) (width k count : ℕ) → IsSound t
     → width ≡ t.width → count ≡ length (pairs_of k t)
-    → AreParts (run k t) adds long (weights t.terms)
-    → (terms_total t.terms + 1) * 2 ^ 15 ≤ 2 ^ 124
+    → AreParts (run k t) adds long (weights t.terms) → (terms_total t.terms + 1) * 2 ^ 15 ≤ 2 ^ 124
     → AreAdditions (record { width = width + count; terms = adds })
 adds-fit t adds long width k count sound start pairs parts small =
     let old = parts.small in

@@ -86,8 +86,7 @@ length-part codes ends i is within =
 
 -- the item lies in the list
 pub put_within : (codes ends : List ℕ) (i place start : ℕ) → AreEnds 0 ends (length codes)
-    → i < length ends → start ≡ start_of ends i
-    → place < length (get_or (parts codes 0 ends) i [])
+    → i < length ends → start ≡ start_of ends i → place < length (get_or (parts codes 0 ends) i [])
     → start + place < length codes
 put_within codes ends i place start is within at inside =
     let lies = part_lies ends (length codes) i is within in
@@ -95,10 +94,8 @@ put_within codes ends i place start is within at inside =
 
 -- .. and replaces that of one part alone
 pub put_parts : (codes ends codes' : List ℕ) (i place a start : ℕ) → AreEnds 0 ends (length codes)
-    → i < length ends → start ≡ start_of ends i
-    → place < length (get_or (parts codes 0 ends) i [])
-    → codes' ≡ set codes (start + place) a
-    → parts codes' 0 ends
+    → i < length ends → start ≡ start_of ends i → place < length (get_or (parts codes 0 ends) i [])
+    → codes' ≡ set codes (start + place) a → parts codes' 0 ends
     ≡ set (parts codes 0 ends) i (set (get_or (parts codes 0 ends) i []) place a)
 put_parts codes ends codes' i place a start is within at inside new =
     let from = begin_of-is ends i within in

@@ -27,8 +27,7 @@ weights-with_addition [] ls c = omega (arith, weights-in_front ls c [])
 weights-with_addition (t ∷ ts) ls c = go (set_cmp ls t.0) (same_set ls t.0) (weights-with_addition ts ls c)
   where
     go : (o : Ordering) → (o ≡ Equal → ls ≡ t.0)
-        → weights (with_addition ts ls c) ≤ weights ts + unsigned_abs c * times_of ls
-        → weights
+        → weights (with_addition ts ls c) ≤ weights ts + unsigned_abs c * times_of ls → weights
         (match_ordering o (in_front ls c (t ∷ ts)) (in_front t.0 (t.1 +ℤ c) ts)
         (t ∷ with_addition ts ls c))
         ≤ weights (t ∷ ts) + unsigned_abs c * times_of ls

@@ -6,8 +6,7 @@ use Rattle.rosenberg_layer.proofs.PutBack.{three-long}
 use Rattle.rosenberg_layer.proofs.Turns.{excess-one, excess-size}
 
 -- the terms of degree 3 or more alone are a table
-pub alone : (long : List Term) → All (λ t. is_long t ≡ true) long
-    → filter is_long long ≡ long
+pub alone : (long : List Term) → All (λ t. is_long t ≡ true) long → filter is_long long ≡ long
 alone long all = filter-all is_long long (recursion_from_All (λ t. is_long t ≡ true) long all)
 
 -- the literals of a set fit

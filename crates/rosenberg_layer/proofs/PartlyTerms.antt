@@ -93,8 +93,7 @@ partly_start a w start low = record {
 
 -- the sums and the terms below, with one more term that is taken or not
 more-down : (a : Pair) (w : Literal) (start : List Term) (i : ℕ) → i < length start → (b : Bool)
-    → is_touched a (term_at start i) ≡ b
-    → filter (is_touched a) (take (i + 1) start)
+    → is_touched a (term_at start i) ≡ b → filter (is_touched a) (take (i + 1) start)
     ≡ filter (is_touched a) (take i start) ++ cond b (term_at start i ∷ []) []
 more-down a w start i within b is =
     filter_more (is_touched a) start i ([], pos 0) within
@@ -174,8 +173,7 @@ pub partly_touch : (a : Pair) (w : Literal) (start now now' low low' low'' : Lis
     → ArePartly a w start now low low' m i → i < length start
     → is_touched a (term_at start i) ≡ true → now' ≡ set now i (front_term w (term_at now i))
     → low'' ≡ low' ++ filter is_short (front_term w (term_at now i) ∷ [])
-    → m' ≡ m + unsigned_abs (term_at now i).1
-    → ArePartly a w start now' low low'' m' (i + 1)
+    → m' ≡ m + unsigned_abs (term_at now i).1 → ArePartly a w start now' low low'' m' (i + 1)
 partly_touch a w start now now' low low' low'' m m' i partly within touched new down more =
     let t = term_at start i in
     let here = partly_at a w start now low low' m i i partly (omega arith) in

@@ -106,8 +106,7 @@ long-is t adds long bound parts =
 
 pub weights-both : (ts : List Term)
     → weights (filter is_short ts) + weights (filter is_long ts) ≡ weights ts
-weights-both ts =
-    omega (arith, sum_by-filter_both is_long is_short (λ t. refl) weight_of ts)
+weights-both ts = omega (arith, sum_by-filter_both is_long is_short (λ t. refl) weight_of ts)
 
 pub totals-both : (ts : List Term)
     → terms_total (filter is_short ts) + terms_total (filter is_long ts) ≡ terms_total ts
@@ -192,7 +191,6 @@ long-again : (pair : Pair) (w : Literal) (ts : List Term)
 long-again pair w [] = refl
 long-again pair w (t ∷ ts) = grind (arith, nat_tests, long-again pair w ts)
 
-pub long-replaced : (t : TableContent) (pair : Pair)
-    → filter is_long (with_pair pair t).terms
+pub long-replaced : (t : TableContent) (pair : Pair) → filter is_long (with_pair pair t).terms
     ≡ with_additions [] (long_after pair (node t.width) (filter is_long t.terms))
 long-replaced t pair = grind (arith, nat_tests, filter-sums, filter-append, append-nil, long-again)

@@ -193,8 +193,7 @@ replaced_terms rings rings' turns turns' cs ts i n j j' two same is kept at thre
     let term : (literals_left (set ring j (2 * n)) (j + 1), get_or cs i (pos 0))
     ≡ front_term (node n) (term_at ts i) =
     ap (λ ls. (ls, get_or cs i (pos 0)))
-    (replaced-left ring j n three
-    ∙ ap (λ k. drop 2 (literals_left ring k) ++ node n ∷ []) at)
+    (replaced-left ring j n three ∙ ap (λ k. drop 2 (literals_left ring k) ++ node n ∷ []) at)
     ∙ ap (front_term (node n)) (sym kept.term) in
     (λ k. terms_in (new_rings k) ((new_turns ∙ ap (set turns i) next) k) cs)
     ∙ terms-set rings turns cs i (set ring j (2 * n)) (j + 1) two same

@@ -142,8 +142,7 @@ pub key-term : (c t : ℕ) → t < 2 ^ 32 → (c * 2 ^ 32 + t) % 2 ^ 32 ≡ t
 key-term c t narrow = omega (arith, narrow)
 
 same-term : (c t d u : ℕ) → t < 2 ^ 32 → u < 2 ^ 32 → c * 2 ^ 32 + t ≡ d * 2 ^ 32 + u → t ≡ u
-same-term c t d u one two e =
-    sym (key-term c t one) ∙ ap (λ k. k % 2 ^ 32) e ∙ key-term d u two
+same-term c t d u one two e = sym (key-term c t one) ∙ ap (λ k. k % 2 ^ 32) e ∙ key-term d u two
 
 -- the first key is that of its term
 pub keyed_first : (ts : List Term) (upto : ℕ) (lists : List (List ℕ)) (cursor k : ℕ) (keys : List ℕ)

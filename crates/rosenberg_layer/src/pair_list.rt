@@ -4,10 +4,9 @@ ghost use Rattle.rosenberg_layer.specs.Rosenberg.{with_product};
 ghost use Rattle.rosenberg_layer.specs.PairLists.{coded_pair};
 
 use crate::long_terms::literal_of;
-use crate::rings::code_of;
 use crate::rosenberg::push_product;
 use base::NoMemory;
-use literal_lists::Literal;
+use literal_lists::{Literal, code_of};
 use std::alloc::Global;
 use std::marker::Model;
 

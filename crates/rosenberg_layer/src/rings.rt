@@ -1,37 +1,13 @@
 //! Lists of codes of literals, one after another in one list. An item is replaced where it lies.
-ghost use Rattle.std.specs.Prelude.{◌≡◌, ◌<◌, ◌≤◌, ◌^◌, ◌++◌, ◌∷◌, [], All, OnOk, OnErr, length, map, set};
+ghost use Rattle.std.specs.Prelude.{◌≡◌, ◌<◌, ◌≤◌, ◌^◌, ◌++◌, ◌∷◌, [], All, OnOk, length, map, set};
 ghost use Rattle.std.specs.List.{slice_index_or, slice_range};
 ghost use Rattle.base.specs.FlatLists.{AreEnds, parts, start_of};
 ghost use Rattle.literal_lists.specs.Codes.{code_of};
 
 use base::NoMemory;
-use literal_lists::{Literal, Literals};
+use literal_lists::{Literal, Literals, append_codes, code_of};
 use std::alloc::Global;
 use std::marker::Model;
-
-/// Twice the variable, and one more where it is negated.
-pub(crate) fn code_of(literal: Literal) -> u32
-    requires { literal.variable < 2 ^ 31 }
-    ensures { result ≡ code_of literal }
-{
-    2 * literal.variable as u32 + u32::from(literal.negated)
-}
-
-/// Appends the codes of literals. Where memory is refused the codes stay as they were.
-fn append_codes(codes: &mut Vec<u32>, literals: &[Literal]) -> Result<(), NoMemory>
-    requires { All (λ l. l.variable < 2 ^ 31) literals.now }
-    ensures appended { OnOk result (codes.new.items ≡ codes.old.items ++ map code_of literals.now) }
-    ensures unchanged { OnErr result (codes.new.items ≡ codes.old.items) }
-{
-    let start = codes.len();
-    for literal in literals {
-        if codes.push(code_of(*literal)).is_err() {
-            codes.truncate(start);
-            return Err(NoMemory);
-        }
-    }
-    Ok(())
-}
 
 /// Appends the codes of literals that are lent.
 fn append_lent(codes: &mut Vec<u32>, literals: Literals<'_>) -> Result<(), NoMemory>

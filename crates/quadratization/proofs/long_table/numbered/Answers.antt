@@ -1,4 +1,4 @@
-use Rattle.quadratization.proofs.Common.{ints, nat_tests, ◌≡◌, ◌+◌, arith, rules, w128, to_z-of_z, Product, new_nodes, product_term}
+use Rattle.quadratization.proofs.Common.{ints, nat_tests, ◌≡◌, ◌+◌, ◌∙◌, ap, List, map, take_all, first_nodes, node_count, terms_of, arith, rules, w128, to_z-of_z, Product, new_nodes, product_term}
 use Rattle.quadratization.proofs.SortedAdditions.{numbers_more, count_more, count_within}
 use Rattle.quadratization.proofs.long_table.numbered.Goals as goal
 
@@ -29,3 +29,13 @@ loop-i-preserved c =
           c.at-product.ensures c.loop-i.invariant.firsts c.loop-i.invariant.next c.in_ok-push.ensures.items;
       next = omega (arith, own c, more, c.loop-i.invariant.next);
     }
+
+pub returns-clause-firsts : goal.returns-clause-firsts
+returns-clause-firsts c =
+    c.loop-i.invariant.firsts ∙ ap (λ (ps : List Product). first_nodes c.args.width (map product_term ps))
+    (take_all c.loop-i.i c.args.products.now (omega (arith, c.loop-i-test.false, c.len-i-end.ensures)))
+
+pub returns-clause-next : goal.returns-clause-next
+returns-clause-next c =
+    c.loop-i.invariant.next ∙ ap (λ (ps : List Product). node_count (terms_of c.args.width ps))
+    (take_all c.loop-i.i c.args.products.now (omega (arith, c.loop-i-test.false, c.len-i-end.ensures)))

@@ -1,5 +1,5 @@
 use Rattle.quadratization.proofs.Common.{nat_tests, arith, ◌≡◌, ◌∷◌, ◌++◌, [], map, append_assoc, append-nil, sym, ap, ◌∙◌, flat_map, All-push, drop_more, drop_all, places_at, pair_part, head_of, IsHead, recursion_from_All, drop, get_or, ◌+◌, ◌^◌, Literal, ◌<◌}
-use Rattle.quadratization.proofs.SummedRows.{places_more, part_size, part_added, later_within, heads_more, head_kept}
+use Rattle.quadratization.proofs.SummedRows.{places_more, part_size, part_added, later_within, head_kept}
 use Rattle.quadratization.proofs.rows.add_places.Goals as goal
 
 pub add_place-requires-clause-small : goal.add_place-requires-clause-small
@@ -23,7 +23,7 @@ loop-index-preserved c =
     let more = drop_more c.args.indices.now i 0 c.loop-index-test.true in
     let left = ap (λ ms. flat_map pair_part (places_at t v ms)) more
     ∙ places_more pair_part t v k ks p c.place-place.ensures.place in
-    let heads = ap (λ ms. map head_of (places_at t v ms)) more ∙ heads_more t v k ks p c.place-place.ensures.place in
+    let heads = ap (λ ms. map head_of (places_at t v ms)) more ∙ ap (λ qs. map head_of (qs ++ places_at t v ks)) c.place-place.ensures.place in
     let pushed : c.push.new.self.items ≡ c.loop-index.heads.items ++ head_of p ∷ [] =
     c.in_ok-push.ensures.items ∙ ap (λ h. c.loop-index.heads.items ++ h ∷ []) c.head_of.ensures in
     let within = later_within p t.width (recursion_from_All (λ (l : Literal). l.variable < t.width) p.later c.place-place.ensures.kept.later) in

@@ -1,6 +1,6 @@
-use Rattle.quadratization.proofs.Common.{◌≡◌, ◌≤◌, ◌^◌, ◌++◌, [], List, length, ap, arith, All, flat_map, All-permutation, nil_from_length, All-weaker, recursion_from_All, IfOk-weaker, Entry, Term, IsPair, AreSummed, place_couplers, all_places, AreRows, node_count}
+use Rattle.quadratization.proofs.Common.{unsigned_abs, sum_by-IsPermutation, ◌≡◌, ◌≤◌, ◌^◌, ◌++◌, [], List, length, ap, arith, All, flat_map, All-permutation, nil_from_length, All-weaker, recursion_from_All, IfOk-weaker, Entry, Term, IsPair, AreSummed, place_couplers, all_places, AreRows, node_count}
 use Rattle.quadratization.proofs.LongPlaces.{enough_nodes}
-use Rattle.quadratization.proofs.HeldSums.{rows-permuted, total-permuted}
+use Rattle.quadratization.proofs.HeldSums.{rows-permuted}
 use Rattle.quadratization.proofs.RowForms.{from_numbers, rows-summed}
 use Rattle.quadratization.proofs.rows.couplers_of.Goals as goal
 
@@ -25,7 +25,7 @@ rows_of-requires-clause-pairs c =
 
 pub rows_of-requires-clause-small : goal.rows_of-requires-clause-small
 rows_of-requires-clause-small c =
-    omega (arith, total-permuted _ _ c.in_ok-sorted.ensures.same, c.requires.small)
+    omega (arith, sum_by-IsPermutation (λ (e : Entry). unsigned_abs e.weight) _ _ c.in_ok-sorted.ensures.same, c.requires.small)
 
 pub returns : goal.returns
 returns c =

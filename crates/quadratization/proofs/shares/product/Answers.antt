@@ -5,13 +5,11 @@ use Rattle.quadratization.proofs.shares.product.Goals as goal
 pub returns-clause-value : goal.returns-clause-value
 returns-clause-value c =
     let bound = product_bound c.args.coefficient c.args.count c.requires.coefficient c.requires.count in
-    let left = to_z-of_z w128 c.args.coefficient (search rules) in
-    let right = to_z-of_z w128 c.args.count (search rules) in
-    rw (left, right) (to_z-of_z w128 (c.args.coefficient *ℤ c.args.count) (search (rules, bound)))
+    rw (to_z-of_z w128 c.args.coefficient (search rules), to_z-of_z w128 c.args.count (search rules))
+    (to_z-of_z w128 (c.args.coefficient *ℤ c.args.count) (search (rules, bound)))
 
 pub returns-clause-bound : goal.returns-clause-bound
 returns-clause-bound c =
     let bound = product_bound c.args.coefficient c.args.count c.requires.coefficient c.requires.count in
-    let right = to_z-of_z w128 c.args.count (search rules) in
     let whole = to_z-of_z w128 (c.args.coefficient *ℤ c.args.count) (search (rules, bound)) in
-    rw (to_z-of_z w128 c.args.coefficient (search rules), right, whole) (omega (arith, bound))
+    rw (to_z-of_z w128 c.args.coefficient (search rules), to_z-of_z w128 c.args.count (search rules), whole) (omega (arith, bound))

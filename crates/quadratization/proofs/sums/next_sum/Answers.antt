@@ -12,18 +12,16 @@ added : (c : After-sum) →
     +ℤ (term_at c.args.additions.now c.args.order.now c.args.place).1)
     + terms_total (left c.args.additions.now c.args.order.now (c.args.place + 1)) ≤ 2 ^ 124)
 added c =
-    let ps = c.args.additions.now in
     let order = c.args.order.now in
-    let read = sums.read_coefficient ps order c.args.place _ _ c.at.ensures c.sum.view_is in
-    let small = sums.small_more ps order c.args.place c.requires.within _ c.requires.small in
+    let read = sums.read_coefficient c.args.additions.now order c.args.place _ _ c.at.ensures c.sum.view_is in
+    let small = sums.small_more c.args.additions.now order c.args.place c.requires.within _ c.requires.small in
     (omega (arith, ints, small, read), small)
 
 pub overflow_add-sum : goal.overflow_add-sum
 overflow_add-sum c = omega (arith, ints, added (goal.at.overflow_add-sum c).After-sum)
 
 pub are_alike-requires : goal.are_alike-requires
-are_alike-requires c =
-    λ e.
+are_alike-requires c = λ e.
     let n = c.requires.keys.literals in
     let none : Keyed = record { key = 0; index = 0 } in
     let K : Keyed → Type 0 = λ k. k.key ≡ key_for n (addition_at c.args.additions.now k.index).0 in
@@ -81,3 +79,9 @@ returns-else-whole-eq0-clause-sums c =
     sums.end_some _ _ _ c.requires.within sum other
     (λ z. c.if-whole-eq0.false (ap (of_z w128) (once ∙ z)))
     ∙ ap (λ z. (t.0, z) ∷ sums_with (pos 0) rest) (sym value)
+
+pub returns-then-whole-eq0-clause-small : goal.returns-then-whole-eq0-clause-small
+returns-then-whole-eq0-clause-small c = omega (arith, added (goal.at.returns-then-whole-eq0-clause-small c).After-sum)
+
+pub returns-else-whole-eq0-clause-small : goal.returns-else-whole-eq0-clause-small
+returns-else-whole-eq0-clause-small c = omega (arith, added (goal.at.returns-else-whole-eq0-clause-small c).After-sum)

@@ -4,8 +4,7 @@ use Rattle.rosenberg_layer.proofs.gather.add_moved.Goals.{After-deref-2}
 use Rattle.rosenberg_layer.proofs.gather.add_moved.Goals as goal
 
 -- the terms are the low ones, and those that tie the nodes
-whole : (g : Over) (c : After-deref-2 g)
-    → moved_of c.args.start c.args.made.now
+whole : (g : Over) (c : After-deref-2 g) → moved_of c.args.start c.args.made.now
     ≡ c.deref.result.now ++ ties_of c.args.start c.args.made.now.pairs c.deref-2.result.now
 whole g c = λ i.
     sym c.deref.ensures.value i

@@ -66,9 +66,7 @@ returns-clause-after c =
     rest_all _ c.loop-literals.literals-iterator c.next.new.self c.next.result c.in-None.is
     c.next.ensures.steps in
     let all : terms.terms ≡ filter is_long (map f c.args.table.now.content.terms) =
-    sym (append-nil terms.terms)
-    ∙ sym (ap (λ us. terms.terms ++ filter is_long (map f us)) none)
+    sym (append-nil terms.terms) ∙ sym (ap (λ us. terms.terms ++ filter is_long (map f us)) none)
     ∙ c.loop-literals.invariant.whole in
-    c.into_table.ensures
-    ∙ (λ i. kept_at_once
+    c.into_table.ensures ∙ (λ i. kept_at_once
     (record { width = c.loop-literals.invariant.width i; terms = with_additions [] (all i) }))

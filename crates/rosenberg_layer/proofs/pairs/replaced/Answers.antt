@@ -22,7 +22,6 @@ returns c =
     let t = c.args.long.now.content in
     let w = c.node.ensures ∙ ap node c.requires.number in
     IfOk-weaker c.after.result _ _
-    (λ next is. is
-    ∙ (λ i. kept_at_once
+    (λ next is. is ∙ (λ i. kept_at_once
     (record { width = c.requires.number i + 1; terms = with_additions [] (long_after c.args.pair (w i) t.terms) })))
     c.after.ensures.after

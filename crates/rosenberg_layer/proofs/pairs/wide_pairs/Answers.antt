@@ -8,8 +8,7 @@ use Rattle.rosenberg_layer.proofs.pairs.wide_pairs.Goals as goal
 next_long : (k : ℕ) (t u : TableContent) → u ≡ long_part (run k t)
     → after_turn (front_pair u.terms) u ≡ long_part (run (k + 1) t)
 next_long k t u e =
-    ap (λ (v : TableContent). after_turn (front_pair v.terms) v) e
-    ∙ sym (long-turn (run k t))
+    ap (λ (v : TableContent). after_turn (front_pair v.terms) v) e ∙ sym (long-turn (run k t))
     ∙ ap long_part (sym (run-next k t))
 
 pub loop-done-init : goal.loop-done-init

@@ -127,8 +127,7 @@ replace-requires-clause-within c =
     (ready (goal.at.replace-requires-clause-within c).In-Some).first.term
 
 pub replace-requires-clause-degree : goal.replace-requires-clause-degree
-replace-requires-clause-degree c =
-    (ready (goal.at.replace-requires-clause-degree c).In-Some).three
+replace-requires-clause-degree c = (ready (goal.at.replace-requires-clause-degree c).In-Some).three
 
 pub replace-requires-clause-lists : goal.replace-requires-clause-lists
 replace-requires-clause-lists c =

@@ -8,8 +8,7 @@ overflow_sub-bits c =
     omega (arith, c.requires.source, c.requires.target, width-run-le (excess t.terms) t)
 
 pub pairs_of-requires-clause-narrow : goal.pairs_of-requires-clause-narrow
-pairs_of-requires-clause-narrow c =
-    omega (arith, width-run-le, width-le)
+pairs_of-requires-clause-narrow c = omega (arith, width-run-le, width-le)
 
 pub returns : goal.returns
 returns c =
@@ -19,6 +18,5 @@ returns c =
     let number : (image t).width ≡ t.width + k =
     omega (arith, c.requires.source, c.requires.target, width-run-le (excess t.terms) t) in
     let start : c.in_ok-y.y.items ≡ x = search rules in
-    c.in_ok-push_products.ensures
-    ∙ (λ i. fold with_product (start i) (c.deref.ensures.value i))
+    c.in_ok-push_products.ensures ∙ (λ i. fold with_product (start i) (c.deref.ensures.value i))
     ∙ ap (fold with_product x) (c.in_ok-pairs.ensures ∙ all-pairs t k number)

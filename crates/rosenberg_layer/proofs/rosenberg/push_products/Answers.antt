@@ -7,6 +7,5 @@ loop-pair-preserved c =
     let i = c.loop-pair.pair-index in
     let none : Literal = record { variable = 0; negated = false } in
     let pair : Pair = get_or pairs i (none, none) in
-    c.in_ok-push_product.ensures
-    ∙ ap (λ z. with_product z pair) c.loop-pair.invariant
+    c.in_ok-push_product.ensures ∙ ap (λ z. with_product z pair) c.loop-pair.invariant
     ∙ sym (fold_more with_product c.args.bits.now.items pairs i (none, none) c.loop-pair-test.true)

@@ -30,8 +30,7 @@ returns-clause-made c =
     omega (arith, c.len.ensures, ap length c.in_ok-made.ensures.pairs) in
     IfOk-weaker c.gathered.result _ _
     (λ quadratic new.
-    new
-    ∙ ap kept_at_once
+    new ∙ ap kept_at_once
     (made-image t _ (base ++ adds) (filter is_long (run c.excess.result t).terms)
     c.width-width.result c.excess.result c.len.result (weights t.terms)
     c.in_ok-made.ensures.kept.terms c.excess.ensures c.width-width.ensures count

@@ -6,8 +6,7 @@ read_at : (f : ℕ → ℕ) (xs ys : List ℕ) (i t : ℕ) → i < length xs
     → ys ≡ map f (take i xs) ++ drop i xs → t ≡ get_or ys i t → t ≡ get_or xs i t
 read_at f xs ys i t inside is read =
     let front : length (map f (take i xs)) ≡ i = simp (length-map, length-take) (omega (arith, inside)) in
-    read
-    ∙ ap (λ zs. get_or zs i t) is
+    read ∙ ap (λ zs. get_or zs i t) is
     ∙ ap (λ zs. get_or (map f (take i xs) ++ zs) i t) (drop_more xs i t inside)
     ∙ get_or_at (map f (take i xs)) (get_or xs i t) (drop (i + 1) xs) t i front
 
@@ -40,8 +39,7 @@ returns c =
     let i = c.loop-i.i in
     let low : length xs ≤ i =
     omega (arith, c.loop-i-test.false, c.len-i-end.ensures, c.args.keys.now.ok.0) in
-    c.loop-i.invariant
-    ∙ (λ j. map f (take_all i xs low j) ++ drop_all i xs low j)
+    c.loop-i.invariant ∙ (λ j. map f (take_all i xs low j) ++ drop_all i xs low j)
     ∙ append-nil (map f xs)
 
 pub loop-i-preserved : goal.loop-i-preserved

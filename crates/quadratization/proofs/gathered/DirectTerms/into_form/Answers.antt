@@ -1,13 +1,13 @@
-use Rattle.quadratization.proofs.Common.{to_z, of_z, rules, ap, ◌∙◌, ◌++◌, w128, to_z-of_z, extension, IsSumOf, AreHeld, IsWithin, TableContent}
+use Rattle.quadratization.proofs.Common.{arith, node_count, subst, sym, IsQuad, to_z, of_z, rules, ap, ◌∙◌, ◌++◌, w128, to_z-of_z, extension, IsSumOf, AreHeld, IsWithin, TableContent}
 use Rattle.quadratization.proofs.Apart.{bits-long}
-use Rattle.quadratization.proofs.HeldSums.{made_sums, nodes-held, sums-quad}
-use Rattle.quadratization.proofs.AtOnce.{sum_is_image}
+use Rattle.quadratization.proofs.HeldSums.{made_sums, same_table}
+use Rattle.quadratization.proofs.AtOnce.{sum_is_image, image-quad}
 use Rattle.quadratization.proofs.gathered.DirectTerms.into_form.Goals as goal
 
 pub into_sums-requires : goal.into_sums-requires
 into_sums-requires c =
     let held = c.requires.held in
-    record { narrow = nodes-held held.0 c.args.self held.1 held.2 }
+    record { narrow = omega (arith, ap node_count (same_table held.0 c.args.self held.2), held.1.narrow) }
 
 -- the form has the sums of all parts
 sums : (c : goal.After-new) (t : TableContent) → IsWithin t → AreHeld t c.args.self
@@ -19,7 +19,7 @@ sums c t within held =
 pub invariant_of-result : goal.invariant_of-result
 invariant_of-result c =
     let within = c.requires.held.1 in
-    sums-quad _ _ within (sums c _ within c.requires.held.2)
+    subst IsQuad (sym (sum_is_image _ _ within (sums c _ within c.requires.held.2))) (image-quad _ within)
 
 pub returns-clause-quad : goal.returns-clause-quad
 returns-clause-quad c t within held =

@@ -4,8 +4,7 @@ use Rattle.rosenberg_layer.proofs.buckets.Buckets.put.Goals.{After-index-head}
 use Rattle.rosenberg_layer.proofs.buckets.Buckets.put.Goals as goal
 
 -- the list has a head, the term has a place, and comes to the front of the list
-put : (c : After-index-head)
-    → let nexts = c.self.inside.nexts.items in
+put : (c : After-index-head) → let nexts = c.self.inside.nexts.items in
     let heads = c.self.inside.heads.items in
     let head = c.index-head.result.now in
     let lists = map (list_of nexts) heads in

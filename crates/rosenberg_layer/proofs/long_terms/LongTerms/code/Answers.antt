@@ -4,8 +4,7 @@ use Rattle.rosenberg_layer.proofs.long_terms.LongTerms.code.Goals.{After-ring}
 use Rattle.rosenberg_layer.proofs.long_terms.LongTerms.code.Goals as goal
 
 -- what is kept of the term, and its turns, which the code reads
-kept : (c : After-ring)
-    → let old = c.self.inside in
+kept : (c : After-ring) → let old = c.self.inside in
     IsKept old.rings old.turns.items old.coefficients.items c.args.self.now c.args.i
     × (c.index.result.now ≡ get_or old.turns.items c.args.i 0)
 kept c =

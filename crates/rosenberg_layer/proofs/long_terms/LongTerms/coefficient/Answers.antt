@@ -3,8 +3,7 @@ use Rattle.rosenberg_layer.proofs.RingTerms.{length-terms, terms-at}
 use Rattle.rosenberg_layer.proofs.long_terms.LongTerms.coefficient.Goals as goal
 
 pub index-requires : goal.index-requires
-index-requires c =
-    omega (arith, ap length c.self.view_is, c.self.invariant.1, length-terms)
+index-requires c = omega (arith, ap length c.self.view_is, c.self.invariant.1, length-terms)
 
 pub returns : goal.returns
 returns c =

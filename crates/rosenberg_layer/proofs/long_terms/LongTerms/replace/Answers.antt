@@ -4,8 +4,7 @@ use Rattle.rosenberg_layer.proofs.long_terms.LongTerms.replace.Goals.{After-inde
 use Rattle.rosenberg_layer.proofs.long_terms.LongTerms.replace.Goals as goal
 
 -- what is kept of the term, its turns, which the code reads, and three places after them
-kept : (c : After-index-turns)
-    → let old = c.self.inside in
+kept : (c : After-index-turns) → let old = c.self.inside in
     IsKept old.rings old.turns.items old.coefficients.items c.args.self.now c.args.i
     × (c.index-turns.result.now ≡ get_or old.turns.items c.args.i 0)
     × (c.index-turns.result.now + 3 ≤ length (get_or old.rings c.args.i []))

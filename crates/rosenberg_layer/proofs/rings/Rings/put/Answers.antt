@@ -4,8 +4,7 @@ use Rattle.rosenberg_layer.proofs.rings.Rings.put.Goals.{After-start_of-start}
 use Rattle.rosenberg_layer.proofs.rings.Rings.put.Goals as goal
 
 -- the list is one of those that lie flat, starts where the code says, and has the place
-found : (c : After-start_of-start)
-    → let codes = c.self.inside.codes.items in
+found : (c : After-start_of-start) → let codes = c.self.inside.codes.items in
     let ends = c.self.inside.ends.items in
     (c.args.i < length ends) × (c.start_of-start.result ≡ start_of ends c.args.i)
     × (c.args.place < length (get_or (parts codes 0 ends) c.args.i []))
@@ -27,12 +26,10 @@ start_of-start-requires c =
     omega (arith, ap length c.self.view_is, length-parts, ap length c.deref.ensures.value)
 
 pub overflow_add-start : goal.overflow_add-start
-overflow_add-start c =
-    omega (arith, (found (goal.at.overflow_add-start c).After-start_of-start).3)
+overflow_add-start c = omega (arith, (found (goal.at.overflow_add-start c).After-start_of-start).3)
 
 pub index_mut-requires : goal.index_mut-requires
-index_mut-requires c =
-    omega (arith, (found (goal.at.index_mut-requires c).After-start_of-start).3)
+index_mut-requires c = omega (arith, (found (goal.at.index_mut-requires c).After-start_of-start).3)
 
 pub returns : goal.returns
 returns c =

@@ -44,8 +44,7 @@ loop-term-preserved c =
           (omega (arith, one, c.first.ensures, c.loop-term.invariant.count)) c.put.ensures.lists;
       room = omega (arith, c.put.ensures.room, c.loop-term.invariant.room);
       count =
-          ap length c.put.ensures.lists
-          ∙ length-set c.loop-term.buckets.lists c.first.result _
+          ap length c.put.ensures.lists ∙ length-set c.loop-term.buckets.lists c.first.result _
           ∙ c.loop-term.invariant.count;
     }
 
