@@ -76,8 +76,7 @@ part_lies ends len i is within =
 -- ---- one more part
 
 pub slice_range-append : {A : Type 0} → (items more : List A) (start end : ℕ) → start ≤ end
-    → end ≤ length items
-    → slice_range (items ++ more) start end ≡ slice_range items start end
+    → end ≤ length items → slice_range (items ++ more) start end ≡ slice_range items start end
 slice_range-append items more start end ordered within =
     ap (take (end - start)) (drop-append-le start items more (omega (arith, ordered, within)))
     ∙ take-append-le (end - start) (drop start items) more

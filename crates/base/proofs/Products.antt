@@ -65,8 +65,7 @@ neg-times a b =
     omega (arith, ints, by (up b) n.0, by (down b) n.0, by (up b) n.1, by (down b) n.1)
 
 pub times_left_comm : (a b c : ℤ) → a *ℤ (b *ℤ c) ≡ b *ℤ (a *ℤ c)
-times_left_comm a b c =
-    sym (times_assoc a b c) ∙ ap (λ x. x *ℤ c) (*ℤ_comm a b) ∙ times_assoc b a c
+times_left_comm a b c = sym (times_assoc a b c) ∙ ap (λ x. x *ℤ c) (*ℤ_comm a b) ∙ times_assoc b a c
 
 -- multiplies a term out, for `simp`
 pub ruleset multiply_out =

@@ -13,7 +13,7 @@ pub use Rattle.bits_model.specs.PairNumbers.{pair_number}
 pub use Rattle.pair_sums.specs.Pairs.{IsPair, IsNonzero, weight_for, entry_in_front, sums_from, AreSummed, weight_at, heavier, sums_of}
 pub use Rattle.std.proofs.lemmas.Int.{ints, to_z-of_z}
 pub use Rattle.std.proofs.lemmas.List.{drop_more, get_or-map, length-map, map-append, nil_from_length, take_more}
-pub use Rattle.std.proofs.lemmas.Option.{slice_get_within, get_or_from_slice_get}
+pub use Rattle.std.proofs.lemmas.Option.{slice_get_within, get_or_from_slice_get, slice_get-map, slice_get_read}
 pub use Rattle.std.proofs.lemmas.List.Sorted.{All-permutation, IsPermutation-append_comm, sum_by-IsPermutation, IsPermutation-trans, IsPermutation-map, IsNonDecreasingBy-from_sort_by_key}
 pub use Rattle.std.proofs.lemmas.List.Elements.{All-nil, All-push, All-tail, All-weaker, recursion_from_All, All-from_recursion}
 pub use Rattle.base.proofs.Totals.{total_by-IsPermutation, size-plus}

@@ -1,6 +1,6 @@
 -- Couplers in the order of their pairs, packed ones, equal neighbours as one, and couplers that came
 -- in order.
-use Rattle.pair_sums.proofs.Common.{nat_tests, ◌≡◌, ◌≢◌, ℕ, ◌+◌, ◌/◌, ◌<◌, ◌≤◌, ◌^◌, unsigned_abs, arith, sym, ap, ◌∙◌, refl, subst, List, [], ◌∷◌, ◌++◌, append_assoc, append-nil, pos, length, map, ℤ, drop, Option, Some, slice_get, ◌+ℤ◌, OnErr, Result, Ok, Err, All, IfSome, ints, IsPermutation, IsNonDecreasingBy, drop_more, get_or-map, length-map, map-append, slice_get_within, get_or_from_slice_get, All-permutation, IsPermutation-append_comm, sum_by-IsPermutation, All-nil, All-push, All-tail, All-weaker, recursion_from_All, total_by-IsPermutation, Entry, pair_number, IsPair, IsNonzero, weight_for, entry_in_front, sums_from, AreSummed, Shape, numbers_of, unpacked, coupler_of, listed, low_of, AreListed, IsFound, KeepsWeights, AreAscending, AreGathered}
+use Rattle.pair_sums.proofs.Common.{nat_tests, ◌≡◌, ◌≢◌, ℕ, ◌+◌, ◌/◌, ◌<◌, ◌≤◌, ◌^◌, unsigned_abs, arith, sym, ap, ◌∙◌, refl, subst, List, [], ◌∷◌, ◌++◌, append_assoc, append-nil, length, map, ℤ, drop, Some, slice_get, OnErr, Result, Ok, Err, All, ints, IsPermutation, IsNonDecreasingBy, drop_more, get_or-map, length-map, map-append, slice_get_within, get_or_from_slice_get, All-permutation, IsPermutation-append_comm, sum_by-IsPermutation, All-nil, All-push, All-tail, All-weaker, recursion_from_All, total_by-IsPermutation, Entry, pair_number, IsPair, IsNonzero, weight_for, entry_in_front, sums_from, AreSummed, Shape, numbers_of, coupler_of, listed, low_of, AreListed, IsFound, KeepsWeights, AreAscending, AreGathered}
 use Rattle.pair_sums.proofs.PairOrder.{Rises, ordered_from_rising}
 use Rattle.pair_sums.proofs.SummedPairs.{sums_from-other}
 
@@ -22,12 +22,6 @@ ordered-map entry n xs x up = λ i j d le in'.
 pub codes-ordered : (shape : Shape) (c d : ℕ) (w v : ℤ) → c / numbers_of shape ≤ d / numbers_of shape
     → pair_number (coupler_of shape c w) ≤ pair_number (coupler_of shape d v)
 codes-ordered shape c d w v le = grind (arith, nat_tests, ints)
-
--- the code of a weight counted from the least one on
-pub packed-code : (shape : Shape) (r : Option ℕ) (number : ℕ) (e : Entry)
-    → IfSome r (λ c. coupler_of shape c e.weight ≡ e) → IfSome r (λ c. low_of shape c ≡ number)
-    → pos number ≡ e.weight +ℤ pos (numbers_of shape / 2) → IfSome r (λ c. unpacked shape c ≡ e)
-packed-code shape r number e nodes low is = grind (arith, nat_tests, ints)
 
 -- ---- codes beside a list of weights
 

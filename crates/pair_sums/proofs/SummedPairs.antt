@@ -83,8 +83,7 @@ weight-sums_of i j e (f ∷ fs) a pairs =
         → weight_at i j (sums_from f fs) ≡ weight_for i j f +ℤ weight_at i j fs
         → weight_at i j (if same then sums_from (heavier e f.weight) fs else entry_in_front e (sums_from f fs))
         ≡ weight_for i j e +ℤ (weight_for i j f +ℤ weight_at i j fs)
-    go true d one apart =
-        omega (arith, ints, one, weight_for-heavier i j e f a pairs.0 (d.0 refl))
+    go true d one apart = omega (arith, ints, one, weight_for-heavier i j e f a pairs.0 (d.0 refl))
     go false d one apart = omega (arith, ints, apart, weight-front i j e (sums_from f fs))
 
 -- ---- the sizes

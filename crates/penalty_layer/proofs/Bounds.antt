@@ -1,6 +1,5 @@
 -- What the limits of a problem say of its table.
-use Rattle.penalty_layer.proofs.Common.{nat_tests, ◌≡◌, ℕ, ◌+◌, ◌-◌, ◌*◌, ◌^◌, ◌≤◌, max, unsigned_abs, cond, Option, Some, None, unwrap_or, List, [], ◌∷◌, ◌++◌, length, map, fold, count_by, append_assoc, subst, arith, is_none, sum_by, AllByRecursion, sum_by-cons, Product, Clause, ProblemContent, IsNormal, products_total, soft_weight, Counted, first_passed, limit_fault, degree, degrees, pairs, weight, penalty, reach, upper, most_degree, positive_total-le, clause_weights}
-use Rattle.problem_form.specs.declared.limits.LimitKind.TheVariants.{Variables, Degree, Negations, Pairs, Weight}
+use Rattle.penalty_layer.proofs.Common.{nat_tests, ◌≡◌, ℕ, ◌+◌, ◌-◌, ◌*◌, ◌^◌, ◌≤◌, max, unsigned_abs, cond, Option, None, unwrap_or, List, [], ◌∷◌, ◌++◌, length, map, fold, count_by, append_assoc, subst, arith, is_none, sum_by, AllByRecursion, sum_by-cons, Product, Clause, ProblemContent, IsNormal, products_total, soft_weight, Counted, first_passed, limit_fault, degree, degrees, pairs, weight, penalty, reach, upper, most_degree, positive_total-le, clause_weights}
 use Rattle.problem_form.specs.declared.limits.Normal.TheVariants as normals
 
 -- ---- no limit is passed

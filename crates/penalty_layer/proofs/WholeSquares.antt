@@ -2,7 +2,7 @@
 --
 -- A union is the same whichever set stands first, and that of a set with itself is the set: so the
 -- whole product has each product of two terms twice, and each term's own square on its own set.
-use Rattle.penalty_layer.proofs.Common.{nat_tests, ◌≡◌, ℕ, ◌*◌, Bool, true, false, sym, ap, ◌∙◌, arith, List, [], ◌∷◌, ℤ, pos, ◌+ℤ◌, ◌*ℤ◌, if◌then◌else◌, flat_map, AllByRecursion, is_eq, ints, recursion_from_All, *ℤ_comm, total_by, if_so, multiply_out, integers, times_assoc, total_by-append, total_by-flat_map, total_by-plus, total_by-same, total_by-times, Literal, has_clash, IsLiteralSet, literal_set-turned, literal_set-twice, Term, set_cmp, coefficient_of, union, union_terms, scaled, product_terms, products_with, square_terms, SquaresAreProducts}
+use Rattle.penalty_layer.proofs.Common.{nat_tests, ◌≡◌, ℕ, ◌*◌, Bool, false, sym, ap, ◌∙◌, arith, List, [], ◌∷◌, ℤ, pos, ◌+ℤ◌, ◌*ℤ◌, if◌then◌else◌, flat_map, AllByRecursion, is_eq, ints, recursion_from_All, *ℤ_comm, total_by, if_so, multiply_out, integers, times_assoc, total_by-append, total_by-flat_map, total_by-plus, total_by-same, total_by-times, Literal, has_clash, IsLiteralSet, literal_set-turned, literal_set-twice, Term, set_cmp, coefficient_of, union, union_terms, scaled, product_terms, products_with, square_terms, SquaresAreProducts}
 
 module _ (ls : List Literal) where
   -- what a term adds to the coefficient of the set

@@ -1,5 +1,5 @@
 -- What the proofs of this crate stand on, of std and of the crates below.
-pub use Rattle.std.proofs.Common.{◌≡◌, Bool, true, false, arith, sym, ap, refl, List, [], ◌∷◌, ℤ, pos, ◌+ℤ◌, ◌⊎◌, inl, inr, ℕ, zero, suc, ◌*◌, ◌%◌, ◌≤◌, neg_ℤ, ◌*ℤ◌, int_rem, unsigned_abs, ◌++◌, if◌then◌else◌, map, ◌∙◌, subst, ◌≢◌, ◌+◌, ◌<◌, ◌^◌, eqb, length, replicate, All, fold, append_assoc, append-nil, ◌-◌, length-append, get_or, ◌&&◌, take, ◌≤ℤ◌, ◌<ℤ◌, to_z, of_z, rules, ◌-ℤ◌, drop, OnErr, FitsSigned}
+pub use Rattle.std.proofs.Common.{set, ◌≡◌, Bool, true, false, arith, sym, ap, refl, List, [], ◌∷◌, ℤ, pos, ◌+ℤ◌, ◌⊎◌, inl, inr, ℕ, zero, suc, ◌*◌, ◌%◌, ◌≤◌, neg_ℤ, ◌*ℤ◌, int_rem, unsigned_abs, ◌++◌, if◌then◌else◌, map, ◌∙◌, subst, ◌≢◌, ◌+◌, ◌<◌, ◌^◌, eqb, length, replicate, All, fold, append_assoc, append-nil, ◌-◌, length-append, get_or, ◌&&◌, take, ◌≤ℤ◌, ◌<ℤ◌, to_z, of_z, rules, ◌-ℤ◌, drop, OnErr, FitsSigned}
 pub use Rattle.term_table.proofs.Common.{Ordering, Decides-int_eq, nat_tests, total_by, if_so, Literal, Term, set_cmp, in_front, with_addition, with_additions, terms_total, Ascends, AreTerms, IsTermSet, set_size, terms_size, coefficient_of, recursion_from_All, All-from_recursion, All-append, All-nil, All-push, All-tail, All-weaker, All-head, contributions, plain_terms, HasRoomFor, elements}
 pub use Rattle.form_steps.proofs.Common.{Form, Figures, take-append_seam}
 pub use Rattle.pair_sums.proofs.Common.{Entry, IsPair, weight_at, weight_for, IsNonzero}
@@ -10,7 +10,7 @@ pub use Rattle.std.specs.Int.{◌∣◌, IsGcd, w128}
 pub use Rattle.std.specs.List.{AllByRecursion, list_all, sum_by, slice_index_or, flat_map}
 pub use Rattle.std.proofs.Math.Nat.{one-dvd, eq-zero_of_zero-dvd, dvd_trans, dvd_refl, mul-le-mul_right, mul-le-mul_left, dvd-mul_right, mul-dvd-mul_left}
 pub use Rattle.std.proofs.lemmas.Bool.{eq-eqb, eqb-true, and_parts, and_from}
-pub use Rattle.std.proofs.lemmas.List.Sums.{sum_by-cons, sum_by-append, sum_by_push, count_by-le-length, sum_by-set}
+pub use Rattle.std.proofs.lemmas.List.Sums.{get_or-le-sum_by, sum_by-cons, sum_by-append, sum_by_push, count_by-le-length, sum_by-set}
 pub use Rattle.std.proofs.lemmas.Nat.Gcd.{IsGcd-from_zero, IsGcd-from_mod, IsGcd-swap, dvd-zero, le_of_dvd, dvd_of_mod-eq-zero, mod-eq-zero_of_dvd}
 pub use Rattle.quad_form.specs.Units.{is_multiple, greatest_within, unit_of, counted_in, entry_in, IsCommonDivisor, weights_of, quad_unit, reduced, IsReducedAsWritten, weight_of}
 pub use Rattle.std.specs.Prelude.{slice_set, Result, Ok, Err}

@@ -150,8 +150,7 @@ pairs_of ((l ∷ k ∷ ls, c) ∷ ts) = pair_entry l k c ∷ pairs_of ts
 couplers-fold : (q : QuadContent) (ts : List Term)
     → (fold with_term q ts).couplers ≡ q.couplers ++ pairs_of ts
 couplers-fold q [] = sym (append-nil q.couplers)
-couplers-fold q (t ∷ ts) =
-    grind (arith, nat_tests, couplers-fold (with_term q t) ts, append_assoc)
+couplers-fold q (t ∷ ts) = grind (arith, nat_tests, couplers-fold (with_term q t) ts, append_assoc)
 
 -- the sets of two variables that are above a pair
 pairs_above : (width : ℕ) (l k : Literal) (c : ℤ) (ts : List Term) → IsFlat width (l ∷ k ∷ [])

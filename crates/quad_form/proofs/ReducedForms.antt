@@ -83,8 +83,7 @@ bits_linear y u e = grind (arith, nat_tests)
 energy_each : (f : Entry → ℤ) → IsLinear f → (u : ℕ) (e : Entry) → u ∣ unsigned_abs e.weight
     → pos u *ℤ f (entry_in (pos u) e) ≡ f e
 energy_each f linear u e h =
-    linear (pos u) (entry_in (pos u) e)
-    ∙ ap (λ w. f (record e { weight = w })) (exact u e.weight h)
+    linear (pos u) (entry_in (pos u) e) ∙ ap (λ w. f (record e { weight = w })) (exact u e.weight h)
 
 forms_reduce : (f : List Bool → Entry → ℤ) → ((y : List Bool) → IsLinear (f y)) → (q : QuadContent)
     → Reduces (form_by f q) (form_by f (reduced q)) (quad_unit q) (neg_ℤ q.constant)

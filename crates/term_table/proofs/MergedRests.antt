@@ -132,8 +132,7 @@ length-all ls (r ∷ rs) = grind (arith, nat_tests, length-all ls rs, length-app
 fewer : (ls : List Literal) (rs : List Run) (k : ℕ) → Begins ls (get_or rs k [])
     → length (entries (map (without ls) rs)) < length (entries rs)
 fewer ls [] k b = absurd b
-fewer ls (r ∷ rs) zero b =
-    grind (arith, nat_tests, length-append, length-begins, length-all ls rs)
+fewer ls (r ∷ rs) zero b = grind (arith, nat_tests, length-append, length-begins, length-all ls rs)
 fewer ls (r ∷ rs) (suc k) b =
     grind (arith, nat_tests, fewer ls rs k b, length-append, length-without)
 

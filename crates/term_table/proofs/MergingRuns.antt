@@ -1,11 +1,16 @@
 -- Steps of merging two runs: the lesser of the two first sets goes first.
-use Rattle.term_table.proofs.Common.{nat_tests, ints, arith, ◌≡◌, ℕ, ◌+◌, ◌<◌, ◌≤◌, ◌⊎◌, length, get_or, drop, List, [], ◌∷◌, ◌++◌, sym, ap, ◌∙◌, subst, refl, append_assoc, append-nil, ℤ, ◌+ℤ◌, All, IsStrictlySortedBy, match_ordering, ordering_reverse, drop_more, drop_all, All-head, All-tail, Literal, Term, set_cmp, in_front, with_addition, with_additions, Ascends, merged}
+use Rattle.term_table.proofs.Common.{to_z, of_z, w128, unsigned_abs, ◌^◌, nat_tests, ints, arith, ◌≡◌, ℕ, ◌+◌, ◌<◌, ◌≤◌, ◌⊎◌, length, get_or, drop, List, [], ◌∷◌, ◌++◌, sym, ap, ◌∙◌, subst, refl, append_assoc, append-nil, ℤ, ◌+ℤ◌, All, IsStrictlySortedBy, match_ordering, ordering_reverse, drop_more, drop_all, All-head, All-tail, Literal, Term, set_cmp, in_front, with_addition, with_additions, Ascends, merged}
 use Rattle.std.specs.declared.cmp.Ordering.TheVariants.{Less, Equal, Greater}
 use Rattle.term_table.proofs.SetOrder.{set_total, same_set}
 use Rattle.term_table.proofs.KeptTerms.{IsNonzero, Under, Under-further, greater_back}
 
 pub less_back : (ks ls : List Literal) → set_cmp ks ls ≡ Less → set_cmp ls ks ≡ Greater
 less_back ks ls e = set_total.antisymm ls ks ∙ ap ordering_reverse e
+
+-- two small coefficients are summed in 128 bits
+pub sum_back : (a b x y : ℤ) → a ≡ x → b ≡ y → unsigned_abs x ≤ 2 ^ 125 → unsigned_abs y ≤ 2 ^ 125
+    → to_z w128 (of_z w128 (to_z w128 (of_z w128 a) +ℤ to_z w128 (of_z w128 b))) ≡ x +ℤ y
+sum_back a b x y first second few others = omega (arith, ints)
 
 equal_back : (ks ls : List Literal) → set_cmp ks ls ≡ Equal → set_cmp ls ks ≡ Equal
 equal_back ks ls e = set_total.antisymm ls ks ∙ ap ordering_reverse e

@@ -80,8 +80,7 @@ AreRuns-nil width = record {
 }
 
 pub AreRuns-push : (width : ℕ) (rs : List Run) (r : Run) → AreRuns width rs → AreTerms width r
-    → 1 ≤ length r
-    → ((n : ℕ) → n + 1 ≡ length rs → 2 * length r ≤ length (get_or rs n []))
+    → 1 ≤ length r → ((n : ℕ) → n + 1 ≡ length rs → 2 * length r ≤ length (get_or rs n []))
     → ((ls : List Literal) → unsigned_abs (sum_over ls (rs ++ r ∷ [])) ≤ 2 ^ 124)
     → AreRuns width (rs ++ r ∷ [])
 AreRuns-push width rs r kept terms some half small = record {

@@ -4,7 +4,7 @@
 -- the bits of the new nodes to an assignment reaches the cost of each term. The new nodes lie above
 -- the variables, so a state costs what its first bits cost in the terms.
 use Rattle.std.specs.Prelude.{◌≡◌, ◌+◌, ◌<◌, ◌≤◌, ◌∷◌, ◌++◌, ◌+ℤ◌, ◌≤ℤ◌}
-use Rattle.monomial_layer.specs.laws.Common.{ℕ, zero, suc, Bool, true, false, not, cond, leb, List, [], length, take, get_or, pos, int_lt, flat_map, sum_by, arith, sym, ap, ◌∙◌, refl, inl, inr, ints, cases_lt, nat_tests, get_or-append-add, get_or_append_left, get_or_push, length_push, length-append, length-take, take-append-le, take_all, total_by-append, BitsLink, IsNeverInfinite, Keeps, Extends, Joins, first_bits, HasFirstBits, Literal, all_hold, Term, term_cost, terms_cost, IsTermSet, OfSet, TableContent, IsTable, terms_cost-with_additions, negative_terms, positive_terms, nodes_for, new_nodes, new_terms, all_new_terms, image, Fits, is_taken, first_values, true_literals, new_bits, extension, length-flat_map, Agrees, first_agrees, longer_agrees, holds-agrees, all_hold-agrees, terms_cost-agrees, All, All-head, All-tail}
+use Rattle.monomial_layer.specs.laws.Common.{ℕ, zero, suc, Bool, true, false, cond, leb, List, [], length, take, get_or, pos, int_lt, flat_map, sum_by, arith, sym, ap, ◌∙◌, refl, inl, inr, ints, cases_lt, nat_tests, get_or-append-add, get_or_append_left, get_or_push, length_push, length-append, length-take, take-append-le, take_all, total_by-append, BitsLink, IsNeverInfinite, Keeps, Extends, Joins, first_bits, HasFirstBits, Literal, all_hold, Term, term_cost, terms_cost, IsTermSet, OfSet, TableContent, IsTable, terms_cost-with_additions, negative_terms, positive_terms, nodes_for, new_nodes, new_terms, all_new_terms, image, Fits, is_taken, first_values, true_literals, new_bits, extension, length-flat_map, Agrees, first_agrees, longer_agrees, holds-agrees, all_hold-agrees, terms_cost-agrees, All, All-head, All-tail}
 use Rattle.term_table.specs.Tables as tables
 use Rattle.monomial_layer.specs.laws.TermCosts.{true_literals-cons, positive_terms-le, positive_terms_reach, negative_terms-le, negative_terms_reach}
 

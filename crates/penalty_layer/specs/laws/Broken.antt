@@ -3,7 +3,7 @@
 --
 -- A square is a whole number that is not negative, so it is 0 or at least 1, and n times it is 0 or
 -- at least n.
-use Rattle.std.specs.Prelude.{◌≡◌, ◌≢◌, ◌+◌, ◌≤◌, ◌∷◌, ◌++◌, ◌+ℤ◌, ◌-ℤ◌, ◌*ℤ◌, ◌≤ℤ◌}
+use Rattle.std.specs.Prelude.{◌≡◌, ◌≢◌, ◌+◌, ◌∷◌, ◌++◌, ◌+ℤ◌, ◌-ℤ◌, ◌*ℤ◌, ◌≤ℤ◌}
 use Rattle.penalty_layer.specs.laws.Common.{ℕ, Bool, true, false, refl, sym, ap, ◌∙◌, subst, arith, List, [], length, append_assoc, ℤ, pos, flat_map, list_any, ints, length-append, Decides-int_eq, positive_part, times-le, total_by-append, Constraint, sum_of, fails, slack_range, slack_bits, positive_total, term_cost, terms_cost, slack_weights, slack_value, clamped, square_terms, slack_form, constraint_terms, slack_of, slack_state, excess, nat_tests, or_parts, All, Agrees, All-head, All-tail}
 use Rattle.penalty_layer.specs.laws.Violations.{sum_upper}
 use Rattle.penalty_layer.specs.laws.SlackValues.{slack_value-le, slack_reaches, HasBits-middle, length-value_bits}

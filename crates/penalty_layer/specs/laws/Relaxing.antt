@@ -3,7 +3,7 @@
 -- The table costs what the problem's own cost is, where that is whole, and the squares. Where a hard
 -- clause or a constraint is broken, it adds at least the penalty, which lifts the least cost above
 -- the threshold. A cost above the most is above the threshold by itself.
-use Rattle.std.specs.Prelude.{◌≡◌, ◌+◌, ◌⊎◌, ◌+ℤ◌, ◌-ℤ◌, ◌≤ℤ◌, ◌<ℤ◌, ◌||◌, if◌then◌else◌}
+use Rattle.std.specs.Prelude.{◌≡◌, ◌⊎◌, ◌+ℤ◌, ◌-ℤ◌, ◌≤ℤ◌, ◌<ℤ◌, ◌||◌, if◌then◌else◌}
 use Rattle.penalty_layer.specs.laws.Common.{ℕ, inl, inr, ℤ, pos, int_lt, Bool, true, false, cond, Option, Some, None, List, length, map, take, refl, arith, sym, ap, ◌∙◌, subst, list_any, sum_by, flat_map, ints, take_all, length-take, length-append, take-append-le, total_by, total_by-append, Cost, Whole, Infinite, BitsLink, IsNeverInfinite, Relaxes, Joins, ExtendsLeast, relaxes_in_one, first_bits, HasFirstBits, Constraint, ProblemContent, sum_of, soft_cost, fails_hard, fails, own_cost, cut_off, problem_cost, cost_size, own_upper, lower, lesser_of, upper, penalty_above, penalty, slack_range, slack_bits, term_cost, terms_cost, terms_cost-with_additions, plain_terms, contributions, clause_term, node_count, image, figures, extension, Fits, product_term, constraint_terms, slack_state, nat_tests, or_cases, length-flat_map, slack_of, Agrees, first_agrees}
 use Rattle.problem_form.specs.Problems as problems
 use Rattle.term_table.specs.Tables as tables

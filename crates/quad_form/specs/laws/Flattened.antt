@@ -2,8 +2,8 @@
 --
 -- Terms cost what they are multiplied out to, a table of sums costs what was added, and a term adds
 -- to the quadratic form where it is placed exactly what it costs.
-use Rattle.term_table.proofs.Common.{nat_tests, ℕ, zero, suc, ℤ, pos, neg_ℤ, Bool, true, false, cond, List, [], length, All, replicate, AllByRecursion, fold, arith, ap, sym, ◌∙◌, refl, subst, ints, All-nil, All-append, All-head, All-tail, All-from_recursion, recursion_from_All, total_by, if_so, total_by-append, all_hold, are_opposite, IsLiteralSet, Term, terms_cost, with_additions, IsTermSet, TableContent, IsTable, IsLow, plain, with_front, plain_terms, contributions, Literal}
-use Rattle.std.specs.Prelude.{not, ◌&&◌, slice_set, ◌≡◌, ◌+◌, ◌<◌, ◌≤◌, ◌+ℤ◌, ◌||◌, ◌∷◌, ◌++◌, if◌then◌else◌}
+use Rattle.term_table.proofs.Common.{nat_tests, ℕ, zero, suc, ℤ, pos, neg_ℤ, Bool, true, false, List, [], length, All, replicate, AllByRecursion, fold, arith, ap, sym, ◌∙◌, refl, ints, All-nil, All-append, All-head, All-tail, All-from_recursion, recursion_from_All, total_by, if_so, total_by-append, all_hold, IsLiteralSet, Term, terms_cost, with_additions, IsTermSet, TableContent, IsTable, IsLow, plain, with_front, plain_terms, contributions, Literal}
+use Rattle.std.specs.Prelude.{◌&&◌, slice_set, ◌≡◌, ◌+◌, ◌<◌, ◌≤◌, ◌+ℤ◌, ◌∷◌, ◌++◌, if◌then◌else◌}
 use Rattle.std.specs.List.{slice_index_or}
 use Rattle.std.specs.List.Sorted.{IsStrictlySortedBy}
 use Rattle.std.proofs.lemmas.List.{length-set, length-replicate}

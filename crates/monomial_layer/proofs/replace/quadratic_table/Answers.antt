@@ -74,3 +74,12 @@ returns-clause-made c =
 
 pub returns-clause-kept : goal.returns-clause-kept
 returns-clause-kept c = c.terms-literals-items.ensures.kept
+
+pub overflow_add-next-in-loop-literals : goal.overflow_add-next-in-loop-literals
+overflow_add-next-in-loop-literals c =
+    let t : Term = (c.in-Some.literals.now, c.in-Some.coefficient) in
+    let left = rest_more _ c.loop-literals.literals-iterator c.next.new.self c.next.result (c.in-Some.literals, c.in-Some.coefficient) c.in-Some.is c.next.ensures.steps in
+    let back = to_z-of_z w128 c.in-Some.coefficient (search rules) in
+    let found : c.new_nodes-next.result ≡ new_nodes t = c.new_nodes-next.ensures c.in-Some.literals.now refl ∙ ap (λ z. new_nodes (c.in-Some.literals.now, z)) back in
+    let most = nodes_left c.loop-literals.next c.new_nodes-next.result _ t _ _ left found c.loop-literals.invariant.numbered in
+    omega (arith, most, all_nodes-le c.args.table.now.content.terms, c.requires.size)

@@ -7,7 +7,6 @@ loop-i-preserved c =
     let i = c.loop-i.i in
     let e = c.at.result in
     let pushed : c.push.new.self.items ≡ c.loop-i.wide.items ++ e ∷ [] = search rules in
-    pushed
-    ∙ ap (λ (es : List Entry). es ++ e ∷ []) c.loop-i.invariant
+    pushed ∙ ap (λ (es : List Entry). es ++ e ∷ []) c.loop-i.invariant
     ∙ ap (λ (d : Entry). take i pairs ++ d ∷ []) (sym (get_or_from_slice_get pairs i e e c.at.ensures))
     ∙ sym (take_more pairs i e (slice_get_within pairs i e c.at.ensures))

@@ -1,4 +1,4 @@
-use Rattle.bits_model.proofs.Common.{nat_tests, ◌-◌, length, ap, arith, to_z-of_z}
+use Rattle.bits_model.proofs.Common.{nat_tests, length, ap, arith, to_z-of_z}
 use Rattle.bits_model.proofs.Packed.{next_of_left, past_first, left_below, later_rows}
 use Rattle.bits_model.proofs.coupler_entries.CouplerEntriesIterator.next.Goals as goal
 

@@ -1,4 +1,6 @@
-use Rattle.bits_model.proofs.Common.{◌≡◌, ◌++◌, ◌∷◌, [], true, false, List, length, to_z, of_z, rules, sym, ap, ◌∙◌, w128, to_z-of_z, Entry, RowStart, last_is, packed_entries}
+use Rattle.bits_model.proofs.Common.{◌≡◌, ◌++◌, ◌-◌, ◌∷◌, [], true, false, take, arith, take_all, List, length, to_z, of_z, rules, sym, ap, ◌∙◌, w128, to_z-of_z, Entry, RowStart, last_is, packed_entries}
+use Rattle.std.specs.Prelude.{vec_len}
+use Rattle.std.proofs.lemmas.List.{take-append-le}
 use Rattle.bits_model.proofs.Packed.{packed_longer, longer_is_packed, packed_begun, begun_is_packed}
 use Rattle.bits_model.proofs.couplers.CouplerList.push.Goals as goal
 
@@ -44,3 +46,12 @@ returns-in-Ok-clause-pushed c =
     (λ i. packed_entries (starts i) (c.in-Ok.ensures.seconds i) (weights i))
     ∙ packed_begun _ _ _ c.args.first c.args.second c.args.weight c.self.invariant
     ∙ ap (λ (es : List Entry). es ++ e ∷ []) c.self.view_is
+
+pub invariant_of-self-in-Err : goal.invariant_of-self-in-Err
+invariant_of-self-in-Err c =
+    let starts = c.self.inside.starts.items in
+    let before = vec_len c.push.new.self - 1 in
+    let same = c.pop.ensures.rest ∙ ap (take before) c.in_ok-push.ensures.items
+    ∙ take-append-le before starts _ (omega (arith, c.in_ok-push.ensures.len))
+    ∙ take_all before starts (omega (arith, c.in_ok-push.ensures.len)) in
+    rw (same, c.in-Err.ensures.same_seconds, c.in-Err.ensures.same_weights) c.self.invariant

@@ -1,4 +1,4 @@
-use Rattle.form_steps.proofs.Common.{nat_tests, rules, arith, ◌+◌, ◌^◌, ◌≤◌, unsigned_abs, w128, ints, to_z-of_z, one_le_times, keeps_after_keeps}
+use Rattle.form_steps.proofs.Common.{rules, ap, ◌∙◌, ◌*ℤ◌, ◌+ℤ◌, arith, ◌+◌, ◌^◌, ◌≤◌, unsigned_abs, w128, ints, to_z-of_z, one_le_times, keeps_after_keeps}
 use Rattle.form_steps.proofs.Growth.{first_growth, second_growth, first_factor, second_factor, both_scales, both_scales_fit, moved_fits, moved_sum, moved_sum_fits, grown_by_both}
 use Rattle.form_steps.proofs.then.ThenLayer.lower.Goals as goal
 
@@ -25,10 +25,14 @@ lower-requires-2-clause-size g c =
     second_growth _ _ g.A.Layer.SIZE_GROWTH g.B.Layer.SIZE_GROWTH _ c.in_ok-first.ensures.size c.requires.size
 
 pub scale_of_both-scale-requires : goal.scale_of_both-scale-requires
-scale_of_both-scale-requires g c = grind (arith, nat_tests, ints, both_scales_fit)
+scale_of_both-scale-requires g c =
+    let e = c.in_ok-first.ensures in
+    both_scales_fit _ _ (g.A.Source.Costed.total c.args.source.now) g.A.Layer.TOTAL_GROWTH g.B.Layer.TOTAL_GROWTH e.scale_low e.scale_high c.in_ok-second.ensures.scale_low c.in_ok-second.ensures.scale_high c.requires.total
 
 pub offset_of_both-offset-requires-clause-product : goal.offset_of_both-offset-requires-clause-product
-offset_of_both-offset-requires-clause-product g c = grind (arith, nat_tests, ints, moved_fits)
+offset_of_both-offset-requires-clause-product g c =
+    let f = c.in_ok-second.ensures in
+    moved_fits _ _ (g.A.Source.Costed.total c.args.source.now + 1) g.A.Layer.TOTAL_GROWTH g.B.Layer.TOTAL_GROWTH g.A.Layer.OFFSET_FACTOR g.B.Layer.OFFSET_FACTOR f.scale_low f.scale_high c.in_ok-first.ensures.offset_high c.requires.offset
 
 pub offset_of_both-offset-requires-clause-sum : goal.offset_of_both-offset-requires-clause-sum
 offset_of_both-offset-requires-clause-sum g c =
@@ -37,7 +41,9 @@ offset_of_both-offset-requires-clause-sum g c =
     moved_sum_fits c.in_ok-second.second.scale c.in_ok-first.first.offset c.in_ok-second.second.offset (g.A.Source.Costed.total c.args.source.now + 1) (g.A.Target.Costed.total c.in_ok-first.first.target + 1) g.A.Layer.TOTAL_GROWTH g.B.Layer.TOTAL_GROWTH g.A.Layer.OFFSET_FACTOR g.B.Layer.OFFSET_FACTOR f.scale_low f.scale_high e.offset_high f.offset_high e.total c.requires.offset
 
 pub returns-clause-scale_low : goal.returns-clause-scale_low
-returns-clause-scale_low g c = grind (arith, nat_tests, ints, one_le_times)
+returns-clause-scale_low g c =
+    rw (to_z-of_z w128 c.scale_of_both-scale.result (search rules), c.scale_of_both-scale.ensures)
+    (one_le_times _ _ c.in_ok-first.ensures.scale_low c.in_ok-second.ensures.scale_low)
 
 pub returns-clause-scale_high : goal.returns-clause-scale_high
 returns-clause-scale_high g c =
@@ -47,7 +53,11 @@ returns-clause-scale_high g c =
     omega (arith, ints)
 
 pub returns-clause-offset_high : goal.returns-clause-offset_high
-returns-clause-offset_high g c = grind (arith, nat_tests, ints, to_z-of_z, moved_sum)
+returns-clause-offset_high g c =
+    let e = c.in_ok-first.ensures in
+    let f = c.in_ok-second.ensures in
+    rw (to_z-of_z w128 c.offset_of_both-offset.result (search rules), c.offset_of_both-offset.ensures)
+    (moved_sum _ _ _ (g.A.Source.Costed.total c.args.source.now + 1) (g.A.Target.Costed.total c.in_ok-first.first.target + 1) g.A.Layer.TOTAL_GROWTH g.B.Layer.TOTAL_GROWTH g.A.Layer.OFFSET_FACTOR g.B.Layer.OFFSET_FACTOR f.scale_low f.scale_high e.offset_high f.offset_high e.total)
 
 pub returns-clause-total : goal.returns-clause-total
 returns-clause-total g c =
@@ -61,3 +71,16 @@ pub returns-clause-keeps : goal.returns-clause-keeps
 returns-clause-keeps g c =
     rw (to_z-of_z w128 c.scale_of_both-scale.result (search rules), to_z-of_z w128 c.offset_of_both-offset.result (search rules), c.scale_of_both-scale.ensures, c.offset_of_both-offset.ensures)
     (keeps_after_keeps c.in_ok-first.ensures.keeps c.in_ok-second.ensures.keeps)
+
+pub returns-clause-scale : goal.returns-clause-scale
+returns-clause-scale g c =
+    let e = c.in_ok-first.ensures in
+    let second = c.in_ok-second.ensures.scale ∙ ap g.B.Layer.scale e.image in
+    to_z-of_z w128 c.scale_of_both-scale.result (search rules) ∙ c.scale_of_both-scale.ensures ∙ (λ i. e.scale i *ℤ second i)
+
+pub returns-clause-offset : goal.returns-clause-offset
+returns-clause-offset g c =
+    let e = c.in_ok-first.ensures in
+    let f = c.in_ok-second.ensures in
+    to_z-of_z w128 c.offset_of_both-offset.result (search rules) ∙ c.offset_of_both-offset.ensures
+    ∙ (λ i. (f.scale ∙ ap g.B.Layer.scale e.image) i *ℤ e.offset i +ℤ (f.offset ∙ ap g.B.Layer.offset e.image) i)

@@ -1,12 +1,9 @@
-use Rattle.quad_form.proofs.Common.{elements, nat_tests, rules, ◌≡◌, ◌+◌, ◌*◌, ◌≤◌, ◌^◌, ◌∙◌, take, drop, ap, sym, subst, length, ℤ, ◌+ℤ◌, unsigned_abs, to_z, of_z, ◌++◌, List, Result, Ok, Err, OnErr, arith, w128, ints, to_z-of_z, take-append_seam, IfOk-from_err, IsTermSet, with_appended, short_shares, SumsContent, AreSummed, Gain, IsSums}
+use Rattle.quad_form.proofs.Common.{elements, nat_tests, rules, ◌≡◌, ◌+◌, ◌*◌, ◌≤◌, ◌^◌, ◌∙◌, take, drop, ap, sym, subst, length, ℤ, ◌+ℤ◌, unsigned_abs, to_z, of_z, ◌++◌, List, arith, w128, ints, to_z-of_z, take-append_seam, IsTermSet, with_appended, short_shares, SumsContent, AreSummed, Gain, IsSums}
+use Rattle.literal_lists.proofs.LentParts.{on_err}
 use Rattle.quad_form.proofs.HeldSums.{Added, few-more, fits-more, held-more}
 use Rattle.quad_form.proofs.ShortTerms.{short_constant-size}
 use Rattle.quad_form.proofs.sums.QuadSums.add.Goals.{After-unsigned_abs}
 use Rattle.quad_form.proofs.sums.QuadSums.add.Goals as goal
-
-on_err : {T E P : Type 0} (r : Result T E) → P → OnErr r P
-on_err (Ok x) p = tt
-on_err (Err e) p = p
 
 pub push_short-requires-clause-narrow : goal.push_short-requires-clause-narrow
 push_short-requires-clause-narrow c =
@@ -21,18 +18,6 @@ pub invariant_of-self : goal.invariant_of-self
 invariant_of-self c =
     subst (λ ps. IsSums (record { total = c.self.inside.total; constant = c.self.inside.constant; weights = c.self.inside.weights.items; pairs = ps }))
     (sym c.in_err-push_short.ensures.unchanged) c.self.invariant
-
-pub returns-in_err-push_short-clause-added : goal.returns-in_err-push_short-clause-added
-returns-in_err-push_short-clause-added c t held = IfOk-from_err _ _ c.from_residual.ensures.0
-
-pub returns-in_err-push_short-clause-width : goal.returns-in_err-push_short-clause-width
-returns-in_err-push_short-clause-width c = IfOk-from_err _ _ c.from_residual.ensures.0
-
-pub returns-in_err-push_short-clause-total : goal.returns-in_err-push_short-clause-total
-returns-in_err-push_short-clause-total c = IfOk-from_err _ _ c.from_residual.ensures.0
-
-pub returns-in_err-push_short-clause-pairs : goal.returns-in_err-push_short-clause-pairs
-returns-in_err-push_short-clause-pairs c = IfOk-from_err _ _ c.from_residual.ensures.0
 
 pub returns-in_err-push_short-clause-unchanged : goal.returns-in_err-push_short-clause-unchanged
 returns-in_err-push_short-clause-unchanged c = grind (arith, nat_tests, ints, on_err)

@@ -50,3 +50,12 @@ returns-in_err-gather_row-clause-prefix c =
 
 pub returns-clause-prefix : goal.returns-clause-prefix
 returns-clause-prefix c = grind (arith, nat_tests, prefix_by_result)
+
+pub gather_row-requires-clause-small : goal.gather_row-requires-clause-small
+gather_row-requires-clause-small c =
+    let a = c.in-Some.a in
+    let before = terms_total c.args.into.now.content.terms + terms_total c.loop-ls.products.terms in
+    let few =
+    all_small (to_z w128 (of_z w128 c.args.factor)) (terms_total c.args.other.now.content.terms) before _ c.loop-ls.ls-iterator c.next.new.self
+    (c.in-Some.ls.now, a) c.in-Some.ensures.steps c.loop-ls.invariant.small in
+    rw (to_z-of_z w128 a (search rules)) (omega (arith, few))
