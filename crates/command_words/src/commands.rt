@@ -58,7 +58,7 @@ pub enum Target {
 }
 
 /// What the word of a target says.
-#[derive(Clone, Copy, Debug, PartialEq, Eq)]
+#[derive(Clone, Copy)]
 pub enum TargetWord {
     Nodes(NodeModel),
     Chimera,
@@ -118,7 +118,7 @@ pub enum Origin {
 }
 
 /// What the first word of a command says.
-#[derive(Clone, Copy, Debug, PartialEq, Eq)]
+#[derive(Clone, Copy)]
 pub enum Verb {
     Compile,
     Size,

@@ -14,7 +14,7 @@ use whole_text::digits;
 const MOST_SIDE: u64 = 1 << 20;
 
 /// The keys that were given, each with its value.
-#[derive(Clone, Copy, Debug, PartialEq, Eq)]
+#[derive(Clone, Copy)]
 pub struct Keys {
     pub normal: Option<Normal>,
     pub high: Option<High>,

@@ -1,5 +1,6 @@
 //! The files that a command names.
-ghost use Rattle.std.specs.Prelude.{◌≡◌, map, string_bytes};
+ghost use Rattle.std.specs.Prelude.{◌≡◌, None, Some, MatchOption, map, string_bytes};
+ghost use Rattle.std.specs.List.{slice_get};
 ghost use Rattle.command_words.specs.Names.{certificate_of, dead_of, file_of, map_of, name_of, order_of, place_of, state_of, text_at, value_of};
 
 use crate::commands::{Ask, Chaining, Command, Origin, Target, WordAt};
@@ -27,17 +28,29 @@ fn value_of(word: &str) -> &str
     }
 }
 
+/// The word at an index, where there is one.
+pub(crate) fn word_at(words: &[String], i: usize) -> Option<&str>
+    ensures { MatchOption result
+        (slice_get (map string_bytes words.now) i ≡ None)
+        (λ word. slice_get (map string_bytes words.now) i ≡ Some word.now) }
+{
+    match words.get(i) {
+        Some(word) => Some(word.as_str()),
+        None => None,
+    }
+}
+
 /// The text at a place of the words, empty where there is no such word.
 pub fn text_at(words: &[String], at: WordAt) -> &str
     ensures { result.now ≡ text_at (map string_bytes words.now) at }
 {
     match at {
-        WordAt::Whole(i) => match words.get(i) {
-            Some(word) => word.as_str(),
+        WordAt::Whole(i) => match word_at(words, i) {
+            Some(word) => word,
             None => "",
         },
-        WordAt::Value(i) => match words.get(i) {
-            Some(word) => value_of(word.as_str()),
+        WordAt::Value(i) => match word_at(words, i) {
+            Some(word) => value_of(word),
             None => "",
         },
     }

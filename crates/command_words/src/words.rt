@@ -8,6 +8,7 @@ use crate::commands::{
     WordAt,
 };
 use crate::keys::{Keys, keys_from, target_by};
+use crate::names::word_at;
 use base::UnitChoice;
 use problem_form::{Choices, High, Normal};
 use whole_text::digits;
@@ -59,8 +60,8 @@ fn target_of(word: &str) -> Option<TargetWord>
 fn verb_word(words: &[String]) -> Result<Verb, usize>
     ensures { result ≡ valued verb_of (map string_bytes words.now) 0 }
 {
-    match words.first() {
-        Some(word) => verb_of(word.as_str()).ok_or(1),
+    match word_at(words, 0) {
+        Some(word) => verb_of(word).ok_or(1),
         None => Err(1),
     }
 }
@@ -68,8 +69,8 @@ fn verb_word(words: &[String]) -> Result<Verb, usize>
 fn format_word(words: &[String]) -> Result<Format, usize>
     ensures { result ≡ valued format_of (map string_bytes words.now) 1 }
 {
-    match words.get(1) {
-        Some(word) => format_of(word.as_str()).ok_or(2),
+    match word_at(words, 1) {
+        Some(word) => format_of(word).ok_or(2),
         None => Err(2),
     }
 }
@@ -79,8 +80,8 @@ fn target_word(words: &[String], i: usize) -> Result<TargetWord, usize>
     requires { i < 2 ^ 32 }
     ensures { result ≡ valued target_of (map string_bytes words.now) i }
 {
-    match words.get(i) {
-        Some(word) => target_of(word.as_str()).ok_or(i + 1),
+    match word_at(words, i) {
+        Some(word) => target_of(word).ok_or(i + 1),
         None => Err(i + 1),
     }
 }
@@ -88,7 +89,7 @@ fn target_word(words: &[String], i: usize) -> Result<TargetWord, usize>
 fn number_word(words: &[String]) -> Result<u64, usize>
     ensures { result ≡ valued digits_number (map string_bytes words.now) 1 }
 {
-    match words.get(1) {
+    match word_at(words, 1) {
         Some(word) => digits(word.as_bytes()).ok_or(2),
         None => Err(2),
     }
@@ -111,8 +112,8 @@ fn clauses_word(words: &[String]) -> Result<u64, usize>
     ensures value { result ≡ valued clauses_of (map string_bytes words.now) 2 }
     ensures few { IfOk result (λ clauses. clauses ≤ 100000) }
 {
-    match words.get(2) {
-        Some(word) => clauses_of(word.as_str()).ok_or(3),
+    match word_at(words, 2) {
+        Some(word) => clauses_of(word).ok_or(3),
         None => Err(3),
     }
 }
@@ -122,7 +123,7 @@ fn named(words: &[String], i: usize) -> Result<WordAt, usize>
     requires { i < 2 ^ 32 }
     ensures { result ≡ named (map string_bytes words.now) i }
 {
-    match words.get(i) {
+    match word_at(words, i) {
         Some(_) => Ok(WordAt::Whole(i)),
         None => Err(i + 1),
     }
@@ -254,8 +255,8 @@ fn notice_of(word: &str) -> Option<Notice>
 fn first_notice(words: &[String]) -> Option<Notice>
     ensures { result ≡ first_notice (map string_bytes words.now) }
 {
-    match words.first() {
-        Some(word) => notice_of(word.as_str()),
+    match word_at(words, 0) {
+        Some(word) => notice_of(word),
         None => None,
     }
 }

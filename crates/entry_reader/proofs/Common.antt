@@ -1,5 +1,5 @@
 -- What the proofs of this crate stand on, of std and of the crates below.
-pub use Rattle.problem_form.proofs.Common.{◌≡◌, Bool, List, map, refl, ap, ◌∙◌, ℕ, ◌+◌, ◌<◌, ◌≤◌, ◌^◌, true, false, cond, eqb, [], ◌∷◌, All, Ok, arith, fold, Result, Err, sym, ℤ, pos, negsuc, ◌+ℤ◌, ◌*ℤ◌, neg_ℤ, ◌++◌, suc, length, length-append, ◌*◌, nat_abs, rules, total_by, total_by-map, total_by-same, total_by-append, unsigned_abs, count_by, codes, nat_tests, All-tail, sum_by-cons, count_by-le-length, flat_map, AllByRecursion, ProblemContent, sum_of, problem_cost, problem_total, blank, with_variables, with_product, ints, to_z-of_z, length-map, w128, on_ok_weaker, err_from_is_err_and}
+pub use Rattle.problem_form.proofs.Common.{◌≡◌, Bool, List, map, refl, ap, ◌∙◌, ℕ, ◌+◌, ◌<◌, ◌≤◌, ◌^◌, true, false, cond, eqb, [], ◌∷◌, All, Ok, arith, fold, Result, Err, sym, ℤ, pos, negsuc, ◌+ℤ◌, ◌*ℤ◌, neg_ℤ, ◌++◌, suc, length, length-append, ◌*◌, nat_abs, rules, total_by, total_by-map, total_by-same, total_by-append, unsigned_abs, count_by, codes, nat_tests, All-tail, sum_by-cons, count_by-le-length, flat_map, AllByRecursion, ProblemContent, sum_of, problem_cost, problem_total, blank, with_variables, with_product, ints, to_z, of_z, to_z-of_z, fits_signed_from_abs, length-map, w128, on_ok_weaker, err_from_is_err_and}
 pub use Rattle.model_text.proofs.Common.{decimal, signed_decimal, entry_row, Row, rows_text, figure_rows, chain_rows, graph_rows, header_row, model_rows, Entry, Kind, Figures}
 pub use Rattle.whole_text.proofs.Common.{cases_Bool}
 pub use Rattle.bits_model.specs.Output.{Written, entry_energy, IsPlaced, is_node, is_coupler}
@@ -19,7 +19,7 @@ pub use Rattle.problem_form.proofs.AddedParts.{products_add_up}
 pub use Rattle.entry_reader.specs.declared.layout.Layout.{Layout}
 pub use Rattle.entry_reader.specs.declared.layout.Listed.{Listed}
 pub use Rattle.entry_reader.specs.Problems.{problem_of, products_of, listed_problem, problem_read, times}
-unfoldable pub use Rattle.entry_reader.specs.Problems.{problem_of_words}
+unfoldable pub use Rattle.entry_reader.specs.Problems.{problem_of_words, normal_reading}
 pub use Rattle.problem_form.proofs.NormalForms.{normal_form-cost}
 pub use Rattle.whole_text.proofs.Pieces.{plain_line}
 pub use Rattle.model_text.proofs.RowTexts.{IsWord, IsRow, AreRows}
@@ -27,3 +27,4 @@ pub use Rattle.model_text.proofs.ModelRows.{figures_are_rows, graph_are_rows}
 pub use Rattle.whole_text.specs.TokenTexts.{word_of}
 pub use Rattle.whole_text.proofs.Lengths.{few_words}
 pub use Rattle.whole_text.specs.declared.faults.TextFault.{TextFault}
+pub use Rattle.std.proofs.lemmas.Bool.{eq-eqb, ne_eqb}

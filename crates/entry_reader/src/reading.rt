@@ -64,7 +64,6 @@ pub fn read_entries_tokens(
 }
 
 /// The problem of a text, in normal form, or the first fault of the text.
-#[tactic(auto, unfolding(crate::specs::Problems::normal_reading, crate::specs::Problems::problem_of_words, crate::specs::Entries::reading))]
 pub fn read_entries(alloc: Global, layout: Layout, text: &[u8]) -> Result<Problem, TextAnswer>
     requires { length text.now ≤ 2 ^ 24 }
     ensures { Gives (λ problem. problem) result (normal_reading layout text.now) }

@@ -5,9 +5,9 @@ pub use Rattle.whole_text.specs.declared.faults.TextAnswer.{TextAnswer}
 pub use Rattle.whole_text.specs.Steps.{◌>>=◌, Fails, end_line, next_of, fault, integer_at, Gives}
 pub use Rattle.problem_form.proofs.AddedParts.{parts_add_up, products_apart, products_written}
 pub use Rattle.opb_reader.specs.Opb.{Listed, Opb, literals_in, widened, variables_of, greatest_index, is_operator, begins_literal, literal_at, is_semicolon, coefficient_at, operator_at, WordsAreEnough}
-unfoldable pub use Rattle.opb_reader.specs.Opb.{constraints_at, head_at, reading_of_words, sum_at, comparison_at, constraint_at, literals_at, product_at, many, term_at, closed_at, objective_at}
+unfoldable pub use Rattle.opb_reader.specs.Opb.{constraints_at, head_at, reading_of_words, sum_at, comparison_at, constraint_at, literals_at, product_at, many, term_at, closed_at, objective_at, reading}
 pub use Rattle.opb_reader.specs.Cost.{constraint_of, problem_of, compared, stands, is_met, is_broken, opb_cost, ReadingKeepsCosts}
-unfoldable pub use Rattle.opb_reader.specs.Cost.{problem_of_words}
+unfoldable pub use Rattle.opb_reader.specs.Cost.{problem_of_words, normal_reading}
 pub use Rattle.opb_reader.specs.Views.{with_term, with_listed, head_read, constraints_read, put_all, objective_read, constraint_read, literals_read, put}
 pub use Rattle.whole_text.specs.declared.words.WordRef.{WordRef}
 pub use Rattle.whole_text.specs.TokenTexts.{word_of, words_of}
@@ -20,3 +20,4 @@ pub use Rattle.literal_lists.specs.declared.literal.Literal.{Literal}
 pub use Rattle.problem_form.specs.declared.terms.Product.{Product}
 pub use Rattle.problem_form.specs.declared.terms.Constraint.{Constraint}
 pub use Rattle.whole_text.specs.declared.faults.TextFault.{TextFault}
+pub use Rattle.std.proofs.lemmas.List.Sums.{get_or-le-sum_by}

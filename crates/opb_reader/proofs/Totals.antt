@@ -1,7 +1,7 @@
 -- The sizes of the numbers of sums.
 use Rattle.opb_reader.proofs.Common.{◌≡◌, ◌+◌, ◌++◌, ℕ, List, [], ◌∷◌, arith, unsigned_abs, sum_by-append, sum_by-cons, Product, products_total}
 
-abbrev size : Product → ℕ
+abbrev pub size : Product → ℕ
 size t = unsigned_abs t.coefficient
 
 pub products_total-push : (ts : List Product) (t : Product)

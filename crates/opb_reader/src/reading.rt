@@ -140,7 +140,6 @@ pub fn read_opb_tokens(alloc: Global, text: &TokenText) -> Result<Problem, TextA
 }
 
 /// The problem of a text, in normal form, or the first fault of the text.
-#[tactic(auto, unfolding(crate::specs::Cost::normal_reading, crate::specs::Cost::problem_of_words, crate::specs::Opb::reading))]
 pub fn read_opb(alloc: Global, text: &[u8]) -> Result<Problem, TextAnswer>
     requires { length text.now ≤ 2 ^ 24 }
     ensures { Gives (λ problem. problem) result (normal_reading text.now) }

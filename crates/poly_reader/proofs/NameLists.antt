@@ -1,5 +1,5 @@
 -- Lists of names as they are lent, and of their literals.
-use Rattle.poly_reader.proofs.Common.{nat_tests, ◌≡◌, ◌<◌, ◌≤◌, ℕ, Bool, not, cond, ◌||◌, ◌+◌, List, [], ◌∷◌, ◌++◌, All, refl, ap, arith, bytes_eq, Bor, list_any, position_or_len, map-append, All-push, insert_key, Literal, with_name, number_of, names_lent}
+use Rattle.poly_reader.proofs.Common.{nat_tests, ◌≡◌, ◌<◌, ◌≤◌, ℕ, Bool, true, false, not, cond, ◌||◌, ◌+◌, List, [], ◌∷◌, ◌++◌, All, refl, ap, arith, bytes_eq, Bor, list_any, position_or_len, map-append, All-push, insert_key, Literal, is_name, AreNames, with_name, number_of, names_lent}
 
 -- ---- lent names
 
@@ -21,6 +21,14 @@ number_of-lent (n ∷ ns) name =
 pub with_name-lent : (names : List (Bor (List ℕ))) (name : Bor (List ℕ))
     → names_lent (insert_key lent_eq names name) ≡ with_name (names_lent names) name.now
 with_name-lent names name = grind (arith, nat_tests, any_lent, map-append)
+
+-- a name behind names, where it is none of them
+pub with_name-form : (names : List (List ℕ)) (name : List ℕ) → is_name name ≡ true → AreNames names → AreNames (with_name names name)
+with_name-form names name one all = by_test (list_any (bytes_eq name) names)
+  where
+    by_test : (b : Bool) → AreNames (cond b names (names ++ name ∷ []))
+    by_test true = all
+    by_test false = All-push (λ n. is_name n ≡ true) names name all one
 
 -- ---- literals of so many variables, and one more
 

@@ -110,7 +110,6 @@ pub fn read_poly_tokens(alloc: Global, text: &TokenText) -> Result<Polynomial, T
 
 /// The problem of a text, in normal form, and the names of its variables, or the first fault of the
 /// text.
-#[tactic(auto, unfolding(crate::specs::Cost::normal_reading, crate::specs::Cost::polynomial_of_words, crate::specs::Poly::reading))]
 pub fn read_poly(alloc: Global, text: &[u8]) -> Result<Polynomial, TextAnswer>
     requires { length text.now ≤ 2 ^ 24 }
     ensures { Gives (λ polynomial. polynomial) result (normal_reading text.now) }

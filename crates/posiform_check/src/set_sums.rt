@@ -18,7 +18,7 @@ use std::alloc::Global;
 use std::marker::Model;
 
 /// Why sums were not settled: a set or a number has no place, or there is no memory.
-#[derive(Clone, Copy, Debug, PartialEq, Eq)]
+#[derive(Clone, Copy)]
 pub(crate) enum Unsettled {
     NoPlace,
     NoMemory,
@@ -33,7 +33,7 @@ impl From<NoMemory> for Unsettled {
 }
 
 /// What is added to the coefficient of a pair.
-#[derive(Clone, Copy, Debug, PartialEq, Eq)]
+#[derive(Clone, Copy)]
 pub(crate) struct PairTerm {
     pub first: u32,
     pub second: u32,
@@ -247,7 +247,7 @@ fn by_pair(mut pairs: Vec<PairTerm>) -> Result<Vec<PairTerm>, NoMemory>
 }
 
 /// The sum of a pair's terms.
-#[derive(Clone, Copy, Debug, PartialEq, Eq)]
+#[derive(Clone, Copy)]
 struct PairSum {
     first: u32,
     second: u32,

@@ -111,7 +111,6 @@ pub fn read_wbo_tokens(alloc: Global, text: &TokenText) -> Result<Wbo, TextAnswe
 }
 
 /// The source of a text, in normal form, or the first fault of the text.
-#[tactic(auto, unfolding(crate::specs::Reading::normal_reading, crate::specs::Reading::content_of_words, crate::specs::Reading::reading))]
 pub fn read_wbo(alloc: Global, text: &[u8]) -> Result<Wbo, TextAnswer>
     requires { length text.now ≤ 2 ^ 24 }
     ensures { Gives (λ wbo. wbo) result (normal_reading text.now) }

@@ -7,7 +7,7 @@ pub use Rattle.problem_form.proofs.AddedParts.{clauses_add_up}
 pub use Rattle.whole_text.proofs.Lengths.{next_less, few_words}
 pub use Rattle.wcnf_reader.specs.declared.layout.ClauseLayout.{ClauseLayout}
 pub use Rattle.wcnf_reader.specs.Wcnf.{Header, Listed, Wcnf, header_at, at_end, first_of, literal_at, clauses_to_end, WordsAreEnough, largest}
-unfoldable pub use Rattle.wcnf_reader.specs.Wcnf.{clause_at, clauses_at, older_of, literals_at, clauses_within, headerless_of}
+unfoldable pub use Rattle.wcnf_reader.specs.Wcnf.{clause_at, clauses_at, older_of, literals_at, clauses_within, headerless_of, reading}
 pub use Rattle.wcnf_reader.specs.Cost.{clause_of, problem_of, literal_of, is_true, is_satisfied, is_hard, is_broken, unsatisfied_weight, wcnf_cost, ReadingKeepsCosts}
 pub use Rattle.wcnf_reader.specs.Views.{clause_read, problem_read, listed_problem, older_read, widened, headerless_read, some_literal, literal_read, literals_read, bound_of, header_of}
 pub use Rattle.problem_form.proofs.NormalForms.{normal_form-cost}
@@ -17,3 +17,4 @@ pub use Rattle.problem_form.proofs.KeptClauses.{with_clause-total}
 pub use Rattle.problem_form.specs.declared.terms.Clause.{Clause}
 pub use Rattle.literal_lists.specs.declared.literal.Literal.{Literal}
 pub use Rattle.whole_text.specs.declared.faults.TextFault.{TextFault}
+unfoldable pub use Rattle.wcnf_reader.specs.Cost.{normal_reading, problem_of_words}

@@ -117,7 +117,6 @@ pub fn read_wcnf_tokens(alloc: Global, text: &TokenText) -> Result<Problem, Text
 }
 
 /// The problem of a text, in normal form, or the first fault of the text.
-#[tactic(auto, unfolding(crate::specs::Cost::normal_reading, crate::specs::Cost::problem_of_words, crate::specs::Wcnf::reading))]
 pub fn read_wcnf(alloc: Global, text: &[u8]) -> Result<Problem, TextAnswer>
     requires { length text.now ≤ 2 ^ 24 }
     ensures { Gives (λ problem. problem) result (normal_reading text.now) }

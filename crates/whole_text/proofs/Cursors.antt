@@ -8,14 +8,12 @@ later xs = take (length xs - 1) (drop 1 xs)
 pub narrow_first : (marks : List ℕ) (wide : List Stride) → 1 ≤ length marks
     → (get_or marks 0 0 ≡ 0 → ⊥)
     → strides marks wide ≡ stride_of (get_or marks 0 0) ∷ strides (later marks) wide
-narrow_first marks wide some not =
-    grind (arith, nat_tests, take_rest marks 1)
+narrow_first marks wide some not = grind (arith, nat_tests, take_rest marks 1)
 
 pub wide_first : (marks : List ℕ) (wide : List Stride) (d : Stride) → 1 ≤ length marks
     → get_or marks 0 0 ≡ 0 → 1 ≤ length wide
     → strides marks wide ≡ get_or wide 0 d ∷ strides (later marks) (later wide)
-wide_first marks wide d some is more =
-    grind (arith, nat_tests, take_rest marks 1, take_rest wide 1)
+wide_first marks wide d some is more = grind (arith, nat_tests, take_rest marks 1, take_rest wide 1)
 
 -- the first stride keeps within the bytes and the lines, and the cursor behind it too
 module _ (line : ℕ) (bytes marks marks' : List ℕ) (wide wide' : List Stride) (s : Stride) (cursor : IsCursor line bytes marks wide) (is : strides marks wide ≡ s ∷ strides marks' wide') where

@@ -73,8 +73,7 @@ joined-push low (u ∷ ts) t h some = (h.0, h.1, joined-push u.end ts t h.2 some
 pub last_line_pushed : (ts : List Token) (t : Token) → last_line (ts ++ t ∷ []) ≡ t.line
 last_line_pushed [] t = refl
 last_line_pushed (u ∷ []) t = omega arith
-last_line_pushed (u ∷ v ∷ ts) t =
-    grind (arith, nat_tests, last_line_pushed (v ∷ ts) t)
+last_line_pushed (u ∷ v ∷ ts) t = grind (arith, nat_tests, last_line_pushed (v ∷ ts) t)
 
 last_from : (at line : ℕ) (s : Stride) (ss : List Stride) → last_line (placed at line (s ∷ ss)) ≡ line + lines_along (s ∷ ss)
 last_from at line s [] = omega arith

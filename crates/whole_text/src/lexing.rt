@@ -20,7 +20,7 @@ use std::simd::prelude::*;
 const LANES: usize = 16;
 
 /// Where a lexer stands in a line.
-#[derive(Clone, Copy, Debug, PartialEq, Eq)]
+#[derive(Clone, Copy, PartialEq, Eq)]
 enum At {
     /// Only blanks so far.
     Fresh,

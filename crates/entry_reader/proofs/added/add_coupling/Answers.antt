@@ -1,35 +1,28 @@
-use Rattle.entry_reader.proofs.Common.{ints, nat_tests, ◌∷◌, ◌+◌, ◌*◌, ◌≤◌, [], pos, negsuc, nat_abs, ◌*ℤ◌, rules, arith, w128, to_z-of_z, on_ok_weaker, problem_total, times}
-use Rattle.entry_reader.proofs.Totals.{abs_four, abs_less, three_within}
-use Rattle.entry_reader.proofs.added.add_coupling.Goals.{In_ok-add_single}
+use Rattle.entry_reader.proofs.Common.{◌<◌, ◌^◌, nat_abs, arith, on_ok_weaker}
+use Rattle.entry_reader.proofs.Totals.{kept, four_kept, less_kept, three_within}
 use Rattle.entry_reader.proofs.added.add_coupling.Goals as goal
 
--- what the first three products added
-three : (c : In_ok-add_single)
-    → problem_total c.add_single.new.problem + nat_abs (negsuc 1 *ℤ c.args.coupling)
-    ≤ problem_total c.args.problem.now + 9 * nat_abs c.args.coupling
-three c =
-    let coupling = c.args.coupling in
-    let kept = to_z-of_z w128 coupling (search rules) in
-    let four = to_z-of_z w128 (pos 4 *ℤ coupling) (search rules) in
-    let less = to_z-of_z w128 (negsuc 1 *ℤ coupling) (search rules) in
-    three_within _ _ _ _ _ _ _ (abs_four coupling) (abs_less coupling)
-    (rw kept at c.add_number.ensures.total)
-    (rw (kept, four) at c.in_ok-add_pair.ensures.total)
-    (rw (kept, less) at c.in_ok-add_single.ensures.total)
-
 pub add_single-requires-2-clause-small : goal.add_single-requires-2-clause-small
-add_single-requires-2-clause-small c = grind (arith, nat_tests, ints, to_z-of_z, three)
+add_single-requires-2-clause-small c =
+    let small : nat_abs c.args.coupling < 2 ^ 100 = omega (arith, c.requires.small) in
+    let within = three_within _ _ _ _ c.args.coupling small c.add_number.ensures.total
+    c.in_ok-add_pair.ensures.total c.in_ok-add_single.ensures.total in
+    omega (arith, within, c.requires.small)
 
 pub returns-clause-added : goal.returns-clause-added
 returns-clause-added c =
-    let coupling = c.args.coupling in
-    let kept = to_z-of_z w128 coupling (search rules) in
-    let four = to_z-of_z w128 (pos 4 *ℤ coupling) (search rules) in
-    let less = to_z-of_z w128 (negsuc 1 *ℤ coupling) (search rules) in
-    let both = times (pos 4 *ℤ coupling) (c.args.first ∷ c.args.second ∷ []) in
-    let one = times (negsuc 1 *ℤ coupling) (c.args.first ∷ []) in
-    let other = times (negsuc 1 *ℤ coupling) (c.args.second ∷ []) in
-    grind (arith, nat_tests, ints)
+    let small : nat_abs c.args.coupling < 2 ^ 100 = omega (arith, c.requires.small) in
+    let same = kept c.args.coupling small in
+    let four = four_kept c.args.coupling small in
+    let less = less_kept c.args.coupling small in
+    let number = rw same at c.add_number.ensures.added in
+    let pair = rw (same, four) at c.in_ok-add_pair.ensures.added in
+    let single = rw (same, less) at c.in_ok-add_single.ensures.added in
+    rw (same, less, single, pair, number) at c.add_single-2.ensures.added
 
 pub returns-clause-total : goal.returns-clause-total
-returns-clause-total c = grind (arith, nat_tests, ints, to_z-of_z, on_ok_weaker, three)
+returns-clause-total c =
+    let small : nat_abs c.args.coupling < 2 ^ 100 = omega (arith, c.requires.small) in
+    let within = three_within _ _ _ _ c.args.coupling small c.add_number.ensures.total
+    c.in_ok-add_pair.ensures.total c.in_ok-add_single.ensures.total in
+    grind (arith, on_ok_weaker)

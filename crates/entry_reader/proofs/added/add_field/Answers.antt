@@ -1,14 +1,18 @@
-use Rattle.entry_reader.proofs.Common.{nat_tests, ◌≡◌, pos, ◌*ℤ◌, neg_ℤ, ◌+ℤ◌, ◌∙◌, rules, arith, w128, ints, to_z-of_z, on_ok_weaker}
+use Rattle.entry_reader.proofs.Common.{◌<◌, ◌^◌, nat_abs, arith, ints, on_ok_weaker}
+use Rattle.entry_reader.proofs.Totals.{kept, twice_kept, negated_kept}
 use Rattle.entry_reader.proofs.added.add_field.Goals as goal
 
 pub returns-clause-added : goal.returns-clause-added
 returns-clause-added c =
-    let field = c.args.field in
-    let kept = to_z-of_z w128 field (search rules) in
-    let negated : pos 0 +ℤ neg_ℤ field ≡ neg_ℤ field = omega (arith, ints) in
-    let less = to_z-of_z w128 (pos 0 +ℤ neg_ℤ field) (search rules) ∙ negated in
-    let twice = to_z-of_z w128 (pos 2 *ℤ field) (search rules) in
-    grind (arith, nat_tests, ints)
+    let small : nat_abs c.args.field < 2 ^ 100 = omega (arith, c.requires.small) in
+    let same = kept c.args.field small in
+    let number = rw (same, negated_kept c.args.field small) at c.add_number.ensures.added in
+    rw (same, twice_kept c.args.field small, number) at c.add_single.ensures.added
 
 pub returns-clause-total : goal.returns-clause-total
-returns-clause-total c = grind (arith, nat_tests, ints, on_ok_weaker)
+returns-clause-total c =
+    let small : nat_abs c.args.field < 2 ^ 100 = omega (arith, c.requires.small) in
+    let same = kept c.args.field small in
+    let number = rw (same, negated_kept c.args.field small) at c.add_number.ensures.total in
+    let single = rw (same, twice_kept c.args.field small) at c.add_single.ensures.total in
+    grind (arith, ints, on_ok_weaker)

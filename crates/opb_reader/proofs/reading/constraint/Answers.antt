@@ -1,4 +1,4 @@
-use Rattle.opb_reader.proofs.Lemmas.{◌≡◌, sym, ap, subst, ◌∙◌, to_z, of_z, arith, rules, w128, to_z-of_z, err_from_is_err_and, word_of, left, ProblemContent, with_variables, with_constraint, with_constraint-total, Listed, literals_in, widened, compared, with_listed, sum_fails, comparison_fails, constraint_is, compared_within, compared-total, AreWithin, widened-le, terms_within}
+use Rattle.opb_reader.proofs.Lemmas.{get_or-le-sum_by, size, ◌≡◌, sym, ap, subst, ◌∙◌, to_z, of_z, arith, rules, w128, to_z-of_z, err_from_is_err_and, word_of, left, ProblemContent, with_variables, with_constraint, with_constraint-total, Listed, literals_in, widened, compared, with_listed, sum_fails, comparison_fails, constraint_is, compared_within, compared-total, AreWithin, widened-le, terms_within}
 use Rattle.opb_reader.proofs.reading.constraint.Goals as goal
 
 pub returns-in_err-next-clause-read : goal.returns-in_err-next-clause-read
@@ -69,3 +69,18 @@ returns-clause-small c =
     let o = c.in_ok-operator.ensures in
     let small = c.in_ok-next.ensures.small in
     rw state (omega (arith, with_constraint-total, compared-total, o.small, o.shorter))
+
+pub add_constraint-requires-clause-small : goal.add_constraint-requires-clause-small
+add_constraint-requires-clause-small c =
+    let o = c.in_ok-operator.ensures in
+    let whole = to_z-of_z w128 c.in_ok-operator.bound (search rules) in
+    rw (c.widen.ensures, c.compare.ensures, whole)
+    (omega (arith, compared-total, o.small, o.shorter, c.in_ok-next.ensures.small, c.requires.small))
+
+pub compare-requires-clause-bound : goal.compare-requires-clause-bound
+compare-requires-clause-bound c =
+    rw (to_z-of_z w128 c.in_ok-operator.bound (search rules)) c.in_ok-operator.ensures.small
+
+pub compare-requires-clause-terms : goal.compare-requires-clause-terms
+compare-requires-clause-terms c = λ k d within.
+    omega (arith, get_or-le-sum_by size c.sum.new.terms k d within, c.in_ok-next.ensures.small, c.requires.small)

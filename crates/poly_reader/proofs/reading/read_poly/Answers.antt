@@ -1,5 +1,15 @@
-use Rattle.std.proofs.Common.{[]}
+use Rattle.poly_reader.proofs.Common.{[], arith, normal_reading, polynomial_of_words, reading}
 use Rattle.poly_reader.proofs.reading.read_poly.Goals as goal
 
 pub finish-requires : goal.finish-requires
 finish-requires c = (c.args.text.now, c.in_ok-feed.ensures.fed [] c.new-lexer.ensures.empty)
+
+pub read_poly_tokens-requires : goal.read_poly_tokens-requires
+read_poly_tokens-requires c =
+    omega (arith, c.in_ok-finish.ensures.size _ (c.in_ok-feed.ensures.fed [] c.new-lexer.ensures.empty))
+
+pub returns : goal.returns
+unfolding normal_reading polynomial_of_words reading
+returns c =
+    let words = c.in_ok-finish.ensures.words _ (c.in_ok-feed.ensures.fed [] c.new-lexer.ensures.empty) in
+    rw (← c.new-lexer.ensures.style, ← c.feed.ensures.style, ← words) c.read_poly_tokens.ensures

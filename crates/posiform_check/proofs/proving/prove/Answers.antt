@@ -1,6 +1,15 @@
-use Rattle.posiform_check.proofs.Common.{rules, ◌≡◌, ◌≢◌, None, Some, ◌-ℤ◌, refl, to_z, of_z, arith, w128, ints, to_z-of_z, energy, form_of, size-energy, certificate_list, model_list, first_negative, difference, nat_tests}
+use Rattle.posiform_check.proofs.Common.{rules, sym, ◌∙◌, ℤ, first_of, ◌≡◌, ◌≢◌, None, Some, ◌-ℤ◌, refl, to_z, of_z, arith, w128, ints, to_z-of_z, energy, form_of, size-energy, certificate_list, model_list, first_negative, difference, nat_tests}
 use Rattle.posiform_check.proofs.FirstFaults.{first_faults_tell}
+use Rattle.posiform_check.specs.declared.faults.ProofFault.TheVariants.{NotZero}
 use Rattle.posiform_check.proofs.proving.prove.Goals as goal
+
+-- ---- what an energy tells where nothing else is wrong
+
+equal_tells : (e bound : ℤ) → e ≡ bound → first_of None None (e -ℤ bound) ≡ None
+equal_tells e bound same = grind (arith, nat_tests, ints)
+
+above_tells : (e bound : ℤ) → e ≢ bound → first_of None None (e -ℤ bound) ≡ Some (NotZero (e -ℤ bound))
+above_tells e bound differ = grind (arith, nat_tests, ints)
 
 pub returns-in-Some-clause-first : goal.returns-in-Some-clause-first
 returns-in-Some-clause-first c =
@@ -41,7 +50,7 @@ returns-then-energy-certificate-clause-first c =
     let over : to_z w128 (of_z w128 c.above.result) ≡ c.total_energy-energy.result -ℤ cert.bound =
     search rules in
     let differ : c.total_energy-energy.result ≢ cert.bound = search rules in
-    rw (over, none, ← found, value) (grind (arith, nat_tests, ints))
+    rw (over, none, ← found, value) (above_tells _ cert.bound (λ e. differ (value ∙ e)))
 
 pub returns-then-energy-certificate-clause-refused :
     goal.returns-then-energy-certificate-clause-refused
@@ -57,7 +66,7 @@ returns-clause-faultless c =
     let found : None ≡ difference (model_list m) (certificate_list cert) = search rules in
     let value : c.total_energy-energy.result ≡ energy (form_of m) c.args.y.now = search rules in
     let equal : c.total_energy-energy.result ≡ cert.bound = search rules in
-    rw (none, ← found) (grind (arith, nat_tests, ints))
+    rw (none, ← found) (equal_tells _ cert.bound (sym value ∙ equal))
 
 pub returns-clause-proved : goal.returns-clause-proved
 returns-clause-proved c =

@@ -12,21 +12,17 @@ returns c =
     let down = c.in_ok-twice_less.twice_less in
     let down_own : to_z w128 (of_z w128 down) ≡ down = search rules in
     let four_own : to_z w128 (of_z w128 c.in_ok-sum.field-0) ≡ c.in_ok-sum.field-0 = search rules in
-    let first : c.from.result ≡ e.first = search rules in
-    let second : c.from-2.result ≡ e.second = search rules in
-    let first' : c.from-3.result ≡ e.first = search rules in
-    let second' : c.from-4.result ≡ e.second = search rules in
     let a = take_back c.args.sums.now c.add_constant.new.self [] w
     (to_z w128 (of_z w128 c.in_ok-less.less)) (omega (arith, ints, c.in_ok-less.ensures))
     c.in_ok-add_constant.ensures in
     let b = take_back c.add_constant.new.self c.add_node.new.self (node_set e.first)
     (neg_ℤ (pos 2 *ℤ w)) (to_z w128 (of_z w128 c.in_ok-twice.twice))
-    (omega (arith, ints, c.in_ok-twice.ensures)) (rw first at c.in_ok-add_node.ensures) in
+    (omega (arith, ints, c.in_ok-twice.ensures)) (rw c.from.ensures at c.in_ok-add_node.ensures) in
     let d = take_back c.add_node.new.self c.add_node-2.new.self (node_set e.second)
     (neg_ℤ (pos 2 *ℤ w)) (to_z w128 (of_z w128 c.in_ok-twice.twice))
-    (omega (arith, ints, c.in_ok-twice.ensures)) (rw second at c.in_ok-add_node-2.ensures) in
+    (omega (arith, ints, c.in_ok-twice.ensures)) (rw c.from-2.ensures at c.in_ok-add_node-2.ensures) in
     let f = take_back c.add_node-2.new.self c.add_pair.new.self (pair_set e.first e.second)
     (pos 4 *ℤ w) (to_z w128 (of_z w128 c.in_ok-sum.field-0))
     (omega (arith, ints, c.in_ok-less.ensures, c.in_ok-twice_less.ensures, c.in_ok-sum.ensures))
-    (rw (first', second') at c.in_ok-add_pair.ensures) in
+    (rw (c.from-3.ensures, c.from-4.ensures) at c.in_ok-add_pair.ensures) in
     λ set. omega (arith, ints, a set, b set, d set, f set)

@@ -1,5 +1,15 @@
-use Rattle.std.proofs.Common.{[]}
+use Rattle.wcnf_reader.proofs.Common.{[], arith, normal_reading, problem_of_words, reading}
 use Rattle.wcnf_reader.proofs.reading.read_wcnf.Goals as goal
 
 pub finish-requires : goal.finish-requires
 finish-requires c = (c.args.text.now, c.in_ok-feed.ensures.fed [] c.new-lexer.ensures.empty)
+
+pub read_wcnf_tokens-requires : goal.read_wcnf_tokens-requires
+read_wcnf_tokens-requires c =
+    omega (arith, c.in_ok-finish.ensures.size _ (c.in_ok-feed.ensures.fed [] c.new-lexer.ensures.empty))
+
+pub returns : goal.returns
+unfolding normal_reading problem_of_words reading
+returns c =
+    let words = c.in_ok-finish.ensures.words _ (c.in_ok-feed.ensures.fed [] c.new-lexer.ensures.empty) in
+    rw (← c.new-lexer.ensures.style, ← c.feed.ensures.style, ← words) c.read_wcnf_tokens.ensures

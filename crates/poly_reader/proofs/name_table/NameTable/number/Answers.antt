@@ -1,5 +1,5 @@
-use Rattle.poly_reader.proofs.Common.{ap, sym, ◌∙◌, with_name, number_of, names_lent}
-use Rattle.poly_reader.proofs.NameLists.{with_name-lent, number_of-lent}
+use Rattle.poly_reader.proofs.Common.{ap, sym, ◌∙◌, subst, AreNames, with_name, number_of, names_lent}
+use Rattle.poly_reader.proofs.NameLists.{with_name-lent, with_name-form, number_of-lent}
 use Rattle.poly_reader.proofs.NameNumbers.{number_of-with_name}
 use Rattle.poly_reader.proofs.name_table.NameTable.number.Goals as goal
 
@@ -16,3 +16,11 @@ returns-clause-number c =
     c.in_ok-number.ensures.index ∙ number_of-lent keys name
     ∙ sym (number_of-with_name (names_lent keys) name.now)
     ∙ ap (λ names. number_of names name.now) (sym added)
+
+pub invariant_of-self : goal.invariant_of-self
+invariant_of-self c = subst AreNames (sym (ap names_lent c.in_err-number.ensures.err)) c.self.invariant
+
+pub invariant_of-self-2 : goal.invariant_of-self-2
+invariant_of-self-2 c =
+    let added = ap names_lent c.in_ok-number.ensures.keys ∙ with_name-lent c.self.inside.set.keys c.args.name in
+    subst AreNames (sym added) (with_name-form _ _ c.requires c.self.invariant)

@@ -1,4 +1,4 @@
-use Rattle.wbo_reader.proofs.Lemmas.{rules, ◌≡◌, ◌+◌, true, false, Some, drop, subst, sym, ap, ◌∙◌, arith, slice_get, Constraint, IsSound, constraint_total, Soft, eased_row, with_rows, soft_within, rows_left, hard_sound, soft_sound, hard_added, soft_added, first_left, soft_more, hard_more}
+use Rattle.wbo_reader.proofs.Lemmas.{append-nil, not, count_by, drop_all, rows_of, WboContent, rules, ◌≡◌, ◌+◌, true, false, Some, drop, subst, sym, ap, ◌∙◌, arith, slice_get, Constraint, IsSound, constraint_total, Soft, eased_row, with_rows, soft_within, rows_left, hard_sound, soft_sound, hard_added, soft_added, first_left, soft_more, hard_more}
 use Rattle.wbo_reader.proofs.wbo.Wbo.add_rows.Goals as goal
 use Rattle.wbo_reader.proofs.wbo.Wbo.add_rows.Goals.{then-is_soft+in_ok-add_soft, else-is_soft+in_ok-add_hard}
 
@@ -73,3 +73,22 @@ loop-is_soft-preserved c =
             soft_left = omega (arith, w.soft-is, more.0, h.soft_left);
           }
     ]
+
+pub loop-is_soft-init : goal.loop-is_soft-init
+loop-is_soft-init c =
+    let items = c.as_slice-is_soft-items.ensures in
+    let first : c.self.inside.variables + 0 ≡ c.self.inside.variables = omega arith in
+    record {
+      rows = rw (items, first)
+          (ap (λ (s : WboContent). with_rows c.args.problem.now (rows_of s)) c.self.view_is);
+      hard_left = omega (arith, ap (count_by not) items, c.self.invariant.hard_count);
+      soft_left = omega (arith, ap (count_by (λ b. b)) items, c.self.invariant.soft_count);
+    }
+
+pub returns : goal.returns
+returns c =
+    let h = c.loop-is_soft.invariant in
+    let items = drop_all c.loop-is_soft.is_soft-index c.as_slice-is_soft-items.result.now (omega arith) in
+    let hard = drop_all c.loop-is_soft.hard c.self.inside.hard (omega (arith, ap (count_by not) items, h.hard_left)) in
+    let soft = drop_all c.loop-is_soft.soft c.self.inside.soft (omega (arith, ap (count_by (λ b. b)) items, h.soft_left)) in
+    simp append-nil at (rw (items, hard, soft) at h.rows)

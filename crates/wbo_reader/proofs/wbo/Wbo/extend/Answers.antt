@@ -1,4 +1,4 @@
-use Rattle.wbo_reader.proofs.Lemmas.{rules, ◌≡◌, ◌∙◌, ◌++◌, ◌∷◌, [], arith, ap, sym, slice_get, constraint_total, fails, Soft, WboContent, soft_within, bits_more}
+use Rattle.wbo_reader.proofs.Lemmas.{rules, ◌≡◌, ◌∙◌, ◌++◌, ◌∷◌, [], append-nil, map, length, take_all, arith, ap, sym, slice_get, constraint_total, fails, Soft, WboContent, soft_within, bits_more}
 use Rattle.wbo_reader.proofs.wbo.Wbo.extend.Goals as goal
 
 pub fails-bit-requires : goal.fails-bit-requires
@@ -15,3 +15,15 @@ loop-i-preserved c =
     ∙ c.at-soft.ensures in
     bits_more c.args.x.now c.loop-i.y.items _ c.args.self.now.soft c.loop-i.i c.at-soft.result _
     c.loop-i.invariant at bit more
+
+pub loop-i-init : goal.loop-i-init
+loop-i-init c = rw append-nil (search rules)
+
+pub at-soft-requires : goal.at-soft-requires
+at-soft-requires c = omega arith
+
+pub returns : goal.returns
+returns c =
+    let x = c.args.x.now in
+    let soft = ap (λ (s : WboContent). s.soft) c.self.view_is in
+    c.loop-i.invariant ∙ ap (λ ss. x ++ map (λ k. fails x k.constraint) ss) (take_all _ _ (omega (arith, ap length soft)))
