@@ -1,5 +1,6 @@
 -- Steps of the layer's loops, over plain lists.
-use Rattle.chain_layer.proofs.Common.{nat_tests, elements, ◌≡◌, ◌≢◌, ℕ, zero, suc, ◌+◌, ◌*◌, ◌<◌, ◌≤◌, ◌^◌, Bool, cond, ◌||◌, List, [], ◌∷◌, ◌++◌, map, length, take, drop, get_or, set, replicate, fold, ℤ, pos, ◌+ℤ◌, unsigned_abs, neg_ℤ, sym, ap, subst, ◌∙◌, arith, append_assoc, append-nil, map-id, sum_by, flat_map, ◌==◌, All, AllByRecursion, AllZip, list_any, range_with_len, int_div_euclid, int_rem_euclid, ints, cases_eq, drop_more, drop_all, take_all, flat_map_more, get_or_past, get_or-set_same, get_or-set_other, length-set, length-map, length-replicate, get_or-replicate, fill_by_all, get_or-map-range_with_len, length-map-range_with_len, map-range_with_len_more, sum_by-cons, sum_by_push, sum_by-append, fold-append, if_so, total_by_push, Entry, weight_total, node_entries, IsCoupler, weights_within, Embedding, chain_of, nodes_of, field_of, strength, coupling_entry, field_at, equal_shares, shares, ties, couplings_at, recursion_from_All, All-from_recursion, IsNode, shares_size, weights_of_equal, added, AllZip-long, list_any-append, get_or-map}
+use Rattle.chain_layer.proofs.Common.{nat_tests, elements, ◌≡◌, ◌≢◌, ℕ, zero, suc, ◌+◌, ◌*◌, ◌<◌, ◌≤◌, ◌^◌, Bool, cond, ◌||◌, List, [], ◌∷◌, ◌++◌, map, length, take, drop, get_or, set, replicate, fold, ℤ, pos, ◌+ℤ◌, unsigned_abs, neg_ℤ, sym, ap, subst, ◌∙◌, arith, append_assoc, append-nil, map-id, sum_by, flat_map, ◌==◌, All, AllByRecursion, AllZip, list_any, range_with_len, int_div_euclid, int_rem_euclid, ints, cases_eq, drop_more, flat_map_more, get_or_past, get_or-set_same, get_or-set_other, length-set, length-map, length-replicate, get_or-replicate, fill_by_all, get_or-map-range_with_len, length-map-range_with_len, map-range_with_len_more, sum_by-cons, sum_by_push, sum_by-append, fold-append, if_so, total_by_push, Entry, weight_total, node_entries, IsCoupler, weights_within, Embedding, chain_of, nodes_of, field_of, strength, coupling_entry, field_at, equal_shares, shares, ties, couplings_at, recursion_from_All, All-from_recursion, IsNode, shares_size, weights_of_equal, added, AllZip-long, list_any-append, get_or-map}
+use Rattle.std.proofs.Math.Seq.{take-append_seam}
 use Rattle.chain_layer.proofs.Ordered.{ties_at}
 
 -- ---- fields
@@ -165,9 +166,7 @@ first_strength hs xs i same =
 pub changed : {X : Type 0} (xs ys : List X) (n : ℕ) → length xs ≡ n → length ys ≡ n
     → take n (ys ++ drop (length ys) xs) ≡ ys
 changed xs ys n size same =
-    let none : drop (length ys) xs ≡ [] = drop_all (length ys) xs (omega (arith, size, same)) in
-    let whole : ys ++ drop (length ys) xs ≡ ys = ap (λ r. ys ++ r) none ∙ append-nil ys in
-    ap (take n) whole ∙ take_all n ys (omega (arith, same))
+    ap (λ k. take k (ys ++ drop (length ys) xs)) (sym same) ∙ take-append_seam ys (drop (length ys) xs)
 
 pub all_strengths : (e : Embedding) (xs ys : List ℕ) (cs : List Entry)
     → xs ≡ map (λ h. unsigned_abs h + 1) e.ising.fields → cs ≡ e.ising.couplings

@@ -30,7 +30,7 @@ use std::alloc::Global;
 use std::marker::Model;
 
 /// A pair of qubits, and the turn in which it was noted.
-#[derive(Clone, Copy, Debug, PartialEq, Eq)]
+#[derive(Clone, Copy)]
 struct Mark {
     turn: u32,
     from: u32,

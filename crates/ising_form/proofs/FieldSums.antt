@@ -113,8 +113,7 @@ module _ (ws : List ℤ) (i : ℕ) (h : i < length ws) where
       let w = get_or ws i d in
       let rest = drop (i + 1) ws in
       ap (λ zs. get_or (xs ++ zs) i d) (drop_more ws i d h)
-      ∙ ap (λ n. get_or (xs ++ w ∷ rest) n d) (sym fields_long)
-      ∙ get_or-append_seam xs w rest d
+      ∙ ap (λ n. get_or (xs ++ w ∷ rest) n d) (sym fields_long) ∙ get_or-append_seam xs w rest d
 
   pub field_written : (v : ℤ) → slice_set (spins_fields (take i ws) [] ++ drop i ws) i v
       ≡ (spins_fields (take i ws) [] ++ v ∷ []) ++ drop (i + 1) ws

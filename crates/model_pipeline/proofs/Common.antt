@@ -49,8 +49,9 @@ pub use Rattle.normal_form.proofs.Limits.{penalty_admits}
 pub use Rattle.normal_form.proofs.MultipliedOut.{AreAdditions-multiplied_out, small-additions, total-multiplied}
 pub use Rattle.normal_form.proofs.Sizes.{size_within}
 pub use Rattle.quadratization.proofs.Apart.{sum_for-with_additions, nodes-table}
-pub use Rattle.quadratization.proofs.AtOnce.{size-grows, total-grows, image-quad}
-pub use Rattle.quadratization.proofs.ProblemTerms.{places_at_first, AreAdditions-of, total-additions}
+pub use Rattle.quadratization.proofs.AtOnce.{image-quad}
+pub use Rattle.quadratization.proofs.ProblemTerms.{places_at_first, total-additions}
+pub use Rattle.penalty_layer.proofs.RoomForTerms.{AreAdditions-contributions}
 pub use Rattle.ising_form.proofs.ReducedForms.{reduced_is_ising, made_total, one_le_ising_unit, made_reduces}
 pub use Rattle.ising_form.proofs.WrittenModels.{written_is_well_formed, written_total, made_is_reduced, written_energy}
 pub use Rattle.working_graph.proofs.FaultsOn.{fault_on_invalid}

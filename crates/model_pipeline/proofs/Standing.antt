@@ -1,6 +1,6 @@
 -- From additions that are small to their quadratic form: all that is made on the way is well formed
 -- and has room.
-use Rattle.model_pipeline.proofs.Common.{◌≤◌, ◌+◌, ◌^◌, refl, sym, ap, subst, arith, BitsLink, High, TableContent, IsTable, table_size, terms_total-with_additions, all_nodes-le, IsSound-run, IsLow-image, size-image, QuadContent, IsQuad, quad_size, quad_total, quad_total-image, quad_size-image, IsQuad-image, table_of, IsTable-table_of, IsTable-low_of, image-quad, nodes-table, size-grows, total-grows, IsWithin, low_terms_of, LowFits, AddTo, nat_tests, ◌≡◌, ◌++◌, None, List, [], length, All, ◌∙◌, append-nil, recursion_from_All, ProblemContent, IsNormal, limit_fault, Normal, Term, IsTermSet, with_additions, coefficient_of-with_additions, OfSet, All-with_additions, AreTerms-with_additions, contributions-sets, same_tables, contribution_sets, multiplied, IsSmall, penalty_admits, AreAdditions-multiplied_out, small-additions, total-multiplied, size_within, image_size, AreAdditions-of, total-additions, additions_of, HeldContent, HasPlaces, sum_for-with_additions, places_at_first, terms_of, ◌<◌, ◌*◌, ℕ, ℤ, pos, ◌+ℤ◌, ◌*ℤ◌, FitsSigned, unsigned_abs, w128, ints, take-take, Figures, UnitChoice, Decoding, Keeps, Relaxes, decoding_after, figures_after, keeps_after_relaxes, first_bits, Choices, form_of, upper, NodeModel, figures, node_count, penalty_relaxes, threshold_within, multilinear_relaxes, mono_keeps, rosen_keeps, width-run-le, same_bits, length-image, flat_keeps, coupled, length-fields, spins_keeps, image_is_ising, total-image, IsModelOf, form_model, ising_figures, quad_by, quad_of, HaveRoom, HasRoom, IsQuadratized, Stands, Monomial, Rosenberg, Qubo, Ising}
+use Rattle.model_pipeline.proofs.Common.{◌≤◌, ◌+◌, ◌^◌, refl, sym, ap, subst, arith, BitsLink, High, TableContent, IsTable, table_size, terms_total-with_additions, all_nodes-le, IsSound-run, IsLow-image, size-image, QuadContent, IsQuad, quad_size, quad_total, quad_total-image, quad_size-image, IsQuad-image, table_of, IsTable-table_of, IsTable-low_of, image-quad, nodes-table, IsWithin, low_terms_of, LowFits, AddTo, nat_tests, ◌≡◌, ◌++◌, None, List, [], length, All, ◌∙◌, append-nil, recursion_from_All, ProblemContent, IsNormal, limit_fault, Normal, Term, IsTermSet, with_additions, coefficient_of-with_additions, OfSet, All-with_additions, AreTerms-with_additions, contributions-sets, same_tables, contribution_sets, multiplied, IsSmall, penalty_admits, AreAdditions-multiplied_out, small-additions, total-multiplied, size_within, image_size, AreAdditions-contributions, total-additions, additions_of, HeldContent, HasPlaces, sum_for-with_additions, places_at_first, terms_of, ◌<◌, ◌*◌, ℕ, ℤ, pos, ◌+ℤ◌, ◌*ℤ◌, FitsSigned, unsigned_abs, w128, ints, take-take, Figures, UnitChoice, Decoding, Keeps, Relaxes, decoding_after, figures_after, keeps_after_relaxes, first_bits, Choices, form_of, upper, NodeModel, figures, node_count, penalty_relaxes, threshold_within, multilinear_relaxes, mono_keeps, rosen_keeps, width-run-le, same_bits, length-image, flat_keeps, coupled, length-fields, spins_keeps, image_is_ising, total-image, IsModelOf, form_model, ising_figures, quad_by, quad_of, HaveRoom, HasRoom, IsQuadratized, Stands, Monomial, Rosenberg, Qubo, Ising}
 use Rattle.term_table.specs.Tables.{IsLow}
 use Rattle.rosenberg_layer.proofs.Growth.{total-image as total-rosenberg}
 use Rattle.problem_form.specs.declared.limits.Normal.TheVariants.{Literal, Multilinear}
@@ -9,6 +9,8 @@ use Rattle.normal_form.specs.Multilinear.{Admits}
 use Rattle.model_pipeline.proofs.FormModels.{HasFigures, qubo_stands, ising_stands, figures_within}
 use Rattle.monomial_layer.specs.Monomials as monomials
 use Rattle.monomial_layer.proofs.Sets as sets
+use Rattle.monomial_layer.proofs.Sizes as sizes
+use Rattle.quadratization.specs.laws.Between.{low_of, total-low_of}
 use Rattle.rosenberg_layer.specs.Rosenberg as rosenberg
 use Rattle.quad_form.specs.Flat as flat
 use Rattle.penalty_layer.specs.Penalty as penalty
@@ -47,8 +49,8 @@ sums_have_quad Monomial u adds = record {
   low = IsTable-low_of u adds.additions (omega (arith, adds.total));
   short = sets.IsLow-image (table_of u);
   quad = image-quad u (IsWithin-small (table_of u) u adds);
-  total = omega (arith, adds.total, total-grows u adds.additions);
-  size = omega (arith, adds.size, size-grows u);
+  total = omega (arith, adds.total, quad_total-image (low_of u) (sets.IsLow-image (table_of u)), total-low_of u adds.additions);
+  size = omega (arith, adds.size, quad_size-image (low_of u) (sets.IsLow-image (table_of u)), sizes.size-image (table_of u));
 }
 sums_have_quad Rosenberg u adds =
     let t = table_of u in
@@ -153,7 +155,7 @@ pub added : (normal : Normal) (p : ProblemContent) → IsNormal p → limit_faul
 added Literal p normal within =
     let admitted : penalty.Admits p = record { normal = normal; within = within } in
     record {
-      additions = AreAdditions-of p admitted;
+      additions = AreAdditions-contributions p admitted;
       table = refl;
       total = omega (arith, total-additions p within);
       size = image_size p admitted;

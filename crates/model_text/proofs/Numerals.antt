@@ -6,8 +6,7 @@ use Rattle.model_text.proofs.RowTexts.{Lacks, IsWord, no_such_byte}
 digits_lack : (c k n : ℕ) (bs : List ℕ) → c < 48 → Lacks c bs
     → Lacks c (digits_onto k 10 false n bs)
 digits_lack c zero n bs small h = h
-digits_lack c (suc k) n bs small h =
-    grind (arith, nat_tests, digits_lack c k (n / 10))
+digits_lack c (suc k) n bs small h = grind (arith, nat_tests, digits_lack c k (n / 10))
 
 decimal_lacks : (c n : ℕ) → c < 48 → Lacks c (decimal n)
 unfolding digits

@@ -14,7 +14,7 @@ use chimera_graph::{Chimera, Hardware};
 use whole_text::{TextFault, TextKind, blank_len, fault};
 
 /// A dead qubit, or a dead coupler by its two qubits.
-#[derive(Clone, Copy, Debug, PartialEq, Eq)]
+#[derive(Clone, Copy)]
 pub enum DeadPart {
     Qubit(u32),
     Coupler(u32, u32),

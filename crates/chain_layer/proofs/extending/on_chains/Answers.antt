@@ -1,4 +1,4 @@
-use Rattle.chain_layer.proofs.Common.{◌≡◌, ◌&&◌, ◌||◌, false, length, get_or, ap, sym, ◌∙◌, arith, list_any, range_with_len, fill_by_all, bit_at, is_in, chain_of, bit_on}
+use Rattle.chain_layer.proofs.Common.{ℕ, ◌≡◌, ◌&&◌, false, length, ap, ◌∙◌, arith, list_any, range_with_len, fill_by_all, bit_at, is_in, chain_of, bit_on}
 use Rattle.chain_layer.proofs.Added.{changed, any_range}
 use Rattle.chain_layer.proofs.extending.on_chains.Goals as goal
 
@@ -9,15 +9,11 @@ loop-i-preserved c =
     let i = c.loop-i.i in
     let next = c.mark_where.new.y in
     let value = c.deref_mut.ensures.value in
-    let wide : length c.deref_mut.result.now ≡ c.args.qubits = ap length value ∙ c.loop-i.invariant.wide in
-    let same =
-    changed c.loop-i.y.items next c.loop-i.y.len (omega (arith, ap length value)) (omega arith) in
-    record {
-      wide = ap length same ∙ c.mark_where.ensures.length ∙ wide;
-      bits = λ q l. ap (λ y. get_or y q false) same ∙ c.mark_where.ensures.bits q
-          ∙ (λ k. get_or (value k) q false || (bit_at x i && is_in (c.list.ensures.listed k) q))
-          ∙ ap (λ b. b || (bit_at x i && is_in (chain_of chains i) q)) (c.loop-i.invariant.bits q l)
-          ∙ sym (any_range (λ j. bit_at x j && is_in (chain_of chains j) q) i);
+    let same = changed c.loop-i.y.items next c.loop-i.y.len (omega (arith, ap length value)) (omega arith) in
+    let more = λ (q : ℕ). any_range (λ j. bit_at x j && is_in (chain_of chains j) q) i in
+    let marked = c.mark_where.ensures in record {
+      wide = cc (same, value, marked.length, c.loop-i.invariant.wide);
+      bits = λ q l. cc (same, value, marked.bits q, c.list.ensures.listed, c.loop-i.invariant.bits q l, more q);
     }
 
 pub returns : goal.returns

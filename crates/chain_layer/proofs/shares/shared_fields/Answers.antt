@@ -28,9 +28,7 @@ loop-i-preserved c =
     back ∙ ap (λ ws. get_or ws i (pos 0)) (c.as_slice-field-items.ensures ∙ ap (λ (f : IsingContent). f.fields) (c.behind-source.view_is ∙ c.ising.ensures.form)) in
     let chain : c.list.result.now ≡ chain_of e.chains i = c.list.ensures.listed ∙ ap (λ cs. chain_of cs i) c.chains.ensures in
     let value = c.deref_mut.ensures.value in
-    let same =
-    changed c.loop-i.fields.items next c.loop-i.fields.len (omega (arith, ap length value))
-    (omega arith) in
+    let same = changed c.loop-i.fields.items next c.loop-i.fields.len (omega (arith, ap length value)) (omega arith) in
     let step : next ≡ fold added c.loop-i.fields.items (shares_at e i) =
     c.add_shares.ensures.added ∙ (λ k. fold added (value k) (shares (chain k) (field k))) in
     record {

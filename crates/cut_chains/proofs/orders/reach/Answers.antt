@@ -1,6 +1,18 @@
-use Rattle.cut_chains.proofs.Common.{◌≡◌, ◌<◌, ◌-◌, length, get_or, drop, take, refl, ap, ◌∙◌, arith, take_more, take_all, length-drop, is_in, first_of, is_in_at}
+use Rattle.cut_chains.proofs.Common.{◌≡◌, ◌<◌, ◌-◌, length, get_or, drop, take, All-from_recursion, refl, ap, ◌∙◌, arith, take_more, take_all, length-drop, is_in, first_of, is_in_at}
 use Rattle.cut_chains.proofs.Reaching.{reach_more, reach_end, reach_others, chain_parts}
 use Rattle.cut_chains.proofs.orders.reach.Goals as goal
+
+pub bounds-seen-chain : goal.bounds-seen-chain
+bounds-seen-chain c = c.requires.tree.inside.0
+
+pub climb-requires-clause-from : goal.climb-requires-clause-from
+climb-requires-clause-from c =
+    let chain = c.args.chain.now in
+    let cs = drop 1 chain in
+    let whole = take_all (length chain - 1) cs (omega (arith, length-drop 1 chain)) in
+    let inside = All-from_recursion (λ q. q < length c.args.seen.now) cs c.requires.tree.inside.1 in
+    rw (whole, (c.loop-qubit.invariant.reaching c.requires.tree).sized)
+    (inside c.loop-qubit.qubit-index 0 (omega (arith, ap length whole)))
 
 pub loop-qubit-preserved : goal.loop-qubit-preserved
 loop-qubit-preserved c =

@@ -30,25 +30,20 @@ able_at c =
 pub sink-requires : goal.sink-requires
 sink-requires c = record { able = able_at (goal.at.sink-requires c).After-deref }
 
-pub returns-clause-below : goal.returns-clause-below
-returns-clause-below c q in' =
-    let weight : ℕ → ℕ = λ r. get_or c.args.sums.now r 0 in
-    subst (λ qs. get_or c.sink.new.sums q 0 ≡ side_weight weight qs (is_below qs c.args.parents.now q))
-    (chain_parts c.args.chain.now c.requires.tree.filled)
-    (c.sink.ensures.below (able_at (goal.at.returns-clause-below c).After-deref) q in')
-
-pub returns-clause-all : goal.returns-clause-all
-returns-clause-all c =
-    c.sink.ensures.all (able_at (goal.at.returns-clause-all c).After-deref)
-    ∙ all_below (λ r. get_or c.args.sums.now r 0) c.args.chain.now c.args.parents.now
-    c.requires.tree
-
-pub returns-clause-others : goal.returns-clause-others
-returns-clause-others c q out =
-    c.sink.ensures.others (able_at (goal.at.returns-clause-others c).After-deref) q
-    (ap (λ qs. is_in qs q) (chain_parts c.args.chain.now c.requires.tree.filled) ∙ out)
-
-pub returns-clause-known : goal.returns-clause-known
-returns-clause-known c =
-    c.note_parents.ensures.within _ c.requires.known
-    (parents_within _ _ _ c.requires.tree c.requires.inside)
+pub returns : goal.returns
+returns c =
+    let able = able_at (goal.at.returns c).After-deref in
+    let chain = c.args.chain.now in
+    let parts = chain_parts chain c.requires.tree.filled in
+    let weight : ℕ → ℕ = λ r. get_or c.args.sums.now r 0 in record {
+      below = λ q in'. subst (λ qs. get_or c.sink.new.sums q 0 ≡ side_weight weight qs (is_below qs c.args.parents.now q)) parts
+          (c.sink.ensures.below able q in');
+      all = c.sink.ensures.all able ∙ all_below weight chain c.args.parents.now c.requires.tree;
+      sized = c.sink.ensures.sized;
+      ups = c.note_parents.ensures.sized;
+      known = c.note_parents.ensures.within _ c.requires.known (parents_within _ _ _ c.requires.tree c.requires.inside);
+      seens = c.in_ok-reach.ensures.sized;
+      listed = c.in_ok-reach.ensures.others;
+      empty = c.in_ok-reach.ensures.empty;
+      others = λ q out. c.sink.ensures.others able q (ap (λ qs. is_in qs q) parts ∙ out);
+    }

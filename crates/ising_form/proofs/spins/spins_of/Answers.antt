@@ -8,51 +8,26 @@ place : (q : QuadContent) (i : ℕ) → IsQuad q → i < length q.couplers
     → IsCoupler (length q.diagonal) (get_or q.couplers i (record { first = 0; second = 0; weight = pos 0 }))
 place q i quad h = All-get_or (IsCoupler (length q.diagonal)) q.couplers i _ h quad.couplers
 
-pub add-requires-clause-second : goal.add-requires-clause-second
-add-requires-clause-second c =
-    let q : QuadContent = record { constant = c.args.constant; diagonal = c.args.nodes.items; couplers = c.args.couplers.now } in
-    let d : Entry = record { first = 0; second = 0; weight = pos 0 } in
-    let step = next_taken q.couplers _ _ c.in-Some.coupler d c.loop-coupler.invariant.here c.in-Some.ensures.steps in
-    let quad : IsQuad q = c.requires.quad in
-    let width = ap length c.loop-coupler.invariant.fields ∙ length-fields _ 0 q.diagonal in
-    let second = ap (λ (e : Entry). e.second) step.item in
-    omega (arith, (place q (taken q.couplers c.loop-coupler.coupler-iterator) quad step.below).within, width, second)
-
-pub add-requires-clause-first : goal.add-requires-clause-first
-add-requires-clause-first c =
-    let q : QuadContent = record { constant = c.args.constant; diagonal = c.args.nodes.items; couplers = c.args.couplers.now } in
-    let d : Entry = record { first = 0; second = 0; weight = pos 0 } in
-    let step = next_taken q.couplers _ _ c.in-Some.coupler d c.loop-coupler.invariant.here c.in-Some.ensures.steps in
-    let quad : IsQuad q = c.requires.quad in
-    let width = ap length c.loop-coupler.invariant.fields ∙ length-fields _ 0 q.diagonal in
-    let is = place q (taken q.couplers c.loop-coupler.coupler-iterator) quad step.below in
-    let first = ap (λ (e : Entry). e.first) step.item in
-    omega (arith, is.upward, is.within, width, first)
-
-pub add-requires-clause-constant : goal.add-requires-clause-constant
-add-requires-clause-constant c =
+pub add-requires : goal.add-requires
+add-requires c =
     let q : QuadContent = record { constant = c.args.constant; diagonal = c.args.nodes.items; couplers = c.args.couplers.now } in
     let d : Entry = record { first = 0; second = 0; weight = pos 0 } in
     let i = taken q.couplers c.loop-coupler.coupler-iterator in
     let step = next_taken q.couplers _ _ c.in-Some.coupler d c.loop-coupler.invariant.here c.in-Some.ensures.steps in
+    let quad : IsQuad q = c.requires.quad in
+    let is = place q i quad step.below in
+    let width = ap length c.loop-coupler.invariant.fields ∙ length-fields _ 0 q.diagonal in
     let back : to_z w128 (of_z w128 c.args.constant) ≡ c.args.constant = to_z-of_z w128 c.args.constant (search rules) in
-    let so_far = ap unsigned_abs (c.loop-coupler.invariant.constant ∙ ap (λ z. spins_constant z q.diagonal (take i q.couplers)) back) in
-    let most = size-constant q.constant q.diagonal (take i q.couplers) in
+    let sum = ap unsigned_abs (c.loop-coupler.invariant.constant ∙ ap (λ z. spins_constant z q.diagonal (take i q.couplers)) back) in
+    let sizes = ap (node_total 0) c.loop-coupler.invariant.fields in
     let own = ap (λ (e : Entry). unsigned_abs e.weight) step.item in
-    let both = weights-append (node_entries 0 q.diagonal) q.couplers in
-    omega (arith, so_far, most, weight_within q.couplers i d step.below, own, both, c.requires.small)
-
-pub add-requires-clause-fields : goal.add-requires-clause-fields
-add-requires-clause-fields c =
-    let q : QuadContent = record { constant = c.args.constant; diagonal = c.args.nodes.items; couplers = c.args.couplers.now } in
-    let d : Entry = record { first = 0; second = 0; weight = pos 0 } in
-    let i = taken q.couplers c.loop-coupler.coupler-iterator in
-    let step = next_taken q.couplers _ _ c.in-Some.coupler d c.loop-coupler.invariant.here c.in-Some.ensures.steps in
-    let so_far = ap (node_total 0) c.loop-coupler.invariant.fields in
-    let most = size-fields q.diagonal (take i q.couplers) in
-    let own = ap (λ (e : Entry). unsigned_abs e.weight) step.item in
-    let both = weights-append (node_entries 0 q.diagonal) q.couplers in
-    omega (arith, so_far, most, weight_within q.couplers i d step.below, own, both, c.requires.small)
+    let within = weight_within q.couplers i d step.below in
+    let both = weights-append (node_entries 0 q.diagonal) q.couplers in record {
+      first = omega (arith, is.upward, is.within, width, ap (λ (e : Entry). e.first) step.item);
+      second = omega (arith, is.within, width, ap (λ (e : Entry). e.second) step.item);
+      constant = omega (arith, sum, size-constant q.constant q.diagonal (take i q.couplers), within, own, both, c.requires.small);
+      fields = omega (arith, sizes, size-fields q.diagonal (take i q.couplers), within, own, both, c.requires.small);
+    }
 
 pub loop-coupler-preserved : goal.loop-coupler-preserved
 loop-coupler-preserved c =
@@ -68,8 +43,7 @@ loop-coupler-preserved c =
     let first : (get_or es i d).first < length q.diagonal = omega (arith, is.upward, is.within) in
     record {
       here = step.here;
-      constant = c.add.ensures.constant
-          ∙ ap (λ z. z +ℤ e.weight) c.loop-coupler.invariant.constant
+      constant = c.add.ensures.constant ∙ ap (λ z. z +ℤ e.weight) c.loop-coupler.invariant.constant
           ∙ ap (λ (x : Entry). spins_constant k q.diagonal (take i es) +ℤ x.weight) step.item
           ∙ sym (constant_coupled k q.diagonal es i d step.below)
           ∙ ap (λ n. spins_constant k q.diagonal (take n es)) (sym step.next);

@@ -13,3 +13,11 @@ returns-in-All-clause-valid c =
     rw c.in-All.is
     (IfOk-weaker c.check.result _ _ (λ _ h. whole_valid c.in-All.graph c.args.form c.args.map.now h)
     c.check.ensures.valid)
+
+pub returns-in-All-clause-checked : goal.returns-in-All-clause-checked
+returns-in-All-clause-checked c = rw c.in-All.is c.check.ensures.checked
+
+pub returns-in-Working : goal.returns-in-Working
+returns-in-Working c =
+    let told = c.check_working.ensures in
+    rw c.in-Working.is (record { checked = told.checked; valid = told.valid; fault = told.fault })

@@ -26,5 +26,4 @@ returns-clause-written c =
     let whole : end - 11 + (end - (end - 11)) ≡ end = omega (arith, c.requires) in
     let count : length new ≡ end - (end - 11) = omega (arith, c.requires, ap length copied, short) in
     from_part (end - 11) (end - (end - 11)) start line new (omega (arith, c.requires, long)) count
-    (omega (arith, c.requires))
-    ∙ (λ i. drop start (copied i) ++ drop (whole i) line)
+    (omega (arith, c.requires)) ∙ (λ i. drop start (copied i) ++ drop (whole i) line)

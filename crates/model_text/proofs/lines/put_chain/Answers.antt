@@ -19,23 +19,18 @@ returns-in_err-put_qubits-clause-front g c =
     at_error c.from_residual-in_err-put_qubits.result
     (put_fault _ _ _ c.args.buffer.now c.put_pieces.new.buffer _ _ _ _ refl named c.in_err-put_qubits.ensures.front)
 
-pub returns-clause-passed : goal.returns-clause-passed
-returns-clause-passed g c =
+pub returns : goal.returns
+returns g c =
     let number : c.as_bytes-number.result.now ≡ decimal c.args.node = search rules in
     let cut = chain_pieces c.args.node c.args.qubits.now _ number in
     let named =
     put_more _ _ _ c.args.buffer.now c.args.buffer.now c.put_pieces.new.buffer _ _ _ _ cut (put_none _ c.args.buffer.now _) c.in_ok-put_pieces.ensures.passed in
-    let listed = put_more _ _ _ c.args.buffer.now c.put_pieces.new.buffer c.put_qubits.new.buffer _ _ _ (10 ∷ []) refl named c.in_ok-put_qubits.ensures.passed in
-    then_ok c.put.result (λ ended. put_all _ _ c.args.buffer.now c.put.new.self _ [] refl
-    (put_more _ _ _ c.args.buffer.now c.put_qubits.new.buffer c.put.new.self _ (10 ∷ []) (10 ∷ []) [] refl listed ended))
-    c.put.ensures.passed
-
-pub returns-clause-front : goal.returns-clause-front
-returns-clause-front g c =
-    let number : c.as_bytes-number.result.now ≡ decimal c.args.node = search rules in
-    let cut = chain_pieces c.args.node c.args.qubits.now _ number in
-    let named =
-    put_more _ _ _ c.args.buffer.now c.args.buffer.now c.put_pieces.new.buffer _ _ _ _ cut (put_none _ c.args.buffer.now _) c.in_ok-put_pieces.ensures.passed in
-    let listed = put_more _ _ _ c.args.buffer.now c.put_pieces.new.buffer c.put_qubits.new.buffer _ _ _ (10 ∷ []) refl named c.in_ok-put_qubits.ensures.passed in
-    then_error c.put.result
-    (λ fault. put_fault _ _ _ c.args.buffer.now c.put_qubits.new.buffer _ (10 ∷ []) (10 ∷ []) [] refl listed fault) c.put.ensures.front
+    let listed = put_more _ _ _ c.args.buffer.now c.put_pieces.new.buffer c.put_qubits.new.buffer _ _ _ (10 ∷ []) refl named c.in_ok-put_qubits.ensures.passed in record {
+      passed = then_ok c.put.result (λ ended. put_all _ _ c.args.buffer.now c.put.new.self _ [] refl
+          (put_more _ _ _ c.args.buffer.now c.put_qubits.new.buffer c.put.new.self _ (10 ∷ []) (10 ∷ []) [] refl listed ended))
+          c.put.ensures.passed;
+      front = then_error c.put.result
+          (λ fault. put_fault _ _ _ c.args.buffer.now c.put_qubits.new.buffer _ (10 ∷ []) (10 ∷ []) [] refl listed fault) c.put.ensures.front;
+      lost = c.put.ensures.lost;
+      cause = search rules;
+    }

@@ -1,10 +1,10 @@
 use Rattle.std.proofs.Common.{append_assoc, ◌++◌}
 use Rattle.model_text.proofs.Common.{◌≡◌, ◌-◌, ℕ, [], ◌∷◌, length, take, drop, ap, sym, ◌∙◌, arith, to_z, of_z, w64, rules, take_rest, decimal, signed_decimal, row_text}
-use Rattle.model_text.proofs.Puts.{same_front}
+use Rattle.model_text.proofs.Puts.{same_front, same_passed}
 use Rattle.model_text.proofs.lines.put_coupler.Goals as goal
 
-pub returns-in-Ok-clause-front : goal.returns-in-Ok-clause-front
-returns-in-Ok-clause-front g c =
+pub returns-in-Ok : goal.returns-in-Ok
+returns-in-Ok g c =
     let entry = c.args.entry.now in
     let at = c.write_coupler-at.result in
     let line = c.write_coupler-at.new.line in
@@ -14,4 +14,9 @@ returns-in-Ok-clause-front g c =
     let row : drop c.args.start c.args.front.now ++ row_text (decimal entry.second ∷ signed_decimal (to_z w64 (of_z w64 c.in-Ok.weight)) ∷ [])
     ≡ row_text (decimal entry.first ∷ decimal entry.second ∷ signed_decimal entry.weight ∷ []) =
     grind (arith, append_assoc, c.requires.front, narrow) in
-    same_front c.put.result _ _ c.args.buffer.now _ _ (rest ∙ c.write_coupler-at.ensures.written ∙ row) c.put.ensures.front
+    let text = rest ∙ c.write_coupler-at.ensures.written ∙ row in record {
+      passed = same_passed c.put.result _ _ c.args.buffer.now c.put.new.self _ _ text c.put.ensures.passed;
+      front = same_front c.put.result _ _ c.args.buffer.now _ _ text c.put.ensures.front;
+      lost = c.put.ensures.lost;
+      cause = c.put.ensures.cause;
+    }

@@ -4,32 +4,22 @@ use Rattle.model_text.proofs.Puts.{same_front, same_passed}
 use Rattle.model_text.proofs.RowPieces.{figures_pieces}
 use Rattle.model_text.proofs.lines.put_figures.Goals as goal
 
-pub returns-clause-passed : goal.returns-clause-passed
-returns-clause-passed g c =
+pub returns : goal.returns
+returns g c =
     let f = c.args.figures in
     let scale : c.as_bytes-scale.result.now ≡ signed_decimal f.scale = search rules in
     let offset : c.as_bytes-offset.result.now ≡ signed_decimal f.offset = search rules in
     let threshold : c.as_bytes-threshold.result.now ≡ signed_decimal f.threshold = search rules in
     let unit : c.as_bytes-counted.result.now ≡ signed_decimal c.args.unit = search rules in
     let number : c.as_bytes-number.result.now ≡ signed_decimal (pos c.args.variables) = search rules in
-    let rows = figures_pieces f c.args.unit c.args.variables _ _ _ _ _ scale offset threshold unit number in
-    same_passed c.put_pieces.result _ _ c.args.buffer.now c.put_pieces.new.buffer _ _ rows c.put_pieces.ensures.passed
-
-pub returns-clause-front : goal.returns-clause-front
-returns-clause-front g c =
-    let f = c.args.figures in
-    let scale : c.as_bytes-scale.result.now ≡ signed_decimal f.scale = search rules in
-    let offset : c.as_bytes-offset.result.now ≡ signed_decimal f.offset = search rules in
-    let threshold : c.as_bytes-threshold.result.now ≡ signed_decimal f.threshold = search rules in
-    let unit : c.as_bytes-counted.result.now ≡ signed_decimal c.args.unit = search rules in
-    let number : c.as_bytes-number.result.now ≡ signed_decimal (pos c.args.variables) = search rules in
-    let rows = figures_pieces f c.args.unit c.args.variables _ _ _ _ _ scale offset threshold unit number in
-    same_front c.put_pieces.result _ _ c.args.buffer.now _ _ rows c.put_pieces.ensures.front
-
-pub returns-clause-fits : goal.returns-clause-fits
-returns-clause-fits g c =
-    let f = c.args.figures in record {
-      scale = size_fits f.scale (search rules);
-      offset = size_fits f.offset (search rules);
-      threshold = size_fits f.threshold (search rules);
+    let rows = figures_pieces f c.args.unit c.args.variables _ _ _ _ _ scale offset threshold unit number in record {
+      passed = same_passed c.put_pieces.result _ _ c.args.buffer.now c.put_pieces.new.buffer _ _ rows c.put_pieces.ensures.passed;
+      front = same_front c.put_pieces.result _ _ c.args.buffer.now _ _ rows c.put_pieces.ensures.front;
+      lost = c.put_pieces.ensures.lost;
+      cause = c.put_pieces.ensures.cause;
+      fits = record {
+        scale = size_fits f.scale (search rules);
+        offset = size_fits f.offset (search rules);
+        threshold = size_fits f.threshold (search rules);
+      };
     }

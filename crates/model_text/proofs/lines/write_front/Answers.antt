@@ -7,5 +7,4 @@ write_digits-requires c =
     omega (arith, length-decimal-le 10 c.from.result (omega arith) (omega (arith, small)) (omega (arith, small)))
 
 pub returns-clause-written : goal.returns-clause-written
-returns-clause-written c =
-    grind (arith, nat_tests, drop_all 11 c.args.front.now (omega arith))
+returns-clause-written c = grind (arith, nat_tests, drop_all 11 c.args.front.now (omega arith))

@@ -59,27 +59,8 @@ returns-in_err-put_header-clause-front g c =
     at_error c.from_residual-in_err-put_header.result
     (put_fault _ _ _ c.args.buffer.now c.put_graph.new.buffer _ _ _ _ refl graphed c.in_err-put_header.ensures.front)
 
-pub returns-clause-passed : goal.returns-clause-passed
-returns-clause-passed g c =
-    let figured = figured_first g (goal.at.returns-clause-passed g c).In_ok-put_figures in
-    let graphed = put_more _ _ _ c.args.buffer.now c.put_figures.new.buffer c.put_graph.new.buffer _ _ _ _ refl figured c.in_ok-put_graph.ensures.passed in
-    let headed = put_more _ _ _ c.args.buffer.now c.put_graph.new.buffer c.put_header.new.buffer _ _ _ _ refl graphed c.in_ok-put_header.ensures.passed in
-    then_ok c.put_entries.result
-    (λ weighed. put_all _ _ c.args.buffer.now c.put_entries.new.buffer _ [] refl
-    (put_more _ _ _ c.args.buffer.now c.put_header.new.buffer c.put_entries.new.buffer _ _ _ [] (sym (append-nil _)) headed weighed))
-    c.put_entries.ensures.passed
-
-pub returns-clause-front : goal.returns-clause-front
-returns-clause-front g c =
-    let figured = figured_first g (goal.at.returns-clause-front g c).In_ok-put_figures in
-    let graphed = put_more _ _ _ c.args.buffer.now c.put_figures.new.buffer c.put_graph.new.buffer _ _ _ _ refl figured c.in_ok-put_graph.ensures.passed in
-    let headed = put_more _ _ _ c.args.buffer.now c.put_graph.new.buffer c.put_header.new.buffer _ _ _ _ refl graphed c.in_ok-put_header.ensures.passed in
-    then_error c.put_entries.result
-    (λ fault. put_fault _ _ _ c.args.buffer.now c.put_header.new.buffer _ _ _ [] (sym (append-nil _)) headed fault)
-    c.put_entries.ensures.front
-
-pub returns-clause-one : goal.returns-clause-one
-returns-clause-one g c =
+pub returns : goal.returns
+returns g c =
     let m = written c.model.inside in
     let formed = c.model.invariant.0 in
     let narrow : m.nodes < 2 ^ 32 = search rules in
@@ -92,4 +73,17 @@ returns-clause-one g c =
       weights = c.model.invariant.1;
       qubits = qubits_fit m formed narrow;
     } in
-    grind (arith, nat_tests, texts_tell_models, then_ok)
+    let figured = figured_first g (goal.at.returns g c).In_ok-put_figures in
+    let graphed = put_more _ _ _ c.args.buffer.now c.put_figures.new.buffer c.put_graph.new.buffer _ _ _ _ refl figured c.in_ok-put_graph.ensures.passed in
+    let headed = put_more _ _ _ c.args.buffer.now c.put_graph.new.buffer c.put_header.new.buffer _ _ _ _ refl graphed c.in_ok-put_header.ensures.passed in record {
+      passed = then_ok c.put_entries.result
+          (λ weighed. put_all _ _ c.args.buffer.now c.put_entries.new.buffer _ [] refl
+          (put_more _ _ _ c.args.buffer.now c.put_header.new.buffer c.put_entries.new.buffer _ _ _ [] (sym (append-nil _)) headed weighed))
+          c.put_entries.ensures.passed;
+      one = grind (arith, nat_tests, texts_tell_models, then_ok);
+      front = then_error c.put_entries.result
+          (λ fault. put_fault _ _ _ c.args.buffer.now c.put_header.new.buffer _ _ _ [] (sym (append-nil _)) headed fault)
+          c.put_entries.ensures.front;
+      lost = c.put_entries.ensures.lost;
+      cause = search rules;
+    }

@@ -18,8 +18,7 @@ made c = record {
 }
 
 -- .. is the model of the form
-made_is : (c : goal.After-moved)
-    → made c
+made_is : (c : goal.After-moved) → made c
     ≡ written_of c.args.self c.args.variables c.args.figures c.args.unit c.args.kind c.args.chains
 made_is c =
     let inside = c.self.inside in
