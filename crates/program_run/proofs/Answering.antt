@@ -1,12 +1,9 @@
 -- What is asked of the model of a command's plan answers the command.
-use Rattle.program_run.proofs.Common.{nat_tests, ◌≡◌, ℕ, ℤ, pos, ◌*ℤ◌, ◌≤ℤ◌, Bool, List, length, take, Ok, Some, None, refl, sym, ap, ◌∙◌, subst, arith, ints, by_lt_z, Option, NamedFiles, UnitChoice, Form, IsOf, Source, energy, times-lt, Relaxes, Written, IsWellFormed, form_of, decoding_of, Demand, Faithful, HasChains, IsLeastState, least_states_tell, length-read_off, Choices, ProblemContent, FitsFields, model_text, IsTextOf, texts_tell_models, decoding_text, extension_text, proof_text, Format, NodeModel, Ask, WordAt, ChainStrength, most_of, text_at, Command, Read, CostsAs, StandsFor, bounded, carried, names_of, names_read, problem_stands, problem_costs, ising_of, ExtendsTo, IsLeastTo, IsMadeOf, Placement, Plan, ties_of, demand_of, form_in, StandsOn, Last, Nothing, Bits, InOrder, Several, bits_step, gives, checking, placing, planning, last_step, format_in, IsSmall, bounded_cost, judgement_by, read_cost, IsExtendedBy, IsModelled, IsModelText, IsOfModel, IsSolvedBy, IsTold, IsMadeText, EveryStateStands, judgement_of, IsFirstBy, Extends, IsAnswer, IsAskedOf, IsDecoded, IsExtended, IsLeastAsked, IsLeastExtension, IsLeastWhereWhole, IsModelFor, IsProved, IsSolved, TellsSource, bits_were, bound}
+use Rattle.program_run.proofs.Common.{nat_tests, ◌≡◌, ℕ, ℤ, pos, ◌*ℤ◌, ◌≤ℤ◌, Bool, List, length, take, Ok, Some, None, refl, sym, ap, ◌∙◌, subst, arith, ints, by_lt_z, Option, NamedFiles, UnitChoice, Form, IsOf, Source, energy, times-lt, Relaxes, Written, IsWellFormed, form_of, decoding_of, Demand, Faithful, HasChains, IsLeastState, least_states_tell, length-read_off, Choices, ProblemContent, FitsFields, model_text, IsTextOf, texts_tell_models, decoding_text, extension_text, proof_text, Format, NodeModel, Ask, WordAt, ChainStrength, most_of, text_at, Command, Read, CostsAs, StandsFor, bounded, carried, names_of, names_read, problem_stands, problem_costs, ising_of, ExtendsTo, IsLeastTo, IsMadeOf, Placement, Plan, ties_of, demand_of, form_in, StandsOn, Last, Nothing, Bits, InOrder, Several, bits_step, gives, checking, placing, planning, last_step, format_in, IsSmall, bounded_cost, judgement_by, read_cost, IsExtendedBy, IsModelled, IsModelText, IsOfModel, IsSolvedBy, IsTold, IsMadeText, EveryStateStands, judgement_of, IsFirstBy, Extends, IsAnswer, IsAskedOf, IsDecoded, IsExtended, IsLeastAsked, IsLeastExtension, IsLeastWhereWhole, IsModelFor, IsProved, IsSolved, TellsSource, bits_were, bound, Model, Summary, Size, Solve, Decode, Evaluate, Extend, Prove, Choi, Cut, ◌>>=◌}
 use Rattle.problem_form.specs.Problems as problems
 use Rattle.command_words.specs.declared.commands.Format.TheVariants as formats
-use Rattle.command_words.specs.declared.commands.Ask.TheVariants.{Model, Summary, Size, Solve, Decode, Evaluate, Extend, Prove}
-use Rattle.command_words.specs.declared.commands.ChainStrength.TheVariants.{Choi, Cut}
 use Rattle.model_pipeline.specs.Models as models
 use Rattle.run_steps.specs.declared.placements.Placement.TheVariants.{Nodes, Qubits}
-use Rattle.run_steps.specs.Steps.{◌>>=◌}
 use Rattle.program_run.proofs.Scored.{alike_where_wide, scanned_widths, scored_alike}
 use Rattle.program_run.proofs.SmallCosts.{cost_is_small}
 use Rattle.program_run.proofs.Wanted.{HasSoft, costs_wanted, soft_read, soft_wanted, stands_wanted, wanted_names}
@@ -35,10 +32,6 @@ planned_is words held command plan e = grind (arith, nat_tests, bound)
 
 -- ---- the model stands for the source
 
-no_chains : (target : NodeModel) (unit : UnitChoice) (nodes : ℕ) (m : Written)
-    → m.kind ≡ models.kind_of target → HasChains m.kind (demand_of unit (Nodes target) nodes) m
-no_chains target unit nodes m kind = grind (arith, nat_tests)
-
 stands_on : (base : Placement) (choices : Choices) (unit : UnitChoice) (s : Source) (r : Read)
     (m : Written) → StandsFor s r → StandsOn base choices unit r.variables r.problem m
     → IsModelFor base unit (length (ising_of choices r.problem).fields) s m
@@ -53,7 +46,7 @@ stands_on (Nodes target) choices unit s r m stands made =
       threshold = made.threshold;
       unit = made.unit;
       stands = made.relaxes;
-    }) made.kind refl (no_chains target unit nodes m made.kind)
+    }) made.kind refl (grind (arith, nat_tests))
 stands_on (Qubits site) choices unit s r m stands made =
     let nodes = length (ising_of choices r.problem).fields in
     model_stands unit s r m stands (Qubits site) nodes (record {
@@ -67,11 +60,6 @@ stands_on (Qubits site) choices unit s r m stands made =
       stands = made.stands;
     }) made.kind refl
     (subst (λ k. HasChains k (demand_of unit (Qubits site) nodes) m) (sym made.kind) made.embedded)
-
-formed_on : (base : Placement) (choices : Choices) (unit : UnitChoice) (own : ℕ)
-    (p : ProblemContent) (m : Written) → StandsOn base choices unit own p m
-    → IsWellFormed m × FitsFields m
-formed_on base choices unit own p m made = grind (arith, nat_tests)
 
 -- ---- what is told of it
 
@@ -88,11 +76,6 @@ tells_source s demand m state faithful least = grind (arith, nat_tests, least_st
 unscaled-le : (a v w : ℤ) → pos 1 ≤ℤ a → (a *ℤ v) ≤ℤ (a *ℤ w) → v ≤ℤ w
 unscaled-le a v w p h =
     by_lt_z w v (λ lt. absurd (omega (arith, ints, times-lt a w v p lt, h))) (λ le. le)
-
--- a first least state is a least one, whatever the order
-first_is_least : (order : Option (List ℕ)) (g : Form) (y : List Bool) → IsFirstBy order g y
-    → IsLeastState g y
-first_is_least order g y first = grind (arith, nat_tests)
 
 -- where every state stands for the source, one whose energy is the whole cost is a least one
 least_where_whole : (s : Source) (m : Written) (x state : List Bool)
@@ -129,7 +112,7 @@ module _ (plan : Plan) (s : Source) (m : Written) (names : Option (List (List �
 
   solved : (order : Option (List ℕ)) (text : List ℕ) → IsSolvedBy order plan.read m text
       → IsSolved order s most names m text
-  solved order text told = grind (arith, nat_tests, first_is_least, tells_source, decoded_bounded)
+  solved order text told = grind (arith, nat_tests, tells_source, decoded_bounded)
 
   proved : (bits : List Bool) (text : List ℕ) → IsProvedState m bits
       → text ≡ proof_text (energy (form_of m) bits) ((decoding_of m).decoded bits)
@@ -211,7 +194,7 @@ module _ (plan : Plan) (s : Source) (m : Written) (names : Option (List (List �
 
   model_asked : (ask : Ask) (last : Last) (text : List ℕ) → IsModelText ask m text
       → IsAskedOf ask s most names ByPlan m last text
-  model_asked other last text told = grind (arith, nat_tests, formed_on, text_is_its)
+  model_asked other last text told = grind (arith, nat_tests, text_is_its)
 
   bits_asked : (words : List (List ℕ)) (held : NamedFiles) (ask : Ask) (bits : List Bool)
       (text : List ℕ) → (bits_step words held ask plan.read.variables m).end ≡ Some (Ok bits)

@@ -1,7 +1,8 @@
 -- What the proofs of this crate stand on, of std and of the crates below.
 pub use Rattle.std.proofs.Common.{◌≡◌, ℕ, ℤ, pos, ◌*ℤ◌, ◌≤ℤ◌, Bool, List, length, get_or, take, Ok, Some, None, refl, sym, ap, ◌∙◌, subst, arith, Option, ◌≤◌, IfOk, Err, Result, [], ◌∷◌, reverse, ◌^◌, zero, suc, ◌+◌, ◌<◌, true, false, ◌++◌, length-append, append_assoc, append-nil, slice_index_or, Bor, IsOk, OnOk, OnErr, not, ◌&&◌, ◌||◌, cond, map, find, ◌-◌, ◌+ℤ◌, ◌≢◌, string_bytes, rules, of_z, to_z, decimal}
+pub use Rattle.wbo_reader.proofs.Common.{rewritten_relaxes, WboContent}
 pub use Rattle.model_pipeline.proofs.Common.{ints, to_z-of_z, Form, IsOf, energy, times-lt, Relaxes, Decoding, Written, weight_total, read_off, IsLeast, ising_of, site_chains, IsingContent, IfFault, CanStandBy, IsFaultBy, graph_in, fabric_in, chains_of, CanStandAt, upper, limit_fault, auxiliary_bits, Embedding, ising_figures, decoding_to, form_model, kind_of, qubit_model, le-ltb, AllByRecursion, length-map, take-take, take-map, if◌then◌else◌, nat_lt, All, total_by, StandsAtLeast, StandsBy, length-map-range_with_len, QuadContent, length-fields, IfOk-weaker, w128, nat_tests}
-pub use Rattle.run_steps.proofs.Common.{NamedFiles, text_at, if_named, last_files, model_files, CertificateContent, proof_fault, AreFilesOf, AreRead, weight, eqb-true}
+pub use Rattle.run_steps.proofs.Common.{NamedFiles, text_at, if_named, last_files, model_files, CertificateContent, proof_fault, AreFilesOf, AreRead, weight, eqb-true, ended, IfErr}
 pub use Rattle.model_pipeline.proofs.faithful.Common.{by_lt_z, Source, first_decoded, IsWellFormed, form_of, decoding_of, IsLeastState, HasCost, IsFeasible, length-take-le}
 pub use Rattle.elimination_order.proofs.Common.{IsFirstLeastBy, list_any, ⊤, width, IsWithinWidth, IsFirstWider, first_wide, IsFirstLeast}
 pub use Rattle.model_text.proofs.Common.{FitsFields, Row, rows_text, Taken, joined_bytes, Takes, TakesFront, join_with_byte, codes, signed_decimal}
@@ -18,7 +19,7 @@ pub use Rattle.source_texts.proofs.Standing.{names_read, problem_stands, problem
 pub use Rattle.model_pipeline.specs.Extensions.{ExtendsTo, IsLeastTo, IsMadeOf, form_nodes, IsMade}
 pub use Rattle.run_steps.specs.Placements.{ties_of, demand_of}
 pub use Rattle.run_steps.specs.Plans.{form_in, StandsOn, CanStand, IsModelBy, Stands, IsModelOn, PlansMakeOneModel, CanStandOn}
-pub use Rattle.run_steps.specs.Steps.{Last, Nothing, Bits, InOrder, Several, bits_step, gives, placing, last_step, format_in, ends, stating, certifying, proof_end, Steps, Refuses, solving, states_end, taking, ordered, wide_below, width_end, text_end, limited, wanted, slacked}
+pub use Rattle.run_steps.specs.Steps.{Last, Nothing, Bits, InOrder, Several, bits_step, gives, placing, last_step, format_in, ends, stating, certifying, proof_end, Steps, Refuses, solving, states_end, taking, ordered, wide_below, width_end, text_end, limited, wanted, slacked, ◌>>=◌}
 unfoldable pub use Rattle.run_steps.specs.Steps.{checking, planning, certified, proving, scanning, sourcing, reading_source}
 pub use Rattle.state_scores.specs.Scores.{IsSmall, Judgement, best_of, IsEvaluation, has_better, is_better, score_of}
 pub use Rattle.program_run.specs.Made.{bounded_cost, judgement_by, read_cost, IsExtendedBy, IsModelled, IsModelText, IsOfModel, IsSolvedBy, IsTold, IsMadeText, EndsOf, keeping_for, IsWithin}
@@ -49,13 +50,11 @@ pub use Rattle.basic_solve.specs.declared.answer.SolveAnswer.{SolveAnswer}
 pub use Rattle.program_run.specs.Widths.{TheFirstWideNodeIsNamed}
 unfoldable pub use Rattle.model_text.specs.Summary.{summary_text}
 pub use Rattle.answer_text.specs.Sizes.{size_text}
-pub use Rattle.form_steps.proofs.Rewritten.{rewritten_relaxes}
 pub use Rattle.form_steps.specs.Stated.{DecodesAlike}
 pub use Rattle.form_steps.proofs.Alike.{relaxes_alike}
 pub use Rattle.model_pipeline.proofs.faithful.LeastStates.{relaxed_stands, standing_is_faithful}
 pub use Rattle.model_pipeline.proofs.faithful.LongerSources.{rewritten_stands}
 pub use Rattle.program_run.specs.Thresholds.{RowsGoByTheThreshold}
-pub use Rattle.wbo_reader.specs.Wbo.{WboContent}
 pub use Rattle.source_texts.proofs.Cleared.{cleared_costs, cleared_stands}
 pub use Rattle.model_pipeline.proofs.FewNodes.{nodes_are_few}
 pub use Rattle.run_steps.proofs.FilesRead.{made_refused, made_then, read_wanting}
@@ -88,5 +87,10 @@ pub use Rattle.base.specs.declared.costs.Cost.{Cost}
 pub use Rattle.command_words.specs.declared.commands.Request.{Request}
 pub use Rattle.command_words.specs.declared.commands.Origin.{Origin}
 pub use Rattle.command_words.specs.declared.commands.Slack.{Slack}
+pub use Rattle.command_words.specs.declared.commands.ChainStrength.TheVariants.{Choi, Cut}
+pub use Rattle.command_words.specs.declared.commands.Ask.TheVariants.{Decode, Evaluate, Extend, Model, Prove, Size, Solve, Summary}
+pub use Rattle.run_steps.specs.declared.status.Status.TheVariants.{Done, NoState, NotEmbedded, ReadFault, TooWide, WriteFault}
+pub use Rattle.base.specs.declared.costs.Cost.TheVariants.{Infinite, Whole}
+pub use Rattle.command_words.specs.declared.names.Which.TheVariants.{Order, State}
 pub use Rattle.command_words.specs.Names.{name_of}
 pub use Rattle.run_steps.specs.Causes.{MayHold}

@@ -1,6 +1,5 @@
 -- How the steps of a command end.
-use Rattle.program_run.proofs.Common.{nat_tests, ◌≡◌, ℕ, ◌≤◌, IfOk, arith, List, Ok, Err, Some, Result, refl, sym, ◌∙◌, Option, Written, Counts, Rose, NamedFiles, Which, Request, Plan, Status, IsReading, IsRefusal, IsDoneOrWant, Steps, Last, Refuses, AreFilesAsked, OfModel, IsEndOf, IsEnd, Ends, MeetsOutcomeOf, IsModelled, EndsOf}
-use Rattle.run_steps.specs.declared.status.Status.TheVariants.{Done, ReadFault, WriteFault, NotEmbedded}
+use Rattle.program_run.proofs.Common.{nat_tests, ◌≡◌, ℕ, ◌≤◌, IfOk, arith, List, Ok, Err, Some, Result, refl, sym, ◌∙◌, Option, Written, Counts, Rose, NamedFiles, Which, Request, Plan, Status, IsReading, IsRefusal, IsDoneOrWant, Steps, Last, Refuses, AreFilesAsked, OfModel, IsEndOf, IsEnd, Ends, MeetsOutcomeOf, IsModelled, EndsOf, Done, ReadFault, WriteFault, NotEmbedded}
 use Rattle.program_run.proofs.OneModel.{one_model}
 
 -- ---- of a plan
@@ -35,17 +34,11 @@ both : {A : Type 0} (step : Option (Result A Status)) (x : A) (status : Status)
     → step ≡ Some (Ok x) → step ≡ Some (Err status) → ⊥
 both step x status e f = let same = sym e ∙ f in absurd cc
 
--- a plan's last step gives something or refuses
-gives_or_refuses : (plan : Plan) (last : Written → Steps Last) (status : Status)
-    → OfModel plan (λ m. (x : Last) × ((last m).end ≡ Some (Ok x)))
-    → OfModel plan (λ m. (last m).end ≡ Some (Err status)) → ⊥
-gives_or_refuses plan last status done refused = grind (arith, nat_tests, one_model, both)
-
 plan_done : (plan : Plan) (last : Written → Steps Last) (status : Status)
     → IsEndOf plan last Done → IsEndOf plan last status → status ≡ Done
 plan_done plan last Done done is = refl
 plan_done plan last (NotEmbedded fault) done is = absurd (is.1 done.0)
-plan_done plan last status done is = absurd (gives_or_refuses plan last status done is)
+plan_done plan last status done is = absurd (grind (arith, nat_tests, one_model, both))
 
 -- where all is done, there is no other end
 pub one_end : (end : Option (Result Plan Status)) (last : ℕ → Written → Steps Last)
@@ -59,9 +52,6 @@ pub done_is_met : (plans : Steps Plan) (last : ℕ → Written → Steps Last)
     → IsDoneOrWant status
 done_is_met plans last status done is read write = grind (arith, nat_tests, one_end)
 
-rose_since : (a b n : ℕ) → a ≤ b → Rose b n → Rose a n
-rose_since a b n le rose = omega (arith, le, rose)
-
 -- where no count of faults rose, the status is Done where the outcome is
 pub done_is_complete : (words : List (List ℕ)) (held : NamedFiles) (said : Result Request ℕ)
     (status : Status) (old new : Counts) → MeetsOutcomeOf words held said status
@@ -69,4 +59,4 @@ pub done_is_complete : (words : List (List ℕ)) (held : NamedFiles) (said : Res
     → ¬ (Rose old.faults new.faults) → (status ≡ WriteFault → ⊥)
     → MeetsOutcomeOf words held said Done → IsDoneOrWant status
 done_is_complete words held said status old new meets files calm quiet done =
-    grind (arith, nat_tests, done_is_met, rose_since)
+    grind (arith, nat_tests, done_is_met)

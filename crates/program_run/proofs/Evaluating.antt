@@ -1,8 +1,8 @@
 -- The states of a file, where it has some or none, and the order of one.
-use Rattle.program_run.proofs.Common.{nat_tests, arith, ◌≡◌, ℕ, Bool, List, [], ◌∷◌, reverse, Ok, Err, Some, None, refl, sym, subst, Form, Written, IsFirstLeastBy, IsFirstBy, EndsOf, Counts, NamedFiles, Which, Ask, WordAt, Command, if_named, last_files, text_at, StateLine, states_of, Judgement, best_of, Plan, Status, AreFilesOf, AreRead, Last, Several, Steps, Refuses, ends, last_step, scanning, solving, states_end, taking, refuses_on}
-use Rattle.command_words.specs.declared.names.Which.TheVariants.{Order, State}
+use Rattle.program_run.proofs.Common.{nat_tests, arith, ◌≡◌, ℕ, Bool, List, [], ◌∷◌, reverse, Ok, Err, Some, None, refl, sym, subst, Form, Written, IsFirstLeastBy, IsFirstBy, EndsOf, Counts, NamedFiles, Which, Ask, WordAt, Command, if_named, last_files, text_at, StateLine, states_of, Judgement, best_of, Plan, Status, AreFilesOf, AreRead, Last, Several, Steps, Refuses, ends, last_step, scanning, solving, states_end, taking, refuses_on, Order, State, Done, NoState, ended, IfErr, IsUnsolved, Result}
 use Rattle.command_words.specs.declared.commands.Ask.TheVariants as asks
-use Rattle.run_steps.specs.declared.status.Status.TheVariants.{Done, NoState}
+use Rattle.command_words.specs.declared.names.Which.TheVariants.{Order, State}
+use Rattle.run_steps.specs.declared.status.Status.TheVariants.{NoState}
 
 -- ---- states
 
@@ -42,10 +42,10 @@ module _ (words : List (List ℕ)) (held : NamedFiles) (command : Command) (plan
   solves is = rw is refl
 
 -- without an order the last step takes nothing
-pub usual_end : (words : List (List ℕ)) (held : NamedFiles) (ask : Ask) (plan : Plan)
-    → ask ≡ asks.Solve None → EndsOf Done plan (solving [] [] None)
-    → EndsOf Done plan (last_step words held ask plan.read.variables)
-usual_end words held ask plan is ends = grind (arith, nat_tests)
+pub usual_end : (words : List (List ℕ)) (held : NamedFiles) (ask : Ask) (plan : Plan) (status : Status)
+    → ask ≡ asks.Solve None → EndsOf status plan (solving [] [] None)
+    → EndsOf status plan (last_step words held ask plan.read.variables)
+usual_end words held ask plan status is ends = rw is ends
 
 -- ---- files
 
@@ -56,6 +56,18 @@ states_alone command at is = rw is refl
 pub order_alone : (command : Command) (at : WordAt) → command.ask ≡ asks.Solve (Some at)
     → if_named command Order ≡ last_files command
 order_alone command at is = rw is refl
+
+-- without an order no file is taken
+pub usual_files : {X : Type 0} (result : Result X Status) (name : Which → List ℕ) (command : Command)
+    (a : Counts) → command.ask ≡ asks.Solve None → IfErr result IsUnsolved
+    → AreFilesOf name [] (last_files command) (ended result) a a
+usual_files result name command a is unsolved = rw is (grind (arith, nat_tests))
+
+-- the file of an order was read
+pub order_read : (name : Which → List ℕ) (command : Command) (at : WordAt) (a b : Counts)
+    → command.ask ≡ asks.Solve (Some at) → AreRead name (if_named command Order) a b
+    → AreRead name (last_files command) a b
+order_read name command at a b is read = rw (← order_alone command at is) read
 
 -- the file of states was read, and has none
 pub none_read : (name : Which → List ℕ) (command : Command) (at : WordAt) (width : ℕ) (a b : Counts)

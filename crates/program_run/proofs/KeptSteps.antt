@@ -1,6 +1,5 @@
 -- The steps of a form that are kept for the extension of an assignment.
-use Rattle.program_run.proofs.Common.{◌≡◌, subst, Choices, ProblemContent, Ask, WordAt, FormSteps, Keeping, AreSteps, HasSteps, Keeps, keeping_for}
-use Rattle.command_words.specs.declared.commands.Ask.TheVariants.{Extend}
+use Rattle.program_run.proofs.Common.{◌≡◌, subst, Choices, ProblemContent, Ask, WordAt, FormSteps, Keeping, AreSteps, HasSteps, Keeps, keeping_for, Extend}
 use Rattle.model_pipeline.specs.declared.kept.Keeping.TheVariants.{Kept}
 
 module _ (choices : Choices) (p : ProblemContent) (ask : Ask) (at : WordAt) (kept : Keeping) (is : ask ≡ Extend at) (keeps : Keeps choices p (keeping_for ask) kept) where

@@ -19,3 +19,4 @@ pub mod Said
 pub mod SomeText
 pub mod Pieces
 pub mod KeptSteps
+mod Lemmas

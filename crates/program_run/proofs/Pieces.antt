@@ -25,15 +25,10 @@ pub no_room : (line : List ℕ) (n : ℕ) (pieces : List (Bor (List ℕ))) (othe
     → most < length line + length (slice_index_or pieces n other).now
     → length (joined_bytes pieces) ≤ most → false ≡ true
 no_room line n pieces other most joined inside over room =
-    absurd (omega (
-      arith,
-      over,
-      room,
-      ap length joined,
-      front_length (suc n) pieces,
-      ap length (front_more n pieces other inside),
-      length-append (front_bytes n pieces) (slice_index_or pieces n other).now,
-    ))
+    let all = front_length (suc n) pieces in
+    let more = ap length (front_more n pieces other inside) in
+    let both = length-append (front_bytes n pieces) (slice_index_or pieces n other).now in
+    absurd (omega (arith, over, room, ap length joined))
 
 pub no_true : false ≡ true → ⊥
 no_true e = cc

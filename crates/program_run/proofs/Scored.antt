@@ -56,16 +56,13 @@ alike_where_wide width j k [] wide costs energies = tt
 alike_where_wide width j k (state ∷ states) wide costs energies =
     grind (arith, nat_tests, alike_where_wide width j k states wide.1 costs energies)
 
-both_true : (a b : Bool) → (a && b) ≡ true → a ≡ true
-both_true a b e = grind (arith, nat_tests)
-
 wide_with : (width number : ℕ) (line : List ℕ) (later : List (ℕ × List ℕ)) (fits : Bool)
     → is_state width line ≡ fits
     → AreWide width (map (λ (l : ℕ × List ℕ). (l.0, map is_one l.1)) later)
     → AreWide width (map (λ (l : ℕ × List ℕ). (l.0, map is_one l.1))
     (cond fits ((number, line) ∷ later) later))
 wide_with width number line later fits is rest =
-    grind (arith, nat_tests, length-map, eqb-true, both_true)
+    grind (arith, nat_tests, length-map, eqb-true)
 
 states_wide : (width number : ℕ) (lines : List (List ℕ))
     → AreWide width (states_from width number lines)
@@ -73,15 +70,11 @@ states_wide width number [] = tt
 states_wide width number (line ∷ lines) =
     grind (arith, nat_tests, states_wide width (number + 1) lines, wide_with)
 
-these_end : (width : ℕ) (found states : List StateLine)
-    → states_end width found ≡ Ok (Several states) → found ≡ states
-these_end width found states e = grind (arith, nat_tests)
-
 -- the states that are read have the width that was asked for
 pub scanned_widths : (held : NamedFiles) (name : List ℕ) (width : ℕ) (states : List StateLine)
     → (scanning held name width).end ≡ Some (Ok (Several states)) → AreWide width states
 unfolding scanning
-scanned_widths held name width states e = grind (arith, nat_tests, bound, these_end, states_wide)
+scanned_widths held name width states e = grind (arith, nat_tests, bound, states_wide)
 
 -- the best of them has it
 pub best_wide : (j : Judgement) (width : ℕ) (text : List ℕ) (best : StateLine)

@@ -1,6 +1,5 @@
 -- What costs within the limits come to: below 2 ^ 64 in size.
-use Rattle.program_run.proofs.Common.{nat_tests, [], length, Cost, Read, Written, judgement_by, ◌≡◌, ◌-◌, ◌^◌, ◌≤◌, ℤ, ◌+ℤ◌, Bool, true, false, ◌||◌, List, None, arith, if◌then◌else◌, list_any, ints, total_by, Normal, ProblemContent, fails, fails_hard, own_cost, soft_cost, sum_of, limit_fault, weight, soft_costs-size, sum_of-size, IsSmall, All, All-from_get_or, AreCosts, IsWithin}
-use Rattle.base.specs.declared.costs.Cost.TheVariants.{Whole, Infinite}
+use Rattle.program_run.proofs.Common.{nat_tests, [], length, Cost, Read, Written, judgement_by, ◌≡◌, ◌-◌, ◌^◌, ◌≤◌, ℤ, ◌+ℤ◌, Bool, true, false, ◌||◌, List, None, arith, if◌then◌else◌, list_any, ints, total_by, Normal, ProblemContent, fails, fails_hard, own_cost, soft_cost, sum_of, limit_fault, weight, soft_costs-size, sum_of-size, IsSmall, All, All-from_get_or, AreCosts, IsWithin, Whole, Infinite}
 use Rattle.normal_form.proofs.Limits as multilinear
 
 weight_is_small : (normal : Normal) (p : ProblemContent) → limit_fault normal p ≡ None
@@ -17,13 +16,9 @@ cost_is_small normal p x none =
 
     go : (b : Bool) → IsSmall (if b then Infinite else Whole value)
     go true = tt
-    go false = omega (
-      arith,
-      ints,
-      sum_of-size x p.objective,
-      soft_costs-size x p.clauses,
-      weight_is_small normal p none,
-    )
+    go false =
+        let small = weight_is_small normal p none in
+        omega (arith, ints, sum_of-size x p.objective, soft_costs-size x p.clauses)
 
 -- so are those of states
 pub costs_are_small : (read : Read) (m : Written) (states : List (List Bool)) (costs : List Cost)

@@ -1,5 +1,5 @@
 -- A model that is solved, or too wide.
-use Rattle.program_run.proofs.Common.{nat_tests, ◌≡◌, ◌<◌, ◌≤◌, ℕ, zero, suc, Bool, true, false, List, [], Ok, Err, Some, None, refl, ap, arith, nat_lt, le-ltb, Written, width, IsWithinWidth, IsFirstWider, Status, SolveAnswer, Plan, IsUnsolved, IsModelled, EndsOf, unsolved, NamedFiles, WordAt, text_at, first_wide, refuses_on, Steps, Last, Nothing, InOrder, Refuses, ends, ordered, wide_below, width_end, TheFirstWideNodeIsNamed}
+use Rattle.program_run.proofs.Common.{nat_tests, ◌≡◌, ◌<◌, ◌≤◌, ℕ, zero, suc, Bool, true, false, List, [], Ok, Err, Some, None, refl, ap, arith, nat_lt, le-ltb, Written, width, IsWithinWidth, IsFirstWider, Status, SolveAnswer, Plan, IsUnsolved, IsModelled, EndsOf, unsolved, NamedFiles, WordAt, text_at, first_wide, refuses_on, Steps, Last, Nothing, InOrder, Refuses, ends, ordered, wide_below, width_end, TheFirstWideNodeIsNamed, TooWide, AreFilesOf, AreRead, Counts, Which, read_wanting}
 use Rattle.run_steps.specs.declared.status.Status.TheVariants.{TooWide}
 use Rattle.basic_solve.specs.declared.answer.SolveAnswer.TheVariants as solving
 use Rattle.run_steps.specs.Steps.{solving as solving_steps}
@@ -71,6 +71,12 @@ module _ (words : List (List ℕ)) (held : NamedFiles) (at : WordAt) (m : Writte
     pub order_gives : first_wide 16 m [] order ≡ None
         → (solving_steps words held (Some at) m).end ≡ Some (Ok (InOrder order))
     order_gives narrow = grind (arith, nat_tests)
+
+-- the files of a model that is not solved were read
+pub unsolved_read : (answer : SolveAnswer) (name : Which → List ℕ) (files : List Which) (a b : Counts)
+    → AreRead name files a b → AreFilesOf name [] files (unsolved answer) a b
+unsolved_read (solving.TooWide v w) name files a b read = read
+unsolved_read solving.NoMemory name files a b read = read_wanting name files a b read
 
 pub unsolved_is : (answer : SolveAnswer) → IsUnsolved (unsolved answer)
 unsolved_is answer = grind (arith, nat_tests)

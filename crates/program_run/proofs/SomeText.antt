@@ -1,17 +1,6 @@
 -- No answer is empty.
 use Rattle.program_run.proofs.Common.{ints, nat_tests, ◌≡◌, ◌≢◌, ℕ, Bool, List, [], ◌∷◌, ◌++◌, length, length-append, ℤ, Option, refl, sym, ap, ◌∙◌, arith, join_with_byte, Cost, Written, Choices, Row, rows_text, model_text, summary_text, solution_text, size_text, Ask, Read, Bits, StateLine, Judgement, IsScored, IsModelText, IsSolvedBy, IsTold}
 
--- a row ends with a line feed
-some_rows : (row : Row) (rows : List Row) → rows_text (row ∷ rows) ≢ []
-some_rows row rows none =
-    let words = join_with_byte 32 row in
-    omega (
-      arith,
-      ap length none,
-      length-append words (10 ∷ []),
-      length-append (words ++ 10 ∷ []) (rows_text rows),
-    )
-
 same_some : (text other : List ℕ) → text ≡ other → other ≢ [] → text ≢ []
 same_some text other same some none = some (sym same ∙ none)
 
@@ -22,10 +11,6 @@ model_some m none = grind (arith, nat_tests)
 pub summary_some : (m : Written) → summary_text m ≢ []
 unfolding summary_text
 summary_some m none = grind (arith, nat_tests)
-
-solution_some : (y : List Bool) (energy : ℤ) (x : List Bool) (names : Option (List (List ℕ)))
-    (cost : Cost) → solution_text y energy x names cost ≢ []
-solution_some y energy x names cost = grind (arith, nat_tests, ints)
 
 -- a text begins with nothing where it is empty
 empty_front : (front rest : List ℕ) → front ++ rest ≡ [] → front ≡ []
@@ -43,7 +28,7 @@ model_text_some last m text is =
 -- what is asked of a model is told in some rows
 pub solved_some : (order : Option (List ℕ)) (read : Read) (m : Written) (text : List ℕ)
     → IsSolvedBy order read m text → text ≢ []
-solved_some order read m text is = same_some text _ is.said (solution_some _ _ _ _ _)
+solved_some order read m text is = same_some text _ is.said (grind (arith, nat_tests, ints))
 
 pub bits_some : (ask : Ask) (read : Read) (choices : Choices) (m : Written) (bits : List Bool)
     (text : List ℕ) → IsTold ask read choices m (Bits bits) text → text ≢ []
@@ -52,4 +37,4 @@ bits_some last read choices m bits text is = grind (arith, nat_tests)
 -- the scores of states have a row for the best of them
 pub scored_some : (j : Judgement) (names : Option (List (List ℕ))) (m : Written)
     (states : List StateLine) (text : List ℕ) → IsScored j names m states text → text ≢ []
-scored_some j names m states text is = grind (arith, nat_tests, same_some, empty_front, some_rows)
+scored_some j names m states text is = grind (arith, nat_tests, same_some, empty_front)

@@ -1,8 +1,7 @@
 -- A model of the problem that a source is read into stands for the source.
-use Rattle.program_run.proofs.Common.{nat_tests, ◌≡◌, ◌≤◌, ℕ, ℤ, ◌+ℤ◌, ◌*ℤ◌, Bool, List, take, refl, sym, ap, ◌∙◌, subst, arith, take-take, take-map, Kind, Form, Source, Figures, Decoding, Relaxes, first_decoded, rewritten_relaxes, Written, IsWellFormed, form_of, decoding_of, read_off, IsBounded, HasUnit, HasChains, scale_of, DecodesAlike, relaxes_alike, StandsAtLeast, IsLeast, relaxed_stands, standing_is_faithful, rewritten_stands, UnitChoice, FitsFields, upper, Read, StandsFor, ChainStrength, decoding_to, StandsBy, Placement, ties_of, demand_of, EveryStateStands, IsModelFor}
-use Rattle.problem_form.specs.Problems as problems
-use Rattle.command_words.specs.declared.commands.ChainStrength.TheVariants.{Choi, Cut}
+use Rattle.program_run.proofs.Common.{nat_tests, ◌≡◌, ◌≤◌, ℕ, ℤ, ◌+ℤ◌, ◌*ℤ◌, Bool, List, take, refl, sym, ap, ◌∙◌, subst, arith, take-take, take-map, Kind, Form, Source, Figures, Decoding, Relaxes, first_decoded, rewritten_relaxes, Written, IsWellFormed, form_of, decoding_of, read_off, IsBounded, HasUnit, HasChains, scale_of, DecodesAlike, relaxes_alike, StandsAtLeast, IsLeast, relaxed_stands, standing_is_faithful, rewritten_stands, UnitChoice, FitsFields, upper, Read, StandsFor, ChainStrength, decoding_to, StandsBy, Placement, ties_of, demand_of, EveryStateStands, IsModelFor, Choi, Cut}
 use Rattle.run_steps.specs.Placements.{kind_of}
+use Rattle.problem_form.specs.Problems as problems
 
 -- the first variables of what a state is read as are what it is read as for them
 take-read_off : (kind : Kind) (a b : ℕ) (chains : List (List ℕ)) (y : List Bool) → a ≤ b

@@ -2,10 +2,6 @@
 use Rattle.program_run.proofs.Common.{nat_tests, arith, ◌≡◌, ℕ, List, Ok, Some, None, Result, NamedFiles, TextFault, limit_fault, Which, Origin, Command, Read, problem_of, ends, text_end, limited, format_in, sourcing, reading_source, checking, wanted, IsTextIn, bound}
 use Rattle.command_words.specs.declared.names.Which.TheVariants.{Source}
 
-pub text_is_read : {A : Type 0} (which : Which) (read : Result A TextFault) (x : A)
-    → text_end which read ≡ Ok x → read ≡ Ok x
-text_is_read which read x e = grind (arith, nat_tests)
-
 sourced_is_held : (words : List (List ℕ)) (held : NamedFiles) (origin : Origin) (text : List ℕ)
     → (sourcing words held origin).end ≡ Some (Ok text) → IsTextIn words held origin text
 unfolding sourcing
@@ -30,4 +26,4 @@ source_is_taken words held command read e =
     let within : limited command checked.0 ≡ Ok read = let two = checked.2 in cc in
     let taken = bound (sourcing words held origin)
     (λ text. ends (text_end Source (problem_of (format_in origin) text))) checked.0 checked.1 in
-    grind (arith, nat_tests, sourced_is_held, text_is_read)
+    grind (arith, nat_tests, sourced_is_held)

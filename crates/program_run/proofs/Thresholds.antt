@@ -1,6 +1,5 @@
 -- By what the rows that a least state ends with are chosen.
-use Rattle.program_run.proofs.Common.{nat_tests, ints, arith, ◌≡◌, ◌∙◌, ℤ, Bool, List, ◌∷◌, [], ℕ, Option, ap, refl, codes, Cost, Form, HasCost, IsFeasible, decoding_of, optimum_rows, length-read_off, below, above, RowsGoByTheThreshold}
-use Rattle.base.specs.declared.costs.Cost.TheVariants.{Whole}
+use Rattle.program_run.proofs.Common.{nat_tests, ints, arith, ◌≡◌, ◌∙◌, ℤ, Bool, List, ◌∷◌, [], ℕ, Option, ap, refl, codes, Cost, Form, HasCost, IsFeasible, decoding_of, optimum_rows, length-read_off, below, above, RowsGoByTheThreshold, Whole}
 
 -- an assignment of a form that is not feasible is told as that
 none_whole : (f : Form) (names : Option (List (List ℕ))) (x : List Bool) (c : Cost)

@@ -4,21 +4,24 @@ ghost use Rattle.problem_form.specs.Limits.{limit_fault};
 ghost use Rattle.command_words.specs.declared.commands.Request.TheVariants as requests;
 ghost use Rattle.command_words.specs.Commands.{HasFewClauses};
 ghost use Rattle.command_words.specs.Names.{files_of, last_files};
+ghost use Rattle.model_pipeline.specs.Kept.{Keeps};
 ghost use Rattle.source_texts.specs.Sources.{KeepsSoft};
 ghost use Rattle.run_steps.specs.Steps.{last_step};
 ghost use Rattle.program_run.specs.Outcome.{MeetsOutcomeOf};
-ghost use Rattle.program_run.specs.Made.{EndsOf, IsMadeTextOf, IsModelText, IsOfModel, IsTextOfModelled};
+ghost use Rattle.program_run.specs.Made.{EndsOf, IsMadeTextOf, IsModelled, IsModelText, IsOfModel, IsTextOfModelled, keeping_for};
 ghost use Rattle.program_run.specs.Unembedded.{IsUnembedded};
 ghost use Rattle.run_steps.specs.Statuses.{ended, IsRefusal};
 ghost use Rattle.program_run.specs.Answers.{text_of, IsAnswer};
 ghost use Rattle.run_steps.specs.Causes.{AreFiles, AreFilesOf, WhereHeld, spelled, named_in};
 
-use crate::made::{answer_evaluated, answer_in_order, answer_solved, answer_state, model_given};
+use crate::evaluate::states_evaluated;
+use crate::made::{keeping_for, model_given, model_lent, solved, solved_in_order, state_told};
 use answer_text::written_size;
 use base::NoMemory;
 use bits_model::OutputModel;
 use command_words::{Ask, Command};
 use edge_io::Files;
+use model_pipeline::Keeping;
 use model_text::written_summary;
 use run_steps::{Plan, Status, take_plan};
 use state_scores::EvaluationText;
@@ -59,6 +62,44 @@ fn answer_model(alloc: Global, ask: Ask, plan: Plan) -> Result<Answer, Status>
     Ok(told_of(alloc, ask, model)?)
 }
 
+/// What a command answers of a model of its plan, where it asks for more than the model tells.
+fn answer_of<F: Files>(
+    alloc: Global,
+    words: &[String],
+    command: Command,
+    plan: &Plan,
+    model: &OutputModel,
+    kept: &Keeping,
+    files: &mut F,
+) -> Result<Answer, Status>
+    requires more { IsOfModel command.ask → ⊥ }
+    requires within { limit_fault plan.now.choices.normal plan.now.read.problem ≡ None }
+    requires soft { KeepsSoft plan.now.read }
+    requires modelled { IsModelled plan.now model.now }
+    requires kept { Keeps plan.now.choices plan.now.read.problem
+        (keeping_for command.ask) kept.now }
+    ensures step { WhereHeld (F.held files.old) (last_files command) (λ held. EndsOf (ended result)
+        plan.now (last_step (spelled words.now) held command.ask plan.now.read.variables)) }
+    ensures files { AreFilesOf (named_in words.now command) []
+        (last_files command) (ended result) (F.counts files.old) (F.counts files.new) }
+    ensures answer { IfOk result (λ answer. WhereHeld (F.held files.old) (last_files command)
+        (λ held. IsMadeTextOf (spelled words.now) held command.ask plan.now (text_of answer))) }
+    ensures some { IfOk result (λ answer. text_of answer ≢ []) }
+    ensures refusal { IfErr result IsRefusal }
+{
+    match command.ask {
+        Ask::Solve(order) => match order {
+            None => solved(alloc, plan, model),
+            Some(at) => solved_in_order(alloc, words, command, at, plan, model, files),
+        },
+        Ask::Evaluate(at) => states_evaluated(alloc, words, command, at, plan, model, files),
+        Ask::Decode(at) | Ask::Extend(at) | Ask::Prove(at, _) => {
+            state_told(alloc, words, command, at, plan, model, kept, files)
+        }
+        Ask::Model | Ask::Summary | Ask::Size => unreachable!(),
+    }
+}
+
 /// What a command answers that asks for more than the model of its plan tells.
 fn answer_lent<F: Files>(
     alloc: Global,
@@ -79,24 +120,9 @@ fn answer_lent<F: Files>(
     ensures some { IfOk result (λ answer. text_of answer ≢ []) }
     ensures refusal { IfErr result IsRefusal }
 {
-    match command.ask {
-        Ask::Solve(order) => match order {
-            None => Ok(Answer::Text(answer_solved(alloc, plan)?)),
-            Some(at) => {
-                let text = answer_in_order(alloc, words, command, at, plan, files)?;
-                Ok(Answer::Text(text))
-            }
-        },
-        Ask::Evaluate(at) => {
-            let scores = answer_evaluated(alloc, words, command, at, plan, files)?;
-            Ok(Answer::Scores(scores))
-        }
-        Ask::Decode(at) | Ask::Extend(at) | Ask::Prove(at, _) => {
-            let told = answer_state(alloc, words, command, at, plan, files)?;
-            Ok(Answer::Text(told))
-        }
-        Ask::Model | Ask::Summary | Ask::Size => unreachable!(),
-    }
+    let mut kept = keeping_for(command.ask);
+    let model = model_lent(alloc, plan, &mut kept)?;
+    answer_of(alloc, words, command, plan, &model, &kept, files)
 }
 
 /// What a command answers of the model of its plan.

@@ -9,9 +9,10 @@ ghost use Rattle.run_steps.specs.Steps.{last_step};
 ghost use Rattle.run_steps.specs.Statuses.{ended, IsRefusal};
 ghost use Rattle.run_steps.specs.Causes.{AreFilesOf, WhereHeld, spelled, named_in};
 ghost use Rattle.state_scores.specs.Scores.{IsEvaluation};
-ghost use Rattle.program_run.specs.Answers.{IsScored};
+ghost use Rattle.program_run.specs.Answers.{text_of, IsScored};
 ghost use Rattle.program_run.specs.Made.{EndsOf, IsMadeTextOf, IsModelled, IsWithin, judgement_by};
 
+use crate::answers::Answer;
 use crate::decode::decoded;
 use crate::judging::ModelJudge;
 use crate::made::nodes_of;
@@ -75,7 +76,7 @@ pub fn states_evaluated<F: Files>(
     plan: &Plan,
     model: &OutputModel,
     files: &mut F,
-) -> Result<EvaluationText, Status>
+) -> Result<Answer, Status>
     requires asked { command.ask ≡ asks.Evaluate at }
     requires within { limit_fault plan.now.choices.normal plan.now.read.problem ≡ None }
     requires kept { KeepsSoft plan.now.read }
@@ -85,9 +86,9 @@ pub fn states_evaluated<F: Files>(
         (last_step (spelled words.now) held command.ask plan.now.read.variables)) }
     ensures files { AreFilesOf (named_in words.now command) []
         (last_files command) (ended result) (F.counts files.old) (F.counts files.new) }
-    ensures answer { IfOk result (λ text. WhereHeld (F.held files.old) (last_files command) (λ held.
-        IsMadeTextOf (spelled words.now) held command.ask plan.now text)) }
-    ensures some { IfOk result (λ text. text ≢ []) }
+    ensures answer { IfOk result (λ answer. WhereHeld (F.held files.old) (last_files command)
+        (λ held. IsMadeTextOf (spelled words.now) held command.ask plan.now (text_of answer))) }
+    ensures some { IfOk result (λ answer. text_of answer ≢ []) }
     ensures refusal { IfErr result IsRefusal }
 {
     let bytes = match take_states(alloc, words, command, at, files) {
@@ -95,7 +96,7 @@ pub fn states_evaluated<F: Files>(
         Err(status) => return Err(status),
     };
     match evaluated_text(alloc, &plan.read, model, &bytes) {
-        Ok(text) => Ok(text),
+        Ok(text) => Ok(Answer::Scores(text)),
         Err(StateAnswer::NoState) => Err(Status::NoState(nodes_of(model))),
         Err(StateAnswer::NoMemory) => Err(Status::NoMemory),
     }

@@ -8,14 +8,14 @@ ghost use Rattle.model_pipeline.specs.Kept.{Keeps};
 ghost use Rattle.source_texts.specs.Sources.{KeepsSoft};
 ghost use Rattle.run_steps.specs.Placements.{ties_of};
 ghost use Rattle.run_steps.specs.Steps.{Bits, asked_width, bits_at, last_step, solving};
-ghost use Rattle.program_run.specs.Answers.{IsFirstBy};
+ghost use Rattle.program_run.specs.Answers.{text_of, IsFirstBy};
 ghost use Rattle.program_run.specs.Made.{EndsOf, IsMadeText, IsModelled, IsSolvedBy, IsTold, IsMadeTextOf, keeping_for};
 ghost use Rattle.program_run.specs.Unembedded.{IsUnembedded, unsolved};
 ghost use Rattle.run_steps.specs.Statuses.{ended, IsRefusal, IsUnsolved};
 ghost use Rattle.run_steps.specs.Causes.{AreFilesOf, WhereHeld, spelled, named_in};
 
+use crate::answers::Answer;
 use crate::decode::{bounded_cost, decoded, decoded_text, proved_text};
-use crate::evaluate::states_evaluated;
 use crate::extend::extended_text;
 use crate::models::model_on;
 use answer_text::written_solution;
@@ -28,7 +28,6 @@ use elimination_order::solve_by;
 use model_pipeline::Keeping;
 use run_steps::{Plan, Status, take_last, take_order};
 use source_texts::Read;
-use state_scores::EvaluationText;
 use std::alloc::Global;
 
 /// The model of a plan, which is let go. Its problem is, as soon as a form stands in its place.
@@ -47,7 +46,7 @@ pub fn model_given(alloc: Global, plan: Plan) -> Result<OutputModel, Status>
 }
 
 /// The model of a plan, which stays. The steps of its form are kept where they are wanted.
-fn model_lent(alloc: Global, plan: &Plan, kept: &mut Keeping) -> Result<OutputModel, Status>
+pub fn model_lent(alloc: Global, plan: &Plan, kept: &mut Keeping) -> Result<OutputModel, Status>
     requires within { limit_fault plan.now.choices.normal plan.now.read.problem ≡ None }
     requires kept { KeepsSoft plan.now.read }
     ensures modelled { IfOk result (IsModelled plan.now) }
@@ -70,7 +69,7 @@ fn model_lent(alloc: Global, plan: &Plan, kept: &mut Keeping) -> Result<OutputMo
 }
 
 /// Whether what asks for a state wants the steps of the form: to extend an assignment.
-fn keeping_for(ask: Ask) -> Keeping
+pub fn keeping_for(ask: Ask) -> Keeping
     ensures { result ≡ keeping_for ask }
 {
     match ask {
@@ -147,13 +146,13 @@ fn unsolved(answer: SolveAnswer) -> Status
 }
 
 /// Solves a model of a plan, and says what its first least state tells.
-fn solved(alloc: Global, plan: &Plan, model: &OutputModel) -> Result<Vec<u8>, Status>
+pub fn solved(alloc: Global, plan: &Plan, model: &OutputModel) -> Result<Answer, Status>
     requires kept { KeepsSoft plan.now.read }
     requires modelled { IsModelled plan.now model.now }
     ensures step { EndsOf (ended result) plan.now (solving [] [] None) }
-    ensures answer { IfOk result (λ text. IsMadeText (Ask.Solve None) plan.now
-        (solving [] [] None) text.items) }
-    ensures some { IfOk result (λ text. text.items ≢ []) }
+    ensures answer { IfOk result (λ answer. IsMadeText (Ask.Solve None) plan.now
+        (solving [] [] None) (text_of answer)) }
+    ensures some { IfOk result (λ answer. text_of answer ≢ []) }
     ensures refusal { IfErr result IsUnsolved }
 {
     let state = match solve(alloc, model) {
@@ -161,27 +160,12 @@ fn solved(alloc: Global, plan: &Plan, model: &OutputModel) -> Result<Vec<u8>, St
         Err(answer) => return Err(unsolved(answer)),
     };
     let text = solved_text(alloc, &plan.read, model, &state)?;
-    Ok(text)
-}
-
-/// Solves the model of a plan, and says what its first least state tells.
-pub fn answer_solved(alloc: Global, plan: &Plan) -> Result<Vec<u8>, Status>
-    requires within { limit_fault plan.now.choices.normal plan.now.read.problem ≡ None }
-    requires kept { KeepsSoft plan.now.read }
-    ensures step { EndsOf (ended result) plan.now (solving [] [] None) }
-    ensures answer { IfOk result (λ text. IsMadeText (Ask.Solve None) plan.now
-        (solving [] [] None) text.items) }
-    ensures some { IfOk result (λ text. text.items ≢ []) }
-    ensures refusal { IfErr result IsUnsolved }
-{
-    let mut kept = Keeping::Unwanted;
-    let model = model_lent(alloc, plan, &mut kept)?;
-    solved(alloc, plan, &model)
+    Ok(Answer::Text(text))
 }
 
 /// Solves a model of a plan in the order of the file of this name, and says what its first least state
 /// tells.
-fn solved_in_order<F: Files>(
+pub fn solved_in_order<F: Files>(
     alloc: Global,
     words: &[String],
     command: Command,
@@ -189,7 +173,7 @@ fn solved_in_order<F: Files>(
     plan: &Plan,
     model: &OutputModel,
     files: &mut F,
-) -> Result<Vec<u8>, Status>
+) -> Result<Answer, Status>
     requires asked { command.ask ≡ Ask.Solve (Some at) }
     requires kept { KeepsSoft plan.now.read }
     requires modelled { IsModelled plan.now model.now }
@@ -198,9 +182,9 @@ fn solved_in_order<F: Files>(
         (last_step (spelled words.now) held command.ask plan.now.read.variables)) }
     ensures files { AreFilesOf (named_in words.now command) []
         (last_files command) (ended result) (F.counts files.old) (F.counts files.new) }
-    ensures answer { IfOk result (λ text. WhereHeld (F.held files.old) (last_files command) (λ held.
-        IsMadeTextOf (spelled words.now) held command.ask plan.now text.items)) }
-    ensures some { IfOk result (λ text. text.items ≢ []) }
+    ensures answer { IfOk result (λ answer. WhereHeld (F.held files.old) (last_files command)
+        (λ held. IsMadeTextOf (spelled words.now) held command.ask plan.now (text_of answer))) }
+    ensures some { IfOk result (λ answer. text_of answer ≢ []) }
     ensures refusal { IfErr result IsRefusal }
 {
     let nodes = nodes_of(model);
@@ -210,68 +194,12 @@ fn solved_in_order<F: Files>(
         Err(answer) => return Err(unsolved(answer)),
     };
     let text = solved_text(alloc, &plan.read, model, &state)?;
-    Ok(text)
-}
-
-/// Solves the model of a plan in the order of the file of this name, and says what its first least
-/// state tells.
-pub fn answer_in_order<F: Files>(
-    alloc: Global,
-    words: &[String],
-    command: Command,
-    at: WordAt,
-    plan: &Plan,
-    files: &mut F,
-) -> Result<Vec<u8>, Status>
-    requires asked { command.ask ≡ Ask.Solve (Some at) }
-    requires within { limit_fault plan.now.choices.normal plan.now.read.problem ≡ None }
-    requires kept { KeepsSoft plan.now.read }
-    ensures step { WhereHeld (F.held files.old) (last_files command) (λ held.
-        EndsOf (ended result) plan.now
-        (last_step (spelled words.now) held command.ask plan.now.read.variables)) }
-    ensures files { AreFilesOf (named_in words.now command) []
-        (last_files command) (ended result) (F.counts files.old) (F.counts files.new) }
-    ensures answer { IfOk result (λ text. WhereHeld (F.held files.old) (last_files command) (λ held.
-        IsMadeTextOf (spelled words.now) held command.ask plan.now text.items)) }
-    ensures some { IfOk result (λ text. text.items ≢ []) }
-    ensures refusal { IfErr result IsRefusal }
-{
-    let mut kept = Keeping::Unwanted;
-    let model = model_lent(alloc, plan, &mut kept)?;
-    solved_in_order(alloc, words, command, at, plan, &model, files)
-}
-
-/// Takes states of the plan's model from the file of this name, and says what each is worth, which is
-/// the best, and what that one decodes to.
-pub fn answer_evaluated<F: Files>(
-    alloc: Global,
-    words: &[String],
-    command: Command,
-    at: WordAt,
-    plan: &Plan,
-    files: &mut F,
-) -> Result<EvaluationText, Status>
-    requires asked { command.ask ≡ Ask.Evaluate at }
-    requires within { limit_fault plan.now.choices.normal plan.now.read.problem ≡ None }
-    requires kept { KeepsSoft plan.now.read }
-    ensures step { WhereHeld (F.held files.old) (last_files command) (λ held.
-        EndsOf (ended result) plan.now
-        (last_step (spelled words.now) held command.ask plan.now.read.variables)) }
-    ensures files { AreFilesOf (named_in words.now command) []
-        (last_files command) (ended result) (F.counts files.old) (F.counts files.new) }
-    ensures answer { IfOk result (λ text. WhereHeld (F.held files.old) (last_files command) (λ held.
-        IsMadeTextOf (spelled words.now) held command.ask plan.now text)) }
-    ensures some { IfOk result (λ text. text ≢ []) }
-    ensures refusal { IfErr result IsRefusal }
-{
-    let mut kept = Keeping::Unwanted;
-    let model = model_lent(alloc, plan, &mut kept)?;
-    states_evaluated(alloc, words, command, at, plan, &model, files)
+    Ok(Answer::Text(text))
 }
 
 /// Takes a state of a model, or an assignment of its source, from the file of this name, and says what
 /// is asked of it.
-fn state_told<F: Files>(
+pub fn state_told<F: Files>(
     alloc: Global,
     words: &[String],
     command: Command,
@@ -280,7 +208,7 @@ fn state_told<F: Files>(
     model: &OutputModel,
     kept: &Keeping,
     files: &mut F,
-) -> Result<Vec<u8>, Status>
+) -> Result<Answer, Status>
     requires asked { bits_at command.ask ≡ Some at }
     requires within { limit_fault plan.now.choices.normal plan.now.read.problem ≡ None }
     requires soft { KeepsSoft plan.now.read }
@@ -292,40 +220,12 @@ fn state_told<F: Files>(
         (last_step (spelled words.now) held command.ask plan.now.read.variables)) }
     ensures files { AreFilesOf (named_in words.now command) []
         (last_files command) (ended result) (F.counts files.old) (F.counts files.new) }
-    ensures answer { IfOk result (λ text. WhereHeld (F.held files.old) (last_files command) (λ held.
-        IsMadeTextOf (spelled words.now) held command.ask plan.now text.items)) }
-    ensures some { IfOk result (λ text. text.items ≢ []) }
+    ensures answer { IfOk result (λ answer. WhereHeld (F.held files.old) (last_files command)
+        (λ held. IsMadeTextOf (spelled words.now) held command.ask plan.now (text_of answer))) }
+    ensures some { IfOk result (λ answer. text_of answer ≢ []) }
     ensures refusal { IfErr result IsRefusal }
 {
     let bits = take_last(alloc, words, command, at, plan, model, files)?;
     let text = told(alloc, command.ask, plan, model, kept, &bits)?;
-    Ok(text)
-}
-
-/// Takes a state of the plan's model, or an assignment of its source, from the file of this name, and
-/// says what is asked of it.
-pub fn answer_state<F: Files>(
-    alloc: Global,
-    words: &[String],
-    command: Command,
-    at: WordAt,
-    plan: &Plan,
-    files: &mut F,
-) -> Result<Vec<u8>, Status>
-    requires asked { bits_at command.ask ≡ Some at }
-    requires within { limit_fault plan.now.choices.normal plan.now.read.problem ≡ None }
-    requires kept { KeepsSoft plan.now.read }
-    ensures step { WhereHeld (F.held files.old) (last_files command) (λ held.
-        EndsOf (ended result) plan.now
-        (last_step (spelled words.now) held command.ask plan.now.read.variables)) }
-    ensures files { AreFilesOf (named_in words.now command) []
-        (last_files command) (ended result) (F.counts files.old) (F.counts files.new) }
-    ensures answer { IfOk result (λ text. WhereHeld (F.held files.old) (last_files command) (λ held.
-        IsMadeTextOf (spelled words.now) held command.ask plan.now text.items)) }
-    ensures some { IfOk result (λ text. text.items ≢ []) }
-    ensures refusal { IfErr result IsRefusal }
-{
-    let mut kept = keeping_for(command.ask);
-    let model = model_lent(alloc, plan, &mut kept)?;
-    state_told(alloc, words, command, at, plan, &model, &kept, files)
+    Ok(Answer::Text(text))
 }

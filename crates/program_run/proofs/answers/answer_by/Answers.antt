@@ -1,4 +1,4 @@
-use Rattle.program_run.proofs.SomeText.{model_text_some}
+use Rattle.program_run.proofs.Lemmas.{model_text_some}
 use Rattle.program_run.proofs.answers.answer_by.Goals as goal
 
 pub returns-in_ok-answer-in-Model-clause-some : goal.returns-in_ok-answer-in-Model-clause-some

@@ -1,5 +1,4 @@
-use Rattle.program_run.proofs.Common.{arith, nat_tests, map, string_bytes, model_files, last_files, made_refused, made_then, may_first, may_next, IfOk-weaker, returned}
-use Rattle.program_run.proofs.Endings.{plan_ends, plan_refused}
+use Rattle.program_run.proofs.Lemmas.{arith, nat_tests, map, string_bytes, model_files, last_files, made_refused, made_then, may_first, may_next, IfOk-weaker, returned, plan_ends, plan_refused}
 use Rattle.program_run.proofs.Answering.{made_answers}
 use Rattle.program_run.proofs.answers.answer_to.Goals as goal
 

@@ -1,8 +1,4 @@
-use Rattle.program_run.proofs.Common.{◌≡◌, ℕ, [], Ok, Err, Some, ap, map, string_bytes, sym, subst, last_files, name_of, text_at, states_of, Last, Refuses, Several, Steps, last_step, read_wanting, IsScored, IsTold, judgement_by}
-use Rattle.run_steps.specs.declared.status.Status.TheVariants.{NoState}
-use Rattle.program_run.proofs.Endings.{last_gives, last_refuses}
-use Rattle.program_run.proofs.Evaluating.{none_read, scan_finds_none, scan_gives, scan_refuses, scans}
-use Rattle.program_run.proofs.SomeText.{scored_some}
+use Rattle.program_run.proofs.Lemmas.{◌≡◌, ℕ, [], Ok, Err, Some, ap, map, string_bytes, sym, subst, last_files, name_of, text_at, states_of, Last, Refuses, Several, Steps, last_step, read_wanting, IsScored, IsTold, judgement_by, NoState, last_gives, last_refuses, none_read, scan_finds_none, scan_gives, scan_refuses, scans, scored_some}
 use Rattle.program_run.proofs.evaluate.states_evaluated.Goals as goal
 
 pub returns-in-Err-clause-step : goal.returns-in-Err-clause-step

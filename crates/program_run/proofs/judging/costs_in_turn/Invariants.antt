@@ -1,5 +1,4 @@
-use Rattle.program_run.proofs.Common.{◌≡◌, ℕ, [], ◌<◌, get_or, judgement_by}
-use Rattle.base.specs.declared.costs.Cost.TheVariants.{Infinite}
+use Rattle.program_run.proofs.Common.{◌≡◌, ℕ, [], ◌<◌, get_or, judgement_by, Infinite}
 use Rattle.program_run.proofs.judging.costs_in_turn.Given as goal
 
 -- the costs of the states so far are known

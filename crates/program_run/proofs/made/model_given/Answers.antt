@@ -1,5 +1,4 @@
-use Rattle.program_run.proofs.Common.{arith, nat_tests}
-use Rattle.program_run.proofs.MadeModels.{modelled_by}
+use Rattle.program_run.proofs.Lemmas.{arith, nat_tests, modelled_by}
 use Rattle.program_run.proofs.made.model_given.Goals as goal
 
 pub model_on-requires-clause-within : goal.model_on-requires-clause-within

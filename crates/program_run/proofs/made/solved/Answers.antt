@@ -1,8 +1,4 @@
-use Rattle.program_run.proofs.Common.{arith, nat_tests, None, sym, subst, form_of, IsFirstLeast, Nothing}
-use Rattle.program_run.proofs.Endings.{last_gives}
-use Rattle.program_run.proofs.MadeModels.{own_variables}
-use Rattle.program_run.proofs.Solving.{narrow_ends, unsolved_is, unsolved_usually}
-use Rattle.program_run.proofs.SomeText.{solved_some}
+use Rattle.program_run.proofs.Lemmas.{arith, nat_tests, None, sym, subst, form_of, IsFirstLeast, Nothing, last_gives, own_variables, narrow_ends, unsolved_is, unsolved_usually, solved_some}
 use Rattle.program_run.proofs.made.solved.Goals as goal
 
 pub returns-in-Err-clause-step : goal.returns-in-Err-clause-step

@@ -1,7 +1,8 @@
-use Rattle.program_run.proofs.Common.{arith, nat_tests, returned, ◌≡◌, ℕ, [], None, Ok, Some, map, string_bytes, sym, subst, form_of, text_at, first_wide, IsTold, MayHold, InOrder, Last, Steps, last_step, ordered}
+use Rattle.program_run.proofs.Lemmas.{arith, nat_tests, returned, ◌≡◌, ℕ, [], None, Ok, Some, map, string_bytes, sym, subst, form_of, text_at, first_wide, IsTold, MayHold, InOrder, Last, Steps, last_step, ordered, last_gives, last_refuses, first_in, order_alone, solves, order_gives, order_refuses, solved_some}
+use Rattle.program_run.proofs.Common.{last_files, name_of, arith, nat_tests, read_wanting, returned, ◌≡◌, ℕ, [], None, Ok, Some, map, string_bytes, sym, subst, form_of, text_at, first_wide, IsTold, MayHold, InOrder, Last, Steps, last_step, ordered}
 use Rattle.program_run.proofs.Endings.{last_gives, last_refuses}
-use Rattle.program_run.proofs.Evaluating.{first_in, order_alone, solves}
-use Rattle.program_run.proofs.Solving.{order_gives, order_refuses}
+use Rattle.program_run.proofs.Evaluating.{first_in, order_alone, order_read, solves}
+use Rattle.program_run.proofs.Solving.{order_gives, order_refuses, unsolved_read}
 use Rattle.program_run.proofs.SomeText.{solved_some}
 use Rattle.program_run.proofs.made.solved_in_order.Goals as goal
 
@@ -53,3 +54,22 @@ returns-clause-some g c =
     (first_in (form_of c.args.model.now) c.deref.result.now c.in_ok-order.order.items
     c.in-Ok.state.items c.deref-2.result.now c.deref.ensures.value
     c.deref-2.ensures.value c.in-Ok.ensures.state))
+
+pub returns-in-Err-clause-files : goal.returns-in-Err-clause-files
+returns-in-Err-clause-files g c =
+    let name = name_of (map string_bytes c.args.words.now) c.args.command in
+    let old = g.F.Files.counts c.args.files.now in
+    let new = g.F.Files.counts c.take_order.new.files in
+    rw c.unsolved.ensures
+    (unsolved_read c.in-Err.answer name (last_files c.args.command) old new
+    (order_read name c.args.command c.args.at old new c.requires.asked c.in_ok-order.ensures.passed))
+
+pub returns-in_err-text-clause-files : goal.returns-in_err-text-clause-files
+returns-in_err-text-clause-files g c =
+    grind (arith, nat_tests, returned, read_wanting, order_read)
+
+pub returns-clause-files : goal.returns-clause-files
+returns-clause-files g c =
+    order_read (name_of (map string_bytes c.args.words.now) c.args.command) c.args.command c.args.at
+    (g.F.Files.counts c.args.files.now) (g.F.Files.counts c.take_order.new.files) c.requires.asked
+    c.in_ok-order.ensures.passed

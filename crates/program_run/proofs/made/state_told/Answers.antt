@@ -1,7 +1,4 @@
-use Rattle.program_run.proofs.Common.{arith, nat_tests, returned, map, string_bytes, Bits, last_step, read_wanting}
-use Rattle.program_run.proofs.Endings.{last_gives, last_refuses}
-use Rattle.program_run.proofs.MadeModels.{own_variables, small_weights}
-use Rattle.program_run.proofs.SomeText.{bits_some}
+use Rattle.program_run.proofs.Lemmas.{arith, nat_tests, returned, map, string_bytes, Bits, last_step, read_wanting, last_gives, last_refuses, own_variables, small_weights, bits_some}
 use Rattle.program_run.proofs.made.state_told.Goals as goal
 
 pub take_last-requires-clause-small : goal.take_last-requires-clause-small

@@ -1,5 +1,4 @@
-use Rattle.program_run.proofs.Common.{arith, nat_tests, map, string_bytes}
-use Rattle.program_run.proofs.Endings.{done_is_complete}
+use Rattle.program_run.proofs.Lemmas.{arith, nat_tests, map, string_bytes, done_is_complete}
 use Rattle.program_run.proofs.Headlines.{headline_delivered, writing_so}
 use Rattle.program_run.proofs.running.answered.Goals as goal
 
