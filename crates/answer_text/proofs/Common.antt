@@ -1,17 +1,12 @@
 -- What the proofs of this crate stand on, of std and of the crates below.
-pub use Rattle.std.proofs.Common.{◌≡◌, ℕ, ℤ, codes, Option, ◌+◌, ◌<◌, ◌≤◌, Bool, List, [], ◌∷◌, ◌++◌, length, drop, get_or, Some, sym, ap, ◌∙◌, arith, append-nil, append_assoc, false, None, take, rules}
 pub use Rattle.std.specs.Prelude.{slice_get, min, max, fold, unwrap_or}
+pub use Rattle.whole_text.proofs.Common.{Option, Bool, Some, None, length-map}
+pub use Rattle.model_text.proofs.Common.{◌≡◌, ℕ, ℤ, codes, ◌+◌, ◌<◌, ◌≤◌, List, [], ◌∷◌, ◌++◌, length, drop, get_or, sym, ap, ◌∙◌, arith, append-nil, append_assoc, false, take, rules, drop_all, drop_more, Row, row_text, rows_text, signed_decimal, sum_by-cons, weight_total, nat_tests}
 pub use Rattle.std.specs.List.{zip}
 pub use Rattle.std.proofs.Math.ListN.{get_or-map}
-pub use Rattle.std.proofs.lemmas.List.{drop_all, drop_more, length-map}
 pub use Rattle.std.proofs.lemmas.Option.{get_or_from_slice_get, slice_get_within}
 pub use Rattle.std.proofs.lemmas.Slice.Zip.{get_or-zip, length-zip}
-pub use Rattle.model_text.specs.Rows.{Row, row_text, rows_text}
-pub use Rattle.std.specs.Fmt.{signed_decimal}
 pub use Rattle.std.proofs.lemmas.Grind.{flat_map-append}
 pub use Rattle.answer_text.specs.Answers.{assignment_row, name_row, name_rows, named_rows, optimum_rows, bits_word}
-pub use Rattle.std.proofs.lemmas.List.Sums.{sum_by-cons}
 pub use Rattle.bits_model.specs.declared.output.Entry.{Entry}
-pub use Rattle.bits_model.specs.Output.{weight_total}
 pub use Rattle.answer_text.specs.Sizes.{greatest_size, least_of, least_size, size, sizes}
-pub use Rattle.std.proofs.lemmas.Bool.Decides.{nat_tests}

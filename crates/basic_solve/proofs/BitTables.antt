@@ -11,8 +11,7 @@ no_entry = record { first = 0; second = 0; weight = pos 0 }
 
 -- a slice of a whole list that was written
 pub written_items : {A : Type 0} (len : ℕ) (news olds : List A) → len ≡ length olds
-    → length news ≡ length olds
-    → take len (news ++ drop (length news) olds) ≡ news
+    → length news ≡ length olds → take len (news ++ drop (length news) olds) ≡ news
 written_items len news olds l m = take_at news (drop (length news) olds) len (m ∙ sym l)
 
 -- ---- sizes
@@ -52,8 +51,7 @@ module _ (kind : Kind) (bit : Bool) (entries : List Entry) (at : ℕ) (d : Entry
     ≡ total_by (step_at kind bit y) entries) where
   -- a coupler's step is added
   pub step_added : (number : ℤ) → is_node (get_or entries at d) ≡ false
-      → number ≡ step_of kind bit (get_or entries at d)
-      → ((y : List Bool) → sum_where y nodes news
+      → number ≡ step_of kind bit (get_or entries at d) → ((y : List Bool) → sum_where y nodes news
       ≡ sum_where y nodes olds +ℤ if_so (bit_at y (get_or entries at d).first) number)
       → (y : List Bool)
       → sum_where y nodes news +ℤ total_by (step_at kind bit y) (drop (at + 1) entries)

@@ -143,8 +143,7 @@ columns-entries n es placed =
 
 -- what is taken from the last column and passed to its node
 pub with_lesser-push : (held : List (List Entry)) (passed : List (List ℕ)) (es : List Entry)
-    (us : List ℕ) → length passed ≡ length held
-    → with_lesser (held ++ es ∷ []) (passed ++ us ∷ [])
+    (us : List ℕ) → length passed ≡ length held → with_lesser (held ++ es ∷ []) (passed ++ us ∷ [])
     ≡ with_lesser held passed ++ (lesser_nodes es ++ us) ∷ []
 with_lesser-push [] [] es us long = refl
 with_lesser-push [] (p ∷ passed) es us long = absurd (omega (arith, long))
@@ -171,8 +170,7 @@ with_lesser-set (h ∷ held) (p ∷ passed) (suc q) us =
     ap (λ ls. (lesser_nodes h ++ p) ∷ ls) (with_lesser-set held passed q us)
 
 pub handed_with : (held : List (List Entry)) (passed more : List (List ℕ)) (ns : List ℕ)
-    → AreHandedOn ns passed more
-    → AreHandedOn ns (with_lesser held passed) (with_lesser held more)
+    → AreHandedOn ns passed more → AreHandedOn ns (with_lesser held passed) (with_lesser held more)
 handed_with held passed more ns h = record {
   none = λ none. ap (with_lesser held) (h.none none);
   last = λ rest q parts. ap (with_lesser held) (h.last rest q parts) ∙ with_lesser-set held passed q rest;
@@ -186,8 +184,7 @@ get_or-with_lesser [] v h = absurd (omega arith)
 get_or-with_lesser (es ∷ held) zero h = append-nil (lesser_nodes es)
 get_or-with_lesser (es ∷ held) (suc v) h = get_or-with_lesser held v (omega arith)
 
-lesser-push : (es : List Entry) (e : Entry) (u : ℕ)
-    → is_in (lesser_nodes (es ++ e ∷ [])) u
+lesser-push : (es : List Entry) (e : Entry) (u : ℕ) → is_in (lesser_nodes (es ++ e ∷ [])) u
     ≡ (is_in (lesser_nodes es) u || (nat_lt e.first e.second && (e.first == u)))
 lesser-push [] e u = grind (arith, nat_tests)
 lesser-push (f ∷ es) e u = grind (arith, nat_tests, lesser-push es e u)
@@ -214,8 +211,7 @@ columns-lower n es =
       members = λ u w h.
           ap (λ us. is_in (get_or (with_lesser (columns n es) us) w []) u) none
           ∙ ap (λ l. is_in l u) (get_or-with_lesser (columns n es) w (omega (arith, long))
-          ∙ ap lesser_nodes (get_or-columns n es w h))
-          ∙ column-lesser w u es;
+          ∙ ap lesser_nodes (get_or-columns n es w h)) ∙ column-lesser w u es;
     }
 
 -- ---- entries that are turned
@@ -270,8 +266,7 @@ all_left n es are = record {
 
 -- the last entry of a front of entries is of this column, and of no other
 pub front-here : (v : ℕ) (es : List Entry) (s : ℕ) (d e : Entry) → s < length es
-    → e ≡ get_or es s d → e.second ≡ v
-    → column v (take (s + 1) es) ≡ e ∷ column v (take s es)
+    → e ≡ get_or es s d → e.second ≡ v → column v (take (s + 1) es) ≡ e ∷ column v (take s es)
 front-here v es s d e h is own =
     ap (column v) (take_more es s d h ∙ ap (λ x. take s es ++ x ∷ []) (sym is))
     ∙ column-here v (take s es) e own
@@ -285,8 +280,7 @@ front-there v es s d e h is other =
 -- what a step down keeps
 pub step_down : (v : ℕ) (es : List Entry) (start end : ℕ) (into more : List Entry) (d e : Entry)
     → start ≤ length es → 0 < start → e ≡ get_or es (start - 1) d → e.second ≡ v
-    → more ≡ into ++ e ∷ []
-    → into ++ column v (take start es) ≡ column v (take end es)
+    → more ≡ into ++ e ∷ [] → into ++ column v (take start es) ≡ column v (take end es)
     → ((w : ℕ) → w < v → column w (take start es) ≡ column w (take end es))
     → (more ++ column v (take (start - 1) es) ≡ column v (take end es))
     × ((w : ℕ) → w < v → column w (take (start - 1) es) ≡ column w (take end es))
@@ -296,8 +290,7 @@ step_down v es start end into more d e within some is own pushed so_far others =
       ap (λ l. l ++ column v (take (start - 1) es)) pushed
           ∙ append_assoc into (e ∷ []) (column v (take (start - 1) es))
           ∙ ap (λ l. into ++ l) (sym (front-here v es (start - 1) d e low is own)
-          ∙ ap (λ k. column v (take k es)) before)
-          ∙ so_far,
+          ∙ ap (λ k. column v (take k es)) before) ∙ so_far,
       λ w lt.
           sym (front-there w es (start - 1) d e low is (λ same. omega (arith, same, own, lt)))
           ∙ ap (λ k. column w (take k es)) before ∙ others w lt,

@@ -174,8 +174,7 @@ module _ (m : Written) (sets : List (List ℕ)) (near : AreNeighbourhoods 16 m s
           chosen-is front own before tables e.left (set_of m sets) left y (long ∙ sym front_long) ∙ sym (bit_is s y long);
     }
 
-    all_each : (s : ℕ) → s < step + 1
-        → IsChoiceOf m.nodes s (energy (form_of m)) (get_or sets s [])
+    all_each : (s : ℕ) → s < step + 1 → IsChoiceOf m.nodes s (energy (form_of m)) (get_or sets s [])
         (get_or (choices ++ bits ∷ []) s [])
     all_each s h = grind (arith, nat_tests, cases_eq, get_or-append_seam, choice, get_or_append_left)
 
@@ -183,8 +182,7 @@ module _ (m : Written) (sets : List (List ℕ)) (near : AreNeighbourhoods 16 m s
     all_count = length-append choices (bits ∷ []) ∙ ap (λ n. n + 1) e.count
 
     -- where it has no neighbours
-    eliminated_alone : ns ≡ []
-        → Eliminated m sets (step + 1) front before (choices ++ bits ∷ [])
+    eliminated_alone : ns ≡ [] → Eliminated m sets (step + 1) front before (choices ++ bits ∷ [])
     eliminated_alone none = record {
       left = left_alone front own before tables e.left (set_of m sets) left table holds none;
       count = all_count;

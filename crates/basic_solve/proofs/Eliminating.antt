@@ -41,8 +41,7 @@ all_push P [] x a p = (p, tt)
 all_push P (y ∷ ys) x a p = (a.0, all_push P ys x a.1 p)
 
 waiting_energy-push : (y : List Bool) (q : ℕ) (waiting : List (List TableOver)) (t : TableOver)
-    → q < length waiting
-    → waiting_energy y (set waiting q (get_or waiting q [] ++ t ∷ []))
+    → q < length waiting → waiting_energy y (set waiting q (get_or waiting q [] ++ t ∷ []))
     ≡ waiting_energy y waiting +ℤ table_energy y t
 waiting_energy-push y q [] t h = absurd (omega arith)
 waiting_energy-push y zero (ts ∷ waiting) t h =
@@ -65,8 +64,7 @@ pub record LeftAfter (kind : Kind) (n step : ℕ) (g : List Bool → ℤ) (held 
   pub left : length held + step ≡ n
   pub as_many : length waiting ≡ length held
   pub constant : ℤ
-  pub least : (y : List Bool) → length y ≡ length held
-      → least_after step g y
+  pub least : (y : List Bool) → length y ≡ length held → least_after step g y
       ≡ constant +ℤ (held_energy kind y held +ℤ waiting_energy y waiting)
 
 lt_moved : (r a b : ℤ) → int_lt (r +ℤ b) (r +ℤ a) ≡ int_lt b a
@@ -133,15 +131,13 @@ module _ {kind : Kind} {n step : ℕ} {g : List Bool → ℤ} (front : List (Lis
       omega (arith, ints, h.least yb (omega (arith, length-append y (b ∷ []), held_long)), one, two, three, four)
 
   -- the bit that is chosen after a front is that for which the last node adds less
-  pub chosen-is : (y : List Bool) → length y ≡ length front
-      → chosen step g y
+  pub chosen-is : (y : List Bool) → length y ≡ length front → chosen step g y
       ≡ int_lt (own_energy kind own passed y true) (own_energy kind own passed y false)
   chosen-is y w = rw (one_bit y true w, one_bit y false w) (lt_moved (rest y) _ _)
 
   -- ---- what takes the place of the last node
 
-  module _ (t : TableOver) (holds : (y : List Bool) → length y ≡ length front
-      → table_energy y t
+  module _ (t : TableOver) (holds : (y : List Bool) → length y ≡ length front → table_energy y t
       ≡ int_min (own_energy kind own passed y false) (own_energy kind own passed y true)) where
     -- the least energy after a front
     next_least : (y : List Bool) → length y ≡ length front

@@ -2,8 +2,7 @@
 use Rattle.basic_solve.proofs.Common.{elements, nat_tests, ◌≡◌, ◌≢◌, ◌⊎◌, ℕ, zero, suc, ◌+◌, ◌<◌, List, [], ◌∷◌, ◌++◌, length, map, get_or, set, refl, sym, arith, ap, ◌∙◌, length-append, replicate, cases_eq, length-map, map-append, length-set, get_or-set_same, get_or-set_other, get_or_append_left, get_or_at, get_or_past, get_or_push, ext_get_or, get_or-map, map-set, lists_at, AreHeads, IsTaken}
 
 -- what is seen at each place
-at-head : {A : Type 0} (heads : List ℕ) (lists : List (List A)) (i : ℕ)
-    → get_or lists 0 [] ≡ []
+at-head : {A : Type 0} (heads : List ℕ) (lists : List (List A)) (i : ℕ) → get_or lists 0 [] ≡ []
     → get_or (lists_at heads lists) i [] ≡ get_or lists (get_or heads i 0) []
 at-head [] lists i none = sym none
 at-head (head ∷ heads) lists zero none = refl
@@ -147,12 +146,9 @@ seen_none {A = A} (suc count) = ap (λ ls. nil A ∷ ls) (seen_none {A = A} coun
 -- items are appended to the list of a node
 pub pushed_seen : {A X : Type 0} (items : X → List A) (heads : List ℕ) (lists : List X)
     (olds : List ℕ) (old : List (List A)) (seen : List (List A)) (node place : ℕ) (had has : X)
-    (more : List A)
-    → AreHeads heads (map items lists)
-    → lists_at heads (map items lists) ≡ lists_at olds old
-    → length heads ≡ length olds
-    → lists_at olds old ≡ seen → node < length seen
-    → 0 < place → get_or heads node 0 ≡ place
+    (more : List A) → AreHeads heads (map items lists)
+    → lists_at heads (map items lists) ≡ lists_at olds old → length heads ≡ length olds
+    → lists_at olds old ≡ seen → node < length seen → 0 < place → get_or heads node 0 ≡ place
     → had ≡ get_or lists place had → items has ≡ items had ++ more
     → lists_at heads (map items (set lists place has)) ≡ set seen node (get_or seen node [] ++ more)
 pushed_seen items heads lists olds old seen node place had has more a e count is lt pos own read h =

@@ -28,8 +28,7 @@ entries_value kind y bit nodes b steps es own l base sums =
 
 -- the place of a state in it
 pub passed_place : (y : List Bool) (bit : Bool) (v : ℕ) (nodes : List ℕ) (t : TableOver)
-    (p : IsPassedTo v nodes t) (start : ℕ) → length y ≡ v
-    → start ≡ cond bit (2 ^ length p.rest) 0
+    (p : IsPassedTo v nodes t) (start : ℕ) → length y ≡ v → start ≡ cond bit (2 ^ length p.rest) 0
     → start + get_or (doubled ◌+◌ (0 ∷ []) (places 1 nodes p.rest)) (index_of y nodes) 0
     ≡ index_of (y ++ bit ∷ []) t.nodes
 passed_place y bit v nodes t p start w s =

@@ -13,8 +13,7 @@ pub value_more : {X : Type 0} (f : X → ℤ) (vs us : List X) (to : ℕ → ℤ
     → ((x : ℕ) → x < at → get_or (map f us) x (pos 0) ≡ to x)
     × ((x : ℕ) → at ≤ x → get_or (map f us) x (pos 0) ≡ get_or (map f vs) x (pos 0))
     → ((x : ℕ) → x < at + 1 → get_or (map f (set us at v)) x (pos 0) ≡ to x)
-    × ((x : ℕ) → at + 1 ≤ x
-    → get_or (map f (set us at v)) x (pos 0) ≡ get_or (map f vs) x (pos 0))
+    × ((x : ℕ) → at + 1 ≤ x → get_or (map f (set us at v)) x (pos 0) ≡ get_or (map f vs) x (pos 0))
 value_more f vs us to at v long h is so_far =
     grind (arith, nat_tests, ints, elements, written_more, length-map, map-set)
 
@@ -44,8 +43,7 @@ pub doubled-last : {A : Type 0} (plus : A → A → A) (vs steps : List A) (s : 
     → doubled plus vs (steps ++ s ∷ [])
     ≡ doubled plus vs steps ++ map (λ v. plus v s) (doubled plus vs steps)
 doubled-last plus vs [] s = refl
-doubled-last plus vs (step ∷ steps) s =
-    doubled-last plus (vs ++ map (λ v. plus v step) vs) steps s
+doubled-last plus vs (step ∷ steps) s = doubled-last plus (vs ++ map (λ v. plus v step) vs) steps s
 
 -- a table of one number
 pub begun : {X : Type 0} (f : X → ℤ) (vs : List X) (v : X) (first : ℤ) (steps : List ℤ)

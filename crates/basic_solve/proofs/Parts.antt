@@ -9,8 +9,7 @@ module _ (y : List Bool) (e : Entry) (bit : Bool) (is : e.second ≡ length y) w
   second_is = ap (λ k. bit_at (y ++ bit ∷ []) k) is ∙ bit_at-next y [] bit
 
   -- a product of spins by its parts
-  spins : (a b : Bool) (w : ℤ)
-      → times_spin a (times_spin b w) ≡ times_spin b (neg_ℤ w) +ℤ if_so a
+  spins : (a b : Bool) (w : ℤ) → times_spin a (times_spin b w) ≡ times_spin b (neg_ℤ w) +ℤ if_so a
       (times_spin b (pos 2 *ℤ w))
   spins a b w = grind (arith, ints)
 
@@ -21,8 +20,7 @@ module _ (y : List Bool) (e : Entry) (bit : Bool) (is : e.second ≡ length y) w
   alone b w = grind (arith, ints)
 
   -- the entry of the node itself
-  node_spins : e.first ≡ length y → is_node e ≡ true
-      → spins_energy (y ++ bit ∷ []) e
+  node_spins : e.first ≡ length y → is_node e ≡ true → spins_energy (y ++ bit ∷ []) e
       ≡ times_spin bit (cond (is_node e) e.weight (neg_ℤ e.weight))
       +ℤ cond (is_node e) (pos 0) (if_so (bit_at y e.first) (times_spin bit (pos 2 *ℤ e.weight)))
   node_spins f n = grind (arith, nat_tests, ints, bit_at-next y)
@@ -32,8 +30,7 @@ module _ (y : List Bool) (e : Entry) (bit : Bool) (is : e.second ≡ length y) w
   node_parts kind f n = grind (arith, nat_tests, ints, bit_at-next, second_is, alone, node_spins)
 
   -- a coupler
-  coupler_spins : e.first < length y → is_node e ≡ false
-      → spins_energy (y ++ bit ∷ []) e
+  coupler_spins : e.first < length y → is_node e ≡ false → spins_energy (y ++ bit ∷ []) e
       ≡ times_spin bit (cond (is_node e) e.weight (neg_ℤ e.weight))
       +ℤ cond (is_node e) (pos 0) (if_so (bit_at y e.first) (times_spin bit (pos 2 *ℤ e.weight)))
   coupler_spins f n = grind (arith, nat_tests, ints, bit_at-front, second_is, spins)
@@ -48,8 +45,7 @@ module _ (y : List Bool) (e : Entry) (bit : Bool) (is : e.second ≡ length y) w
   entry_parts kind le = grind (arith, nat_tests, ints, cases_eq, node_parts, eq-eqb, coupler_parts, ne_eqb)
 
 pub entries_parts : (kind : Kind) (y : List Bool) (bit : Bool) (es : List Entry)
-    → AreOf (length y) es
-    → total_by (entry_energy kind (y ++ bit ∷ [])) es
+    → AreOf (length y) es → total_by (entry_energy kind (y ++ bit ∷ [])) es
     ≡ total_by (base_of kind bit) es +ℤ total_by (step_at kind bit y) es
 entries_parts kind y bit [] p = refl
 entries_parts kind y bit (e ∷ es) p =

@@ -53,8 +53,7 @@ module _ {A : Type 0} (plus : A → A → A) where
 -- ---- sums of steps
 
 pub stepped-sum : (y : List Bool) (v : ℤ) (nodes : List ℕ) (steps : List ℤ)
-    → length steps ≡ length nodes
-    → stepped ◌+ℤ◌ y v nodes steps ≡ v +ℤ sum_where y nodes steps
+    → length steps ≡ length nodes → stepped ◌+ℤ◌ y v nodes steps ≡ v +ℤ sum_where y nodes steps
 stepped-sum y v [] steps l = omega (arith, ints)
 stepped-sum y v (u ∷ us) [] l = absurd (omega arith)
 stepped-sum y v (u ∷ us) (step ∷ steps) l =
@@ -78,8 +77,7 @@ index_of-lt y [] = omega arith
 index_of-lt y (u ∷ us) = grind (arith, nat_tests, index_of-lt y us, pow-succ' 2 (length us))
 
 -- the highest digit is the bit of the last node
-pub index_of-last : (y : List Bool) (nodes : List ℕ) (v : ℕ)
-    → index_of y (nodes ++ v ∷ [])
+pub index_of-last : (y : List Bool) (nodes : List ℕ) (v : ℕ) → index_of y (nodes ++ v ∷ [])
     ≡ index_of y nodes + 2 ^ length nodes * cond (bit_at y v) 1 0
 index_of-last y [] v = omega arith
 index_of-last y (u ∷ us) v = grind (arith, nat_tests, index_of-last y us v)
@@ -105,8 +103,7 @@ length-places p (u ∷ us) [] = ap suc (length-places p us [])
 length-places p (u ∷ us) (k ∷ ks) =
     grind (arith, nat_tests, length-places (p + p) us ks, length-places p us (k ∷ ks))
 
-pub stepped-none : (y : List Bool) (a p : ℕ) (us : List ℕ)
-    → stepped ◌+◌ y a us (places p us []) ≡ a
+pub stepped-none : (y : List Bool) (a p : ℕ) (us : List ℕ) → stepped ◌+◌ y a us (places p us []) ≡ a
 stepped-none y a p [] = refl
 stepped-none y a p (u ∷ us) = grind (arith, nat_tests, stepped-none y a p us)
 

@@ -10,8 +10,7 @@ pub record IsBegun (n : ℕ) (g : List Bool → ℤ) (y : List Bool) : Type 0 wh
 pub begun_more : (n : ℕ) (g : List Bool → ℤ) (sets : List (List ℕ)) (bits : List (List Bool))
     (y : List Bool) (step : ℕ) (b : Bool) → AreChoices n g sets bits → IsBegun n g y
     → length y + suc step ≡ n → b ≡ get_or (get_or bits step []) (index_of y (get_or sets step []))
-    false
-    → IsBegun n g (y ++ b ∷ [])
+    false → IsBegun n g (y ++ b ∷ [])
 begun_more n g sets bits y step b a h at is =
     let long = length-append y (b ∷ []) in
     let chosen_is : b ≡ chosen step g y = is ∙ sym ((a.each step (omega arith)).each y at) in

@@ -44,8 +44,7 @@ marked-zero k = ap (λ bit. bit == 1) (bit_at-zero k)
 -- the number before has a 0 where a number has its lowest 1
 lowest_gone : (place n : ℕ) → bit_at n place ≡ 1 → ((i : ℕ) → i < place → bit_at n i ≡ 0)
     → bit_at (n - 1) place ≡ 0
-lowest_gone zero n one lower =
-    bit_at_lowest (n - 1) ∙ omega (arith, sym (bit_at_lowest n) ∙ one)
+lowest_gone zero n one lower = bit_at_lowest (n - 1) ∙ omega (arith, sym (bit_at_lowest n) ∙ one)
 lowest_gone (suc place) n one lower =
     let even : n % 2 ≡ 0 = sym (bit_at_lowest n) ∙ lower 0 (omega arith) in
     let half : (n - 1) / 2 ≡ n / 2 - 1 = omega (arith, even) in
@@ -107,8 +106,7 @@ pub entry-marked : (words : List ℕ) (e : Entry) (k a b : ℕ) → a ≡ get_or
     → b ≡ get_or words e.second 0 → is_marked (bit_and a b) k
     ≡ (get_or (assignment words k) e.first false && get_or (assignment words k) e.second false)
 entry-marked words e k a b first second =
-    marked-and a b k
-    ∙ (λ i. (ap (λ w. is_marked w k) first ∙ value-marked words e.first k) i
+    marked-and a b k ∙ (λ i. (ap (λ w. is_marked w k) first ∙ value-marked words e.first k) i
     && (ap (λ w. is_marked w k) second ∙ value-marked words e.second k) i)
 
 -- ---- words whose bits at a place were written
@@ -139,8 +137,7 @@ pub added : (sums : List ℤ) (place k rest next : ℕ) (number new whole : ℤ)
     → get_or sums k (pos 0) +ℤ if_so (is_marked rest k) number ≡ whole
     → get_or (set sums place new) k (pos 0) +ℤ if_so (is_marked next k) number ≡ whole
 added sums place k rest next number new whole places within marked cleared is before =
-    ap (λ b. get_or (set sums place new) k (pos 0) +ℤ if_so b number) cleared
-    ∙ go (k == place) refl
+    ap (λ b. get_or (set sums place new) k (pos 0) +ℤ if_so b number) cleared ∙ go (k == place) refl
   where
     go : (b : Bool) → (k == place) ≡ b
         → get_or (set sums place new) k (pos 0) +ℤ if_so (if b then false else is_marked rest k) number ≡ whole
@@ -162,8 +159,7 @@ size-if_so false number = omega arith
 
 -- a sum to which a number is still to be added has room for it
 pub room : (b : Bool) (old now number : ℤ) → now +ℤ number ≡ old +ℤ if_so b number
-    → unsigned_abs old + unsigned_abs number < 2 ^ 126
-    → unsigned_abs (now +ℤ number) < 2 ^ 126
+    → unsigned_abs old + unsigned_abs number < 2 ^ 126 → unsigned_abs (now +ℤ number) < 2 ^ 126
 room true old now number is small = omega (arith, ints, is, small)
 room false old now number is small = omega (arith, ints, is, small)
 

@@ -22,38 +22,27 @@ in_flips (x ∷ xs) m = λ i. eqb_flips m x i || in_flips xs m i
 abbrev Once : ℕ → List ℕ → Type 0
 Once n us = IsDistinct eqb us × AllByRecursion (λ v. v < n) us
 
--- what the words after the next node name
-abbrev Later : ℕ → List ℕ → List Word → Type 0
-Later n named ws =
-    (m : ℕ) (us : List ℕ) → nodes_at n (named ++ m ∷ []) ws ≡ Ok us → Once n (named ++ m ∷ [])
-    → Once n ((named ++ m ∷ []) ++ us)
+-- what two steps end well with
+both_ok : {A B : Type 0} (r : Result A TextFault) (f : A → Result B TextFault) (y : B)
+    → (r >>= f) ≡ Ok y → (x : A) × (r ≡ Ok x) × (f x ≡ Ok y)
+both_ok (Ok x) f y is = (x, refl, is)
+both_ok (Err e) f y is = absurd (false≢true (ap is_ok is))
 
 nodes_once : (n : ℕ) (named : List ℕ) (ws : List Word) (vs : List ℕ) → nodes_at n named ws ≡ Ok vs
     → Once n named → Once n (named ++ vs)
 unfolding nodes_at
 nodes_once n named [] vs read once = grind (arith, nat_tests, append-nil)
 nodes_once n named (w ∷ ws) vs read once =
-    first (λ m us said all. nodes_once n (named ++ m ∷ []) ws us said all)
-    (new_node n named w) refl read
-  where
-    rest : Later n named ws → (m : ℕ) → new_node n named w ≡ Ok m → (r : Result (List ℕ) TextFault)
-        → nodes_at n (named ++ m ∷ []) ws ≡ r → (r >>= (λ others. Ok (m ∷ others))) ≡ Ok vs
-        → Once n (named ++ vs)
-    rest later m new (Err f) said is = absurd (false≢true (ap is_ok is))
-    rest later m new (Ok us) said is =
-        let f = new_facts n named w m new in
-        let more = later m us said (
-          IsDistinct-push nat_eq_equiv named m once.0 (in_flips named m ∙ f.1),
-          all_append (λ v. v < n) named (m ∷ []) once.1 (f.0, tt),
-        ) in
-        let all : m ∷ us ≡ vs = cc is in
-        subst (λ us. Once n (named ++ us)) all (rw append_assoc at more)
-
-    first : Later n named ws → (r : Result ℕ TextFault) → new_node n named w ≡ r
-        → (r >>= (λ m. nodes_at n (named ++ m ∷ []) ws >>= (λ others. Ok (m ∷ others)))) ≡ Ok vs
-        → Once n (named ++ vs)
-    first later (Err f) new is = absurd (false≢true (ap is_ok is))
-    first later (Ok m) new is = rest later m new (nodes_at n (named ++ m ∷ []) ws) refl is
+    let a = both_ok (new_node n named w) _ vs read in
+    let m = a.0 in
+    let b = both_ok (nodes_at n (named ++ m ∷ []) ws) _ vs a.2 in
+    let f = new_facts n named w m a.1 in
+    let more = nodes_once n (named ++ m ∷ []) ws b.0 b.1 (
+      IsDistinct-push nat_eq_equiv named m once.0 (in_flips named m ∙ f.1),
+      all_append (λ v. v < n) named (m ∷ []) once.1 (f.0, tt),
+    ) in
+    let all : m ∷ b.0 ≡ vs = cc b.2 in
+    subst (λ us. Once n (named ++ us)) all (rw append_assoc at more)
 
 pub nodes-reversed : (n : ℕ) (order : List ℕ) → AreNodes n order → AreNodes n (reverse order)
 nodes-reversed n order are =
@@ -65,18 +54,15 @@ nodes-reversed n order are =
 
 pub order-once : (n : ℕ) (ws : List Word) (order : List ℕ) → order_of n ws ≡ Ok order
     → AreNodes n order
-order-once n ws order read = go (nodes_at n [] ws) refl read
-  where
-    go : (r : Result (List ℕ) TextFault) → nodes_at n [] ws ≡ r
-        → (r >>= (λ us. all_named n (end_line ws) us)) ≡ Ok order → AreNodes n order
-    go (Err f) said is = absurd (false≢true (ap is_ok is))
-    go (Ok us) said is =
-        let none : IsDistinct eqb [] =
-        IsDistinct-from_apart eqb [] (λ i j d a b. absurd (omega (arith, a, b))) in
-        let once = nodes_once n [] ws us said (none, tt) in
-        let t = test_passed (length us == n) us order (fault kinds.End (end_line ws)) is in
-        subst (AreNodes n) t.1 (record {
-          count = eqb-true (length us) n t.0;
-          below = All-from_recursion _ _ once.1;
-          apart = once.0;
-        })
+order-once n ws order read =
+    let a = both_ok (nodes_at n [] ws) _ order read in
+    let us = a.0 in
+    let none : IsDistinct eqb [] =
+    IsDistinct-from_apart eqb [] (λ i j d a b. absurd (omega (arith, a, b))) in
+    let once = nodes_once n [] ws us a.1 (none, tt) in
+    let t = test_passed (length us == n) us order (fault kinds.End (end_line ws)) a.2 in
+    subst (AreNodes n) t.1 (record {
+      count = eqb-true (length us) n t.0;
+      below = All-from_recursion _ _ once.1;
+      apart = once.0;
+    })

@@ -1,5 +1,6 @@
 -- The best of the states so far: each state before it is worse, and none after it is better.
-use Rattle.state_scores.proofs.Common.{◌||◌, length, append-nil, ◌≡◌, Bool, true, false, List, [], ◌∷◌, ◌++◌, cond, refl, sym, ap, ◌∙◌, subst, append_assoc, arith, map-append, or-true, find, Some, map, if◌then◌else◌, AllByRecursion, list_any, StateLine, Score, IsEvaluation, Judgement, best_of, has_better, is_better, score_of, ◌==◌, nat_tests, IsEvaluationOf, Standing, after_score, after_states, leads}
+use Rattle.state_scores.proofs.Common.{All-append, All-cons, All-head, All-nil, All-tail, All-weaker, ◌||◌, length, append-nil, ◌≡◌, Bool, true, false, List, [], ◌∷◌, ◌++◌, cond, refl, sym, ap, ◌∙◌, subst, append_assoc, arith, map-append, find, Some, map, if◌then◌else◌, All, list_any, StateLine, Score, IsEvaluation, Judgement, best_of, has_better, is_better, score_of, ◌==◌, nat_tests, IsEvaluationOf, Standing, after_score, after_states, leads}
+use Rattle.std.proofs.lemmas.List.Folds.{list_any-append, list_any_none}
 use Rattle.state_scores.proofs.Orders.{better_asym, better_over, better_self}
 
 -- whether a state is better than another
@@ -11,45 +12,35 @@ pub record IsBest (j : Judgement) (states : List StateLine) (best : StateLine) :
   pub before : List StateLine
   pub after : List StateLine
   pub split : states ≡ before ++ best ∷ after
-  pub worse : AllByRecursion (λ state. wins j best state ≡ true) before
-  pub no_better : AllByRecursion (λ state. wins j state best ≡ false) after
+  pub worse : All (λ state. wins j best state ≡ true) before
+  pub no_better : All (λ state. wins j state best ≡ false) after
 
 -- ---- one state more
 
-all_weaker : {X : Type 0} (P Q : X → Type 0) → ((x : X) → P x → Q x) → (xs : List X)
-    → AllByRecursion P xs → AllByRecursion Q xs
-all_weaker P Q f [] h = tt
-all_weaker P Q f (x ∷ xs) h = (f x h.0, all_weaker P Q f xs h.1)
-
-all_append : {X : Type 0} (P : X → Type 0) (xs ys : List X) → AllByRecursion P xs
-    → AllByRecursion P ys → AllByRecursion P (xs ++ ys)
-all_append P [] ys h k = k
-all_append P (x ∷ xs) ys h k = (h.0, all_append P xs ys h.1 k)
-
 -- the first state is the best
 pub best_first : (j : Judgement) (state : StateLine) → IsBest j (state ∷ []) state
-best_first j state = record { before = []; after = []; split = refl; worse = tt; no_better = tt }
+best_first j state = record { before = []; after = []; split = refl; worse = All-nil _; no_better = All-nil _ }
 
 -- a state that is better than the best is better than all
 best_changes : (j : Judgement) (states : List StateLine) (best state : StateLine)
     → wins j state best ≡ true → IsBest j states best → IsBest j (states ++ state ∷ []) state
 best_changes j states best state better so_far =
     let beaten = λ (s : StateLine). wins j state s ≡ true in
-    let first : AllByRecursion beaten so_far.before =
-    all_weaker (λ (s : StateLine). wins j best s ≡ true) beaten
+    let first : All beaten so_far.before =
+    All-weaker (λ (s : StateLine). wins j best s ≡ true) beaten
     (λ s worse. better_over (score_of j state) (score_of j best) (score_of j s) better
     (better_asym (score_of j best) (score_of j s) worse)) so_far.before so_far.worse in
-    let last : AllByRecursion beaten so_far.after =
-    all_weaker (λ (s : StateLine). wins j s best ≡ false) beaten
+    let last : All beaten so_far.after =
+    All-weaker (λ (s : StateLine). wins j s best ≡ false) beaten
     (λ s no_better. better_over (score_of j state) (score_of j best) (score_of j s) better no_better)
     so_far.after so_far.no_better in
     record {
       before = states;
       after = [];
       split = refl;
-      worse = subst (AllByRecursion beaten) (sym so_far.split)
-          (all_append beaten so_far.before (best ∷ so_far.after) first (better, last));
-      no_better = tt;
+      worse = subst (All beaten) (sym so_far.split)
+          (All-append beaten so_far.before (best ∷ so_far.after) first (All-cons beaten best so_far.after better last));
+      no_better = All-nil _;
     }
 
 -- the best stays so where the next state is no better
@@ -61,26 +52,23 @@ best_stays j states best state no_better so_far = record {
   split = ap (λ (s : List StateLine). s ++ state ∷ []) so_far.split
       ∙ append_assoc so_far.before (best ∷ so_far.after) (state ∷ []);
   worse = so_far.worse;
-  no_better = all_append (λ (s : StateLine). wins j s best ≡ false) so_far.after (state ∷ []) so_far.no_better (no_better, tt);
+  no_better =
+      let lost = λ (s : StateLine). wins j s best ≡ false in
+      All-append lost so_far.after (state ∷ []) so_far.no_better (All-cons lost state [] no_better (All-nil lost));
 }
 
 -- ---- the first state that none is better than
 
 find_first : {X : Type 0} (p : X → Bool) (before : List X) (x : X) (after : List X)
-    → AllByRecursion (λ y. p y ≡ false) before → p x ≡ true → find p (before ++ x ∷ after) ≡ Some x
+    → All (λ y. p y ≡ false) before → p x ≡ true → find p (before ++ x ∷ after) ≡ Some x
 find_first p [] x after none is = ap (λ (b : Bool). cond b (Some x) (find p after)) is
 find_first p (y ∷ before) x after none is =
-    grind (arith, nat_tests, find_first p before x after none.1 is)
-
-any_none : {X : Type 0} (p : X → Bool) (xs : List X) → AllByRecursion (λ x. p x ≡ false) xs
-    → list_any p xs ≡ false
-any_none p [] none = refl
-any_none p (x ∷ xs) none = rw none.0 (any_none p xs none.1)
+    let here = All-head (λ y. p y ≡ false) y before none in
+    grind (arith, nat_tests, find_first p before x after (All-tail (λ y. p y ≡ false) y before none) is)
 
 any_some : {X : Type 0} (p : X → Bool) (before : List X) (x : X) (after : List X) → p x ≡ true
     → list_any p (before ++ x ∷ after) ≡ true
-any_some p [] x after is = rw is refl
-any_some p (y ∷ before) x after is = rw (any_some p before x after is) (or-true (p y))
+any_some p before x after is = grind (arith, nat_tests, list_any-append p before (x ∷ after))
 
 -- none is better than the best, and the best is better than each before it
 pub best_found : (j : Judgement) (states : List StateLine) (best : StateLine)
@@ -88,16 +76,13 @@ pub best_found : (j : Judgement) (states : List StateLine) (best : StateLine)
 best_found j states best so_far =
     let all = so_far.before ++ best ∷ so_far.after in
     let lost = λ (s : StateLine). wins j s best ≡ false in
-    let first : AllByRecursion lost so_far.before =
-    all_weaker (λ (s : StateLine). wins j best s ≡ true) lost
+    let first : All lost so_far.before =
+    All-weaker (λ (s : StateLine). wins j best s ≡ true) lost
     (λ s worse. better_asym (score_of j best) (score_of j s) worse) so_far.before so_far.worse in
     let none : has_better j all best ≡ false =
-    any_none (λ (s : StateLine). wins j s best) all
-    (all_append lost so_far.before (best ∷ so_far.after) first (
-      better_self (score_of j best),
-      so_far.no_better,
-    )) in
-    grind (arith, nat_tests, all_weaker, any_some, find_first)
+    list_any_none (λ (s : StateLine). wins j s best) all (All-append lost so_far.before (best ∷ so_far.after) first
+    (All-cons lost best so_far.after (better_self (score_of j best)) so_far.no_better)) in
+    grind (arith, nat_tests, All-weaker, any_some, find_first)
 
 -- ---- scores of states
 

@@ -5,10 +5,6 @@ use Rattle.state_scores.proofs.Common.{nat_tests, ◌≡◌, Bool, true, false, 
 abbrev beats : Cost → ℤ → Cost → ℤ → Bool
 beats a e b f = is_below a b || (not (is_below b a) && int_lt e f)
 
--- the same of whole numbers
-abbrev whole_beats : ℤ → ℤ → ℤ → ℤ → Bool
-whole_beats a e b f = int_lt a b || (not (int_lt b a) && int_lt e f)
-
 beats_over : (a : Cost) (e : ℤ) (b : Cost) (f : ℤ) (c : Cost) (g : ℤ) → beats a e b f ≡ true
     → beats c g b f ≡ false → beats a e c g ≡ true
 beats_over a e b f c g p q = grind (arith, nat_tests, ints)

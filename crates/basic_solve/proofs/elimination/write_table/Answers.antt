@@ -39,8 +39,7 @@ loop-table-init g c =
       ap length all ∙ begun-length c.args.kind c.args.node c.args.bit nodes c.args.entries.now (b ∷ []) _ _ b long refl base is,
       λ y w.
           let more = total_by (table_energy (y ++ c.args.bit ∷ [])) c.args.tables.now in
-          ap (λ vs. value_at nodes vs y +ℤ more) all
-          ∙ ap (λ s. s +ℤ more)
+          ap (λ vs. value_at nodes vs y +ℤ more) all ∙ ap (λ s. s +ℤ more)
           (begun_holds c.args.kind c.args.node c.args.bit nodes c.args.entries.now (b ∷ []) _ _ b long refl base is c.requires.own
           (λ z. ap (sum_where z nodes) same ∙ c.in_ok-steps.ensures.sums z) y w),
       omega (arith, ap most all, le),

@@ -5,8 +5,7 @@ use Rattle.basic_solve.proofs.energies.is_small.Goals.{After-unsigned_abs-sum}
 use Rattle.basic_solve.proofs.energies.is_small.Goals as goal
 
 -- the sum so far, the weight that is added, and the weights that are left
-more : (c : After-unsigned_abs-sum)
-    → (c.loop-i.sum + c.unsigned_abs-sum.result)
+more : (c : After-unsigned_abs-sum) → (c.loop-i.sum + c.unsigned_abs-sum.result)
     + weight_total (drop (c.loop-i.i + 1) (map turned c.model.inside.pairs))
     ≡ weight_total (map turned c.model.inside.pairs)
 more c =

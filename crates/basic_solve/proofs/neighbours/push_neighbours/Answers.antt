@@ -7,8 +7,7 @@ use Rattle.basic_solve.proofs.neighbours.push_neighbours.Goals.{After-ascend}
 use Rattle.basic_solve.proofs.neighbours.push_neighbours.Goals as goal
 
 pub loop-step-init : goal.loop-step-init
-loop-step-init c =
-    (c.requires.count, rw c.requires.none (so_far_at_first _ _ _ c.requires.lower))
+loop-step-init c = (c.requires.count, rw c.requires.none (so_far_at_first _ _ _ c.requires.lower))
 
 pub take_lesser-requires-clause-some : goal.take_lesser-requires-clause-some
 take_lesser-requires-clause-some c =

@@ -10,7 +10,6 @@ returns-in_ok-passed-in-len1-up g c =
     (λ pushed. record {
       none = λ e. absurd (omega (arith, c.in-len1-up.len_at_least, ap length e));
       last = λ rest q parts.
-          pushed
-          ∙ (λ i. set lists (last_at c.args.nodes.now rest q 0 parts i)
+          pushed ∙ (λ i. set lists (last_at c.args.nodes.now rest q 0 parts i)
           (get_or lists (last_at c.args.nodes.now rest q 0 parts i) [] ++ made i ∷ []));
     }) c.push.ensures
