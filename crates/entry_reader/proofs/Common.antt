@@ -2,7 +2,7 @@
 pub use Rattle.problem_form.proofs.Common.{◌≡◌, Bool, List, map, refl, ap, ◌∙◌, ℕ, ◌+◌, ◌<◌, ◌≤◌, ◌^◌, true, false, cond, eqb, [], ◌∷◌, All, Ok, arith, fold, Result, Err, sym, ℤ, pos, negsuc, ◌+ℤ◌, ◌*ℤ◌, neg_ℤ, ◌++◌, suc, length, length-append, ◌*◌, nat_abs, rules, total_by, total_by-map, total_by-same, total_by-append, unsigned_abs, count_by, codes, nat_tests, All-tail, sum_by-cons, count_by-le-length, flat_map, AllByRecursion, ProblemContent, sum_of, problem_cost, problem_total, blank, with_variables, with_product, ints, to_z, of_z, to_z-of_z, fits_signed_from_abs, length-map, w128, on_ok_weaker, err_from_is_err_and}
 pub use Rattle.model_text.proofs.Common.{decimal, signed_decimal, entry_row, Row, rows_text, figure_rows, chain_rows, graph_rows, header_row, model_rows, Entry, Kind, Figures}
 pub use Rattle.whole_text.proofs.Common.{cases_Bool}
-pub use Rattle.bits_model.specs.Output.{Written, entry_energy, IsPlaced, is_node, is_coupler}
+pub use Rattle.bits_model.specs.Output.{Written, IsPlaced, is_node, is_coupler}
 pub use Rattle.entry_reader.specs.Again.{layout_of, listed_of, told_by, TextsAreReadAgain}
 pub use Rattle.entry_reader.specs.Cost.{entry_cost, listing_cost, ReadingKeepsCosts}
 pub use Rattle.entry_reader.specs.Energies.{TextsKeepEnergies}
@@ -18,8 +18,8 @@ unfoldable pub use Rattle.entry_reader.specs.Entries.{node_at, one_fewer, counte
 pub use Rattle.problem_form.proofs.AddedParts.{products_add_up}
 pub use Rattle.entry_reader.specs.declared.layout.Layout.{Layout}
 pub use Rattle.entry_reader.specs.declared.layout.Listed.{Listed}
-pub use Rattle.entry_reader.specs.Problems.{problem_of, products_of, listed_problem, problem_read, times}
-unfoldable pub use Rattle.entry_reader.specs.Problems.{problem_of_words, normal_reading}
+pub use Rattle.entry_reader.specs.Problems.{problem_of, products_of, problem_read}
+unfoldable pub use Rattle.entry_reader.specs.Problems.{problem_of_words}
 pub use Rattle.problem_form.proofs.NormalForms.{normal_form-cost}
 pub use Rattle.whole_text.proofs.Pieces.{plain_line}
 pub use Rattle.model_text.proofs.RowTexts.{IsWord, IsRow, AreRows}

@@ -3,7 +3,7 @@
 -- A reading goes through the words in order. The first word that cannot stand in its place makes
 -- the text bad, with a kind and the word's line. Lines have no other part in it: the header and an
 -- entry may span them.
-use Rattle.std.specs.Prelude.{ℕ, ◌-◌, codes, ◌&&◌, ◌||◌, List, [], ◌∷◌, Result, Ok, Err, ◌==◌, nat_lt, bytes_eq, if◌then◌else◌}
+use Rattle.std.specs.Prelude.{◌≡◌, ◌<◌, ◌^◌, ℕ, ◌-◌, unsigned_abs, codes, ◌&&◌, ◌||◌, List, [], ◌∷◌, Result, Ok, Err, ◌==◌, nat_lt, bytes_eq, if◌then◌else◌}
 use Rattle.whole_text.specs.declared.faults.TextKind.TheVariants as kinds
 use Rattle.whole_text.specs.declared.faults.TextFault.{TextFault}
 use Rattle.whole_text.specs.declared.token.Style.TheVariants.{Plain}
@@ -95,6 +95,13 @@ entry_at end c ws = do
   third ← next_of end second.1
   weight ← integer_at third.0
   Ok (record { first = i; second = j; weight = weight }, fewer, third.1)
+
+-- an entry between so many nodes, of a weight below 2 ^ 64, and what may come after it
+pub record IsListed (nodes : ℕ) (entry : Listed) (fewer : Counts) : Type 0 where
+  pub first : entry.first < nodes
+  pub second : entry.second < nodes
+  pub small : unsigned_abs entry.weight < 2 ^ 64
+  pub same : fewer.nodes ≡ nodes
 
 -- as many entries came as the header counts
 unfoldable pub none_to_come : ℕ → Counts → Result (List Listed) TextFault

@@ -71,5 +71,4 @@ listed_problem layout nodes es =
 
 -- the problem of the entries up to the end of the words
 abbrev pub problem_read : Layout → ℕ → Counts → List Word → Result ProblemContent TextFault
-problem_read layout end c ws =
-    entries_at end c ws >>= λ es. Ok (listed_problem layout c.nodes es)
+problem_read layout end c ws = entries_at end c ws >>= λ es. Ok (listed_problem layout c.nodes es)

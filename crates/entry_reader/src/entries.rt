@@ -1,8 +1,8 @@
 //! An entry of a text: the numbers of two nodes, and a weight.
-ghost use Rattle.std.specs.Prelude.{◌≡◌, ◌<◌, ◌≤◌, ◌^◌, ◌∷◌, [], length, IfOk, OnOk, unsigned_abs};
+ghost use Rattle.std.specs.Prelude.{◌≡◌, ◌<◌, ◌≤◌, ◌∷◌, [], length, IfOk, OnOk};
 ghost use Rattle.whole_text.specs.TokenTexts.{word_of};
 ghost use Rattle.whole_text.specs.Steps.{GivesAlways};
-ghost use Rattle.entry_reader.specs.Entries.{node_at, one_fewer, counted, entry_at, none_to_come};
+ghost use Rattle.entry_reader.specs.Entries.{IsListed, node_at, one_fewer, counted, entry_at, none_to_come};
 
 use crate::layout::{Counts, Listed};
 use whole_text::{
@@ -64,10 +64,7 @@ pub(crate) fn entry(
 ) -> Result<(Listed, Counts), TextFault>
     ensures read { GivesAlways (λ x. (x.0, x.1, words.new)) result
         (entry_at end counts (word_of first.entry ∷ words.old)) }
-    ensures first { IfOk result (λ x. x.0.first < counts.nodes) }
-    ensures second { IfOk result (λ x. x.0.second < counts.nodes) }
-    ensures small { IfOk result (λ x. unsigned_abs x.0.weight < 2 ^ 64) }
-    ensures same { IfOk result (λ x. x.1.nodes ≡ counts.nodes) }
+    ensures listed { IfOk result (λ x. IsListed counts.nodes x.0 x.1) }
     ensures shorter { OnOk result (length words.new ≤ length words.old) }
 {
     let first = node(first, counts.nodes)?;

@@ -2,7 +2,7 @@
 //! of couplers.
 ghost use Rattle.std.specs.Prelude.{◌≡◌, ◌≤◌, length, OnOk};
 ghost use Rattle.whole_text.specs.Steps.{GivesAlways};
-ghost use Rattle.entry_reader.specs.Entries.{name_of, wanted_at, topology_at, topology_of, count_at, header_at};
+ghost use Rattle.entry_reader.specs.Entries.{name_of, wanted_at, topology_of, count_at, header_at};
 
 use crate::layout::{Counts, Layout};
 use whole_text::{TextFault, TextKind, Words, fault, natural_word, next_word};
@@ -32,30 +32,22 @@ fn name_of(layout: Layout) -> &'static [u8]
     }
 }
 
-/// `0` or `unconstrained`.
+/// The topology, `0` or `unconstrained`, which a QUBO alone has.
 #[inline(always)]
-#[tactic(auto, using(whole_text::proofs::Lengths::next_less), unfolding(crate::specs::Entries::topology_at))]
-fn topology(words: &mut Words<'_>, end: u64) -> Result<(), TextFault>
-    ensures read { GivesAlways (λ _. words.new) result (topology_at end words.old) }
-    ensures shorter { OnOk result (length words.new ≤ length words.old) }
-{
-    let word = next_word(words, end)?;
-    if word.bytes == b"0".as_slice() || word.bytes == b"unconstrained".as_slice() {
-        Ok(())
-    } else {
-        Err(fault(TextKind::Word, word.line))
-    }
-}
-
-/// The topology, which a QUBO alone has.
-#[inline(always)]
-#[tactic(auto, unfolding(crate::specs::Entries::topology_of))]
+#[tactic(auto, using(whole_text::proofs::Lengths::next_less), unfolding(crate::specs::Entries::topology_at, crate::specs::Entries::topology_of))]
 fn topology_of(words: &mut Words<'_>, layout: Layout, end: u64) -> Result<(), TextFault>
     ensures read { GivesAlways (λ _. words.new) result (topology_of layout end words.old) }
     ensures shorter { OnOk result (length words.new ≤ length words.old) }
 {
     match layout {
-        Layout::Qubo => topology(words, end),
+        Layout::Qubo => {
+            let word = next_word(words, end)?;
+            if word.bytes == b"0".as_slice() || word.bytes == b"unconstrained".as_slice() {
+                Ok(())
+            } else {
+                Err(fault(TextKind::Word, word.line))
+            }
+        }
         Layout::Ising => Ok(()),
     }
 }

@@ -11,7 +11,7 @@ use crate::header::header;
 use crate::layout::{Counts, Layout};
 use problem_form::Problem;
 use std::alloc::Global;
-use whole_text::{Lexer, Style, TextAnswer, TokenText, Words};
+use whole_text::{Style, TextAnswer, TokenText, Words, cut_words};
 
 /// Adds the entries up to the end of the words to a problem that has their nodes alone.
 #[inline(always)]
@@ -64,11 +64,10 @@ pub fn read_entries_tokens(
 }
 
 /// The problem of a text, in normal form, or the first fault of the text.
+#[tactic(auto, unfolding(crate::specs::Problems::normal_reading, crate::specs::Problems::problem_of_words, crate::specs::Entries::reading))]
 pub fn read_entries(alloc: Global, layout: Layout, text: &[u8]) -> Result<Problem, TextAnswer>
     requires { length text.now ≤ 2 ^ 24 }
     ensures { Gives (λ problem. problem) result (normal_reading layout text.now) }
 {
-    let mut lexer = Lexer::new(alloc, Style::Plain);
-    lexer.feed(text)?;
-    read_entries_tokens(alloc, layout, &lexer.finish()?)
+    read_entries_tokens(alloc, layout, &cut_words(alloc, text, Style::Plain)?)
 }

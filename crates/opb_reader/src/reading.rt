@@ -12,7 +12,7 @@ use crate::sums::{objective, sum};
 use literal_lists::Literal;
 use problem_form::{Constraint, Problem, ProductList};
 use std::alloc::Global;
-use whole_text::{Lexer, Style, TextAnswer, TokenText, WordRef, Words};
+use whole_text::{Style, TextAnswer, TokenText, WordRef, Words, cut_words};
 
 /// Adds the objective to a problem, where there is one.
 #[inline(always)]
@@ -140,11 +140,10 @@ pub fn read_opb_tokens(alloc: Global, text: &TokenText) -> Result<Problem, TextA
 }
 
 /// The problem of a text, in normal form, or the first fault of the text.
+#[tactic(auto, unfolding(crate::specs::Cost::normal_reading, crate::specs::Cost::problem_of_words, crate::specs::Opb::reading))]
 pub fn read_opb(alloc: Global, text: &[u8]) -> Result<Problem, TextAnswer>
     requires { length text.now ≤ 2 ^ 24 }
     ensures { Gives (λ problem. problem) result (normal_reading text.now) }
 {
-    let mut lexer = Lexer::new(alloc, Style::Opb);
-    lexer.feed(text)?;
-    read_opb_tokens(alloc, &lexer.finish()?)
+    read_opb_tokens(alloc, &cut_words(alloc, text, Style::Opb)?)
 }

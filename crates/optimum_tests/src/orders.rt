@@ -11,7 +11,7 @@ use command_words::NodeModel;
 use elimination_order::{read_order, solve_by};
 use problem_form::Problem;
 use std::alloc::{AllocError, Global};
-use whole_text::{Lexer, Style, TextAnswer, TextKind, TokenText};
+use whole_text::{Style, TextAnswer, TextKind, TokenText, cut_words};
 
 /// The greatest length of a text.
 const MOST_BYTES: usize = 1 << 24;
@@ -54,19 +54,11 @@ fn found_by(alloc: Global, model: &OutputModel, text: &TokenText) -> Outcome {
     }
 }
 
-fn words_of(alloc: Global, text: &[u8]) -> Result<TokenText, NoMemory>
-    requires { length text.now ≤ 2 ^ 24 }
-{
-    let mut lexer = Lexer::new(alloc, Style::Plain);
-    lexer.feed(text)?;
-    lexer.finish()
-}
-
 fn found(alloc: Global, model: &OutputModel, text: &str) -> Outcome {
     if text.len() > MOST_BYTES {
         return Outcome::Nothing;
     }
-    match words_of(alloc, text.as_bytes()) {
+    match cut_words(alloc, text.as_bytes(), Style::Plain) {
         Ok(text) => found_by(alloc, model, &text),
         Err(NoMemory) => Outcome::Nothing,
     }

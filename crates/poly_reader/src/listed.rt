@@ -5,7 +5,7 @@ ghost use Rattle.whole_text.specs.TokenTexts.{word_of};
 ghost use Rattle.whole_text.specs.Steps.{Gives, GivesAlways};
 ghost use Rattle.whole_text.specs.Rows.{left};
 ghost use Rattle.literal_lists.specs.Literals.{literal_set};
-ghost use Rattle.poly_reader.specs.Poly.{is_name, begins_name, is_name_byte, named_at, literal_at};
+ghost use Rattle.poly_reader.specs.Poly.{is_name, is_name_byte, named_at, literal_at};
 ghost use Rattle.poly_reader.specs.Views.{named_of, literals_read, product_of_list, product_read};
 
 use crate::name_table::NameTable;
@@ -23,32 +23,24 @@ pub(crate) struct NamedRef<'a> {
     pub negated: bool,
 }
 
-/// An ASCII letter or `_`.
-fn begins_name(byte: u8) -> bool
-    ensures { result ≡ begins_name byte }
-{
-    byte.is_ascii_alphabetic() || byte == b'_'
-}
-
-/// An ASCII letter, a digit or `_`.
-fn is_name_byte(byte: u8) -> bool
-    ensures { result ≡ is_name_byte byte }
-{
-    byte.is_ascii_alphanumeric() || byte == b'_'
-}
-
+/// Whether each byte is an ASCII letter, a digit or `_`.
 fn all_name_bytes(bytes: &[u8]) -> bool
     ensures { result ≡ list_all is_name_byte bytes.now }
 {
-    bytes.iter().all(|byte| is_name_byte(*byte))
+    bytes
+        .iter()
+        .all(|byte| byte.is_ascii_alphanumeric() || *byte == b'_')
 }
 
+/// An ASCII letter or `_`, and then letters, digits and `_`.
 fn is_name(bytes: &[u8]) -> bool
     ensures { result ≡ is_name bytes.now }
 {
     match bytes {
         [] => false,
-        [first, rest @ ..] => begins_name(*first) && all_name_bytes(rest),
+        [first, rest @ ..] => {
+            (first.is_ascii_alphabetic() || *first == b'_') && all_name_bytes(rest)
+        }
     }
 }
 

@@ -14,7 +14,7 @@ use base::NoMemory;
 use literal_lists::Literal;
 use problem_form::Problem;
 use std::alloc::Global;
-use whole_text::{Lexer, Style, TextAnswer, TokenText, Words};
+use whole_text::{Style, TextAnswer, TokenText, Words, cut_words};
 
 /// The problem of a text in normal form, and the names of its variables.
 #[derive(Drop)]
@@ -110,11 +110,10 @@ pub fn read_poly_tokens(alloc: Global, text: &TokenText) -> Result<Polynomial, T
 
 /// The problem of a text, in normal form, and the names of its variables, or the first fault of the
 /// text.
+#[tactic(auto, unfolding(crate::specs::Cost::normal_reading, crate::specs::Cost::polynomial_of_words, crate::specs::Poly::reading))]
 pub fn read_poly(alloc: Global, text: &[u8]) -> Result<Polynomial, TextAnswer>
     requires { length text.now ≤ 2 ^ 24 }
     ensures { Gives (λ polynomial. polynomial) result (normal_reading text.now) }
 {
-    let mut lexer = Lexer::new(alloc, Style::Plain);
-    lexer.feed(text)?;
-    read_poly_tokens(alloc, &lexer.finish()?)
+    read_poly_tokens(alloc, &cut_words(alloc, text, Style::Plain)?)
 }

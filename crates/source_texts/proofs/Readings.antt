@@ -1,6 +1,6 @@
 -- A problem with the costs of a source stands for the source, and texts that are read into such a
 -- problem.
-use Rattle.source_texts.proofs.Common.{nat_tests, ◌≡◌, false, None, Ok, Err, Result, refl, ◌∙◌, subst, arith, ints, take_all, length-replicate, Form, Source, Rewrites, HasSameCosts, rewritten_relaxes, TextFault, ◌>>=◌, own_upper, upper, Read, CostsAs, PlainOwnsAll, RelaxesStoodFor, StandsBounded}
+use Rattle.source_texts.proofs.Common.{nat_tests, ◌≡◌, false, None, Ok, Err, Result, refl, ◌∙◌, subst, arith, ints, take_all, length-replicate, Form, Source, Rewrites, HasSameCosts, rewritten_relaxes, TextFault, TextAnswer, Gives, MatchResult, ◌>>=◌, own_upper, upper, Read, CostsAs, PlainOwnsAll, RelaxesStoodFor, StandsBounded}
 use Rattle.source_texts.proofs.Bounded.{own_form, rewritten_stand}
 
 -- forms with as many bits and the same costs rewrite each other
@@ -68,3 +68,10 @@ module _ {S : Type 0} (form : S → Form) (kept : S → Read) where
 pub kept_as : {S P R : Type 0} (said : Result S TextFault) (problem : S → P) (kept : P → R)
     → (said >>= λ s. Ok (kept (problem s))) ≡ ((said >>= λ s. Ok (problem s)) >>= λ p. Ok (kept p))
 kept_as said problem kept = grind (arith, nat_tests)
+
+-- what is read is kept as something else, or its fault is kept
+pub given : {P R : Type 0} (kept : P → R) (read : Result P TextAnswer) (made : Result R TextAnswer) (said : Result P TextFault)
+    → MatchResult read (λ p. made ≡ Ok (kept p)) (λ e. made ≡ Err e) → Gives (λ p. p) read said
+    → Gives (λ r. r) made (said >>= λ p. Ok (kept p))
+given kept (Ok p) made said is g = rw (is, g) refl
+given kept (Err e) made said is g = grind (arith, nat_tests)

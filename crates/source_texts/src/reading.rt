@@ -1,5 +1,5 @@
 //! The reading of a text in a format.
-ghost use Rattle.std.specs.Prelude.{◌≡◌, ◌<◌, ◌≤◌, ◌^◌, length, unsigned_abs, IfOk, IfSome};
+ghost use Rattle.std.specs.Prelude.{◌≡◌, ◌<◌, ◌≤◌, ◌^◌, length, unsigned_abs, Ok, Err, IfOk, IfSome, MatchResult};
 ghost use Rattle.whole_text.specs.Steps.{Gives};
 ghost use Rattle.whole_text.specs.TokenTexts.{words_of};
 ghost use Rattle.source_texts.specs.Sources.{
@@ -25,7 +25,7 @@ use qubo_file::read_qubo_tokens;
 use std::alloc::Global;
 use wbo_reader::{Wbo, read_wbo_tokens};
 use wcnf_reader::read_wcnf_tokens;
-use whole_text::{Lexer, Style, TextAnswer, TokenText};
+use whole_text::{Style, TextAnswer, TokenText, cut_words};
 
 /// What a text is read into: its problem, how many of the problem's first variables are the
 /// source's own, and their names, where the text has names for them. Soft constraints are kept,
@@ -104,30 +104,35 @@ pub fn style_of(format: Format) -> Style
     }
 }
 
-/// A problem whose variables are all the source's own.
-fn own(problem: Problem) -> Read
-    ensures { result ≡ own problem }
+/// A problem whose variables are all the source's own, or the fault of its text.
+fn own(problem: Result<Problem, TextAnswer>) -> Result<Read, TextAnswer>
+    ensures read { MatchResult problem (λ p. result ≡ Ok (own p)) (λ e. result ≡ Err e) }
+    ensures within { IfOk result (λ read. read.variables ≤ read.problem.variables) }
+    ensures kept { IfOk result KeepsSoft }
 {
+    let problem = problem?;
     let variables = problem.variables;
-    Read {
+    Ok(Read {
         problem,
         variables,
         names: None,
         soft: None,
-    }
+    })
 }
 
-/// A problem whose variables have names.
-fn named(polynomial: Polynomial) -> Read
-    ensures { result ≡ named polynomial }
+/// A problem whose variables have names, or the fault of its text.
+fn named(polynomial: Result<Polynomial, TextAnswer>) -> Result<Read, TextAnswer>
+    ensures read { MatchResult polynomial (λ p. result ≡ Ok (named p)) (λ e. result ≡ Err e) }
+    ensures within { IfOk result (λ read. read.variables ≤ read.problem.variables) }
+    ensures kept { IfOk result KeepsSoft }
 {
-    let Polynomial { problem, names } = polynomial;
-    Read {
+    let Polynomial { problem, names } = polynomial?;
+    Ok(Read {
         variables: problem.variables,
         problem,
         names: Some(names),
         soft: None,
-    }
+    })
 }
 
 /// The problem that soft constraints are rewritten to, and these.
@@ -155,12 +160,12 @@ pub fn read_source_words(
     ensures kept { IfOk result KeepsSoft }
 {
     match format {
-        Format::Wcnf => Ok(own(read_wcnf_tokens(alloc, text)?)),
-        Format::Opb => Ok(own(read_opb_tokens(alloc, text)?)),
+        Format::Wcnf => own(read_wcnf_tokens(alloc, text)),
+        Format::Opb => own(read_opb_tokens(alloc, text)),
         Format::Wbo => Ok(eased(alloc, read_wbo_tokens(alloc, text)?)?),
-        Format::Poly => Ok(named(read_poly_tokens(alloc, text)?)),
-        Format::Ising => Ok(own(read_ising_tokens(alloc, text)?)),
-        Format::Qubo => Ok(own(read_qubo_tokens(alloc, text)?)),
+        Format::Poly => named(read_poly_tokens(alloc, text)),
+        Format::Ising => own(read_ising_tokens(alloc, text)),
+        Format::Qubo => own(read_qubo_tokens(alloc, text)),
     }
 }
 
@@ -171,7 +176,5 @@ pub fn read_source(alloc: Global, format: Format, text: &[u8]) -> Result<Read, T
     ensures own { IfOk result (λ read. read.variables ≤ read.problem.variables) }
     ensures kept { IfOk result KeepsSoft }
 {
-    let mut lexer = Lexer::new(alloc, style_of(format));
-    lexer.feed(text)?;
-    read_source_words(alloc, format, &lexer.finish()?)
+    read_source_words(alloc, format, &cut_words(alloc, text, style_of(format))?)
 }

@@ -12,7 +12,7 @@ unfoldable pub use Rattle.opb_reader.specs.Opb.{constraint_at, many, index_at, n
 pub use Rattle.opb_reader.proofs.Many.{Leaves, Shrinks, many_enough, many_all, Reader, many_go_on, many_fail, many_end}
 pub use Rattle.opb_reader.proofs.Shrinking.{constraint_shrinks}
 pub use Rattle.wbo_reader.specs.Reading.{Weighed, greatest_index, after_word, WordsAreEnough, all_literals, hard_by, hard_of, soft_by, soft_of, order_by, content_of, breaks, pays, ReadingKeepsCosts, variables_of, ReadingIsNormal, RewritesItsText, WboText, head_at}
-unfoldable pub use Rattle.wbo_reader.specs.Reading.{weight_at, front_at, weighed_at, constraints_at, content_of_words, reading_of_words, normal_reading, reading}
+unfoldable pub use Rattle.wbo_reader.specs.Reading.{weight_at, front_at, weighed_at, constraints_at, content_of_words, reading_of_words}
 pub use Rattle.opb_reader.proofs.Variables.{widened-append, AreWithin, widened-le, terms_within}
 pub use Rattle.wbo_reader.specs.Gathering.{nothing, with_weighed, constraints_read, with_constraint, constraint_read}
 pub use Rattle.base.specs.declared.costs.Cost.{Cost}

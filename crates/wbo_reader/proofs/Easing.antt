@@ -51,7 +51,7 @@ pub eased-fails : (x : List Bool) (v : ℕ) (ts : List Product) (bound : ℤ)
     → fails x (eased v ts bound) ≡ (not (bit_of x v) && int_lt (sum_of x ts) bound)
 eased-fails x v ts bound =
     let least = least_sum-le x ts in
-    grind (arith, nat_tests, ints, int_le-true, without_bit, least_sum-le, sum_with_bit, with_bit)
+    grind (arith, nat_tests, ints, int_le-true, without_bit, sum_with_bit x v ts (bound -ℤ least_sum ts), with_bit (bit_of x v) (sum_of x ts) (least_sum ts) bound least)
 
 -- ---- a row
 

@@ -1,5 +1,5 @@
 -- What is read of a constraint with its weight leaves no more words than there were.
-use Rattle.wbo_reader.proofs.Common.{nat_tests, ℕ, ◌≤◌, Bool, true, false, List, [], length, Option, Some, None, Result, Ok, IfOk, codes, arith, bytes_eq, if◌then◌else◌, TextFault, Word, ◌>>=◌, next_of, natural_at, Listed, constraint_at, Leaves, Shrinks, many_enough, many_all, constraint_shrinks, Weighed, greatest_index, after_word, weight_at, front_at, weighed_at, constraints_at, WordsAreEnough}
+use Rattle.wbo_reader.proofs.Common.{nat_tests, ℕ, ◌≤◌, Bool, true, false, List, length, Option, Some, None, Result, Ok, IfOk, codes, arith, bytes_eq, if◌then◌else◌, TextFault, Word, ◌>>=◌, next_of, Listed, constraint_at, Leaves, Shrinks, many_enough, many_all, constraint_shrinks, Weighed, greatest_index, weight_at, front_at, weighed_at, constraints_at, WordsAreEnough}
 
 -- a fact on what a first step gives, and one on what the next gives with it
 pub bind_if : {A B : Type 0} (P : A → Type 0) (Q : B → Type 0) (first : Result A TextFault)
@@ -21,13 +21,6 @@ next_leaves end ws = grind (arith, nat_tests)
 
 abbrev with_weight : ℕ → List Word → Result (ℕ × List Word) TextFault
 with_weight weight rest = Ok (weight, rest)
-
-abbrev close_part : ℕ → Word × List Word → Result (ℕ × List Word) TextFault
-close_part weight w = after_word (codes "]") w >>= with_weight weight
-
-abbrev number_part : ℕ → Word × List Word → Result (ℕ × List Word) TextFault
-number_part end number =
-    natural_at 0 number.0 >>= λ weight. next_of end number.1 >>= close_part weight
 
 weight_leaves : (end : ℕ) (ws : List Word) → IfOk (weight_at end ws) (Leaves (length ws))
 unfolding weight_at

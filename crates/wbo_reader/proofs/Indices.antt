@@ -1,6 +1,6 @@
 -- No index that is read is above the limit, so as many variables are enough; and there are no more
 -- constraints than words.
-use Rattle.wbo_reader.proofs.Common.{ℕ, zero, suc, ◌<◌, ◌≤◌, Bool, ℤ, List, [], ◌∷◌, ◌++◌, length, Result, Ok, IfOk, arith, if◌then◌else◌, nat_tests, TextFault, Word, ◌>>=◌, Literal, Product, Operator, Listed, widened, literals_in, is_operator, never, many, index_at, name_at, literal_at, literals_at, product_at, coefficient_at, term_at, sum_at, comparison_at, constraint_at, Reader, widened-append, Weighed, greatest_index, all_literals, weighed_at, constraints_at}
+use Rattle.wbo_reader.proofs.Common.{ℕ, zero, suc, ◌<◌, ◌≤◌, Bool, List, [], ◌∷◌, ◌++◌, length, Result, Ok, IfOk, arith, if◌then◌else◌, nat_tests, TextFault, Word, ◌>>=◌, Literal, Product, Listed, widened, literals_in, is_operator, never, many, index_at, name_at, literal_at, literals_at, product_at, coefficient_at, term_at, sum_at, constraint_at, Reader, widened-append, Weighed, greatest_index, all_literals, weighed_at, constraints_at}
 use Rattle.wbo_reader.proofs.Fronts.{any}
 
 -- ---- one literal
@@ -60,9 +60,6 @@ product_fits limit end (w ∷ ws) = first_fits limit w (literals_at limit ws) (l
 abbrev FitsTerm : ℕ → Product × List Word → Type 0
 FitsTerm limit x = Fits limit x.0.literals
 
-abbrev as_term : ℤ → List Literal × List Word → Result (Product × List Word) TextFault
-as_term c ls = Ok (record { literals = ls.0; coefficient = c }, ls.1)
-
 term_fits : (limit end : ℕ) (w : Word) (ws : List Word)
     → IfOk (term_at limit end w ws) (FitsTerm limit)
 unfolding term_at
@@ -107,14 +104,6 @@ sum_fits limit ends end ws =
     (term_at limit end) (term_fits limit end) (length ws) ws
 
 -- ---- constraints
-
-abbrev as_listed : List Product × List Word → Operator × ℤ × List Word
-    → Result (Listed × List Word) TextFault
-as_listed sum compared =
-    Ok (record { terms = sum.0; operator = compared.0; bound = compared.1 }, compared.2)
-
-abbrev compared_part : ℕ → List Product × List Word → Result (Listed × List Word) TextFault
-compared_part end sum = comparison_at end sum.1 >>= as_listed sum
 
 abbrev FitsListed : ℕ → Listed × List Word → Type 0
 FitsListed limit x = Fits limit (literals_in x.0.terms)

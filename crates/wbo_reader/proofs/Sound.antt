@@ -6,12 +6,7 @@ use Rattle.wbo_reader.proofs.Common.{nat_tests, ◌≡◌, ◌≢◌, ℕ, suc, 
 
 wider_product : (v n : ℕ) → v ≤ n → (t : Product) → IsNormalProduct v t → IsNormalProduct n t
 wider_product v n le t is = record {
-  set = record {
-    ordered = is.set.ordered;
-    apart = is.set.apart;
-    within = All-weaker (λ (l : Literal). l.variable < v) (λ l. l.variable < n) (λ l lt. omega
-        (arith, lt, le)) t.literals is.set.within;
-  };
+  set = record { ordered = is.set.ordered; apart = is.set.apart; within = All-weaker (λ (l : Literal). l.variable < v) (λ l. l.variable < n) (λ l lt. omega (arith, lt, le)) t.literals is.set.within };
   filled = is.filled;
   nonzero = is.nonzero;
 }
@@ -61,10 +56,7 @@ eased_good : (v n : ℕ) (ts : List Product) (bound : ℤ) → v < n
 eased_good v n ts bound lt h =
     let some : int_le bound (least_sum ts) ≡ false → bound -ℤ least_sum ts ≢ pos 0 =
     λ e none. absurd (grind (arith, nat_tests, ints)) in
-    record {
-      are = with_last n (int_le bound (least_sum ts)) ts (bit_product v (bound -ℤ least_sum ts)) h
-          (λ e. bit_normal v n (bound -ℤ least_sum ts) lt (some e));
-    }
+    record { are = with_last n (int_le bound (least_sum ts)) ts (bit_product v (bound -ℤ least_sum ts)) h (λ e. bit_normal v n (bound -ℤ least_sum ts) lt (some e)) }
 
 row_good : (v n : ℕ) (k : Constraint) → v < n → IsGood n k
     → AllByRecursion (IsGood n) (eased_row v k)
@@ -78,7 +70,7 @@ rows_good : (v n : ℕ) (soft : List Soft) → v + length soft ≤ n
     → AllByRecursion (AllByRecursion (IsGood n)) (eased_rows v soft)
 rows_good v n [] le h = tt
 rows_good v n (s ∷ soft) le h =
-    grind (arith, nat_tests, rows_good (suc v) n soft (omega (arith, le)) h.1, row_good)
+    (row_good v n s.constraint (omega (arith, le)) h.0, rows_good (suc v) n soft (omega (arith, le)) h.1)
 
 hard_good : (n : ℕ) (hard : List Constraint) → AllByRecursion (IsGood n) hard
     → AllByRecursion (AllByRecursion (IsGood n)) (hard_rows hard)
@@ -134,7 +126,8 @@ eased_total v ts bound =
 
 row_total : (v : ℕ) (k : Constraint)
     → sum_by constraint_total (eased_row v k) ≤ 4 * constraint_total k
-row_total v k = grind (arith, nat_tests, sum_by-cons, eased_total, negated-total)
+row_total v k =
+    grind (arith, nat_tests, ints, sum_by-cons, eased_total v k.products k.bound, eased_total v (map negated k.products) (neg_ℤ k.bound), negated-total k.products)
 
 abbrev row_size : List Constraint → ℕ
 row_size row = sum_by constraint_total row
@@ -171,16 +164,17 @@ weighed_total v (s ∷ soft) =
 top_total : (v : ℕ) (top : Option ℕ) (soft : List Soft)
     → sum_by constraint_total (top_rows v top soft)
     ≤ sum_by (λ (s : Soft). s.weight) soft + unwrap_or top 0 + 1
-top_total v top soft = grind (arith, nat_tests, sum_by-cons, negated-total, weighed_total)
+top_total v None soft = omega arith
+top_total v (Some top) soft =
+    grind (arith, nat_tests, sum_by-cons, negated-total (weighed_bits v soft), weighed_total v soft)
 
 -- ---- the whole
 
 rewritten_total : (s : WboContent) → problem_total (rewritten s) ≤ 4 * wbo_total s + 1
 rewritten_total s =
-    let sum = sum_by-append constraint_total
-    (all_of (merged s.order (hard_rows s.hard) (eased_rows s.variables s.soft)))
-    (top_rows s.variables s.top s.soft) in
-    grind (arith, nat_tests, joined_total, merged_total, soft_rows_total, top_total, weighed_total, hard_total)
+    let rows = merged s.order (hard_rows s.hard) (eased_rows s.variables s.soft) in
+    let sum = sum_by-append constraint_total (all_of rows) (top_rows s.variables s.top s.soft) in
+    omega (arith, ints, joined_total rows, merged_total s.order (hard_rows s.hard) (eased_rows s.variables s.soft), soft_rows_total s.variables s.soft, top_total s.variables s.top s.soft, weighed_total s.variables s.soft, hard_total s.hard)
 
 good_wider : (v n : ℕ) → v ≤ n → (k : Constraint) → IsNormalConstraint v k → IsGood n k
 good_wider v n le k h =
@@ -190,24 +184,17 @@ pub rewritten_is_sound : RewrittenIsSound
 rewritten_is_sound s is =
     let n = s.variables + length s.soft in
     let le : s.variables ≤ n = omega arith in
-    let bits = weighed_good s.variables n s.soft (omega arith)
-    (recursion_from_All (λ (k : Soft). 0 < k.weight) s.soft is.weighty) in
+    let bits = weighed_good s.variables n s.soft (omega arith) (recursion_from_All (λ (k : Soft). 0 < k.weight) s.soft is.weighty) in
     let wider = good_wider s.variables n le in
     let Good : Soft → Type 0 = λ k. IsGood n k.constraint in
-    let hard = hard_good n s.hard (recursion_from_All (IsGood n) s.hard
-    (All-weaker (IsNormalConstraint s.variables) (IsGood n) wider s.hard is.normal.hard)) in
-    let soft = rows_good s.variables n s.soft (omega arith) (recursion_from_All Good s.soft
-    (All-weaker (λ (k : Soft). IsNormalConstraint s.variables k.constraint) Good (λ k. wider k.constraint)
-    s.soft is.normal.soft)) in
-    let rows = all_merged (AllByRecursion (IsGood n)) s.order (hard_rows s.hard)
-    (eased_rows s.variables s.soft) hard soft in
-    let all = all_append (IsGood n) (rows_of s) (top_rows s.variables s.top s.soft)
-    (all_joined (IsGood n) _ rows) (top_good s.variables n s.top s.soft bits) in (
+    let hard = hard_good n s.hard (recursion_from_All (IsGood n) s.hard (All-weaker (IsNormalConstraint s.variables) (IsGood n) wider s.hard is.normal.hard)) in
+    let soft = rows_good s.variables n s.soft (omega arith) (recursion_from_All Good s.soft (All-weaker (λ (k : Soft). IsNormalConstraint s.variables k.constraint) Good (λ k. wider k.constraint) s.soft is.normal.soft)) in
+    let rows = all_merged (AllByRecursion (IsGood n)) s.order (hard_rows s.hard) (eased_rows s.variables s.soft) hard soft in
+    let all = all_append (IsGood n) (rows_of s) (top_rows s.variables s.top s.soft) (all_joined (IsGood n) _ rows) (top_good s.variables n s.top s.soft bits) in (
       record {
         objective = bits;
         clauses = All-nil _;
-        constraints = All-weaker (IsGood n) (λ k. All (IsNormalProduct n) k.products) (λ k h. h.are)
-            (rewritten_constraints s) (All-from_recursion (IsGood n) (rewritten_constraints s) all);
+        constraints = All-weaker (IsGood n) (λ k. All (IsNormalProduct n) k.products) (λ k h. h.are) (rewritten_constraints s) (All-from_recursion (IsGood n) (rewritten_constraints s) all);
         most = λ m e. absurd cc;
       },
       omega (arith, rewritten_total s, is.small),

@@ -1,6 +1,5 @@
 -- One constraint with its weight, step by step; and one more constraint, or the end.
 use Rattle.wbo_reader.proofs.Common.{nat_tests, ints, arith, ◌≡◌, ℕ, ◌≤◌, ℤ, Bool, List, [], ◌∷◌, length, Option, Result, Ok, Err, refl, ap, TextFault, TextAnswer, Word, ◌>>=◌, Fails, Product, Constraint, Operator, literals_in, widened, is_operator, sum_at, comparison_at, constraint_at, compared, put_all, many_go_on, many_fail, many_end, Soft, WboContent, Weighed, greatest_index, front_at, weighed_at, constraints_at, with_constraint, with_weighed, constraint_read, constraints_read}
-use Rattle.whole_text.specs.declared.faults.TextAnswer.TheVariants as answers
 use Rattle.wbo_reader.proofs.Fronts.{weighed_shrinks}
 use Rattle.wbo_reader.proofs.Together.{constraints_after}
 

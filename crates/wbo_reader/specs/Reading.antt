@@ -50,8 +50,7 @@ greatest_index = 2 ^ 63 - 1
 
 -- what is left after a word that is to have these bytes
 abbrev pub after_word : List ℕ → Word × List Word → Result (List Word) TextFault
-after_word bytes w =
-    if bytes_eq w.0.bytes bytes then Ok w.1 else Err (fault kinds.Word w.0.line)
+after_word bytes w = if bytes_eq w.0.bytes bytes then Ok w.1 else Err (fault kinds.Word w.0.line)
 
 -- a weight and `]`
 unfoldable pub weight_at : ℕ → List Word → Result (ℕ × List Word) TextFault
@@ -192,5 +191,4 @@ ReadingIsNormal = (t : WboText) → IsNormalSource (content_of t)
 
 -- the problem that a text is rewritten to stands for the text
 abbrev pub RewritesItsText : Type 0
-RewritesItsText =
-    (t : WboText) → Rewrites (form_of t) (problems.form_of (rewritten (content_of t)))
+RewritesItsText = (t : WboText) → Rewrites (form_of t) (problems.form_of (rewritten (content_of t)))

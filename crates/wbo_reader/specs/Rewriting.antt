@@ -157,8 +157,7 @@ RewrittenIsSound = (s : WboContent) → IsWbo s → IsSound (rewritten s)
 
 -- the upper bound of the rewritten problem is the sum of the soft weights
 abbrev pub UpperIsSoftWeights : Type 0
-UpperIsSoftWeights =
-    (s : WboContent) → upper (rewritten s) ≡ pos (sum_by (λ k. k.weight) s.soft)
+UpperIsSoftWeights = (s : WboContent) → upper (rewritten s) ≡ pos (sum_by (λ k. k.weight) s.soft)
 
 -- its size is that of the rewritten problem
 abbrev pub wbo_size : WboContent → ℕ

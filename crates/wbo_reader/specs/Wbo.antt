@@ -56,8 +56,7 @@ soft_total s = s.weight + constraint_total s.constraint
 
 -- the sum of the sizes of all numbers
 abbrev pub wbo_total : WboContent → ℕ
-wbo_total s =
-    sum_by constraint_total s.hard + sum_by soft_total s.soft + unwrap_or s.top 0
+wbo_total s = sum_by constraint_total s.hard + sum_by soft_total s.soft + unwrap_or s.top 0
 
 -- all constraints are in normal form
 pub record IsNormalSource (s : WboContent) : Type 0 where

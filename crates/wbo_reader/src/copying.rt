@@ -66,11 +66,7 @@ fn gap(bound: i128, sum: i128) -> i128
 
 /// Adds the bit of a variable to a sum that is to be at least its bound, so much that it can take
 /// the sum's place.
-pub(crate) fn ease(
-    written: &mut Constraint,
-    literals: &mut Vec<Literal>,
-    variable: u64,
-) -> Result<(), NoMemory>
+pub(crate) fn ease(written: &mut Constraint, variable: u64) -> Result<(), NoMemory>
     requires small { constraint_total written.old < 2 ^ 100 }
     requires inexact { written.old.exact ≡ false }
     ensures { OnOk result (written.new ≡ eased variable written.old.products written.old.bound) }
@@ -79,11 +75,10 @@ pub(crate) fn ease(
     if written.bound <= low {
         return Ok(());
     }
-    literals.clear();
-    literals.push(Literal {
+    let gap = gap(written.bound, low);
+    let bit = Literal {
         variable,
         negated: false,
-    })?;
-    let gap = gap(written.bound, low);
-    written.products.push(literals, gap)
+    };
+    written.products.push(&[bit], gap)
 }

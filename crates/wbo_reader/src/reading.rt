@@ -13,7 +13,7 @@ use literal_lists::Literal;
 use opb_reader::{compare, comparison, sum};
 use problem_form::{Constraint, ProductList};
 use std::alloc::Global;
-use whole_text::{Lexer, Style, TextAnswer, TokenText, WordRef, Words};
+use whole_text::{Style, TextAnswer, TokenText, WordRef, Words, cut_words};
 
 /// The greatest index.
 const GREATEST_INDEX: u64 = (1 << 63) - 1;
@@ -111,11 +111,10 @@ pub fn read_wbo_tokens(alloc: Global, text: &TokenText) -> Result<Wbo, TextAnswe
 }
 
 /// The source of a text, in normal form, or the first fault of the text.
+#[tactic(auto, unfolding(crate::specs::Reading::normal_reading, crate::specs::Reading::content_of_words, crate::specs::Reading::reading))]
 pub fn read_wbo(alloc: Global, text: &[u8]) -> Result<Wbo, TextAnswer>
     requires { length text.now ≤ 2 ^ 24 }
     ensures { Gives (λ wbo. wbo) result (normal_reading text.now) }
 {
-    let mut lexer = Lexer::new(alloc, Style::Wbo);
-    lexer.feed(text)?;
-    read_wbo_tokens(alloc, &lexer.finish()?)
+    read_wbo_tokens(alloc, &cut_words(alloc, text, Style::Wbo)?)
 }

@@ -13,38 +13,27 @@ use problem_form::{Constraint, ConstraintRef, Literal, Problem, ProductList};
 use std::alloc::Global;
 
 /// Adds a weight on the bit of a variable to the objective.
-fn add_weight(
-    problem: &mut Problem,
-    literals: &mut Vec<Literal>,
-    variable: u64,
-    weight: u64,
-) -> Result<(), NoMemory>
+fn add_weight(problem: &mut Problem, variable: u64, weight: u64) -> Result<(), NoMemory>
     requires { IsSound (with_products problem.old (bit_product variable (pos weight) ∷ [])) }
     ensures { OnOk result (problem.new
         ≡ with_products problem.old (bit_product variable (pos weight) ∷ [])) }
 {
-    literals.clear();
-    literals.push(Literal {
+    let bit = Literal {
         variable,
         negated: false,
-    })?;
-    problem.add_term(literals, i128::from(weight))
+    };
+    problem.add_weighed(bit, i128::from(weight))
 }
 
 /// Adds the weight of each soft constraint on its bit to the objective.
-fn add_weights(
-    problem: &mut Problem,
-    literals: &mut Vec<Literal>,
-    variables: u64,
-    soft: &SoftList,
-) -> Result<(), NoMemory>
+fn add_weights(problem: &mut Problem, variables: u64, soft: &SoftList) -> Result<(), NoMemory>
     requires narrow { variables + length soft.now < 2 ^ 64 }
     requires sound { IsSound (with_products problem.old (weighed_bits variables soft.now)) }
     ensures { OnOk result (problem.new
         ≡ with_products problem.old (weighed_bits variables soft.now)) }
 {
     for i in 0..soft.len() {
-        add_weight(problem, literals, variables + i as u64, soft.at(i).weight)?;
+        add_weight(problem, variables + i as u64, soft.at(i).weight)?;
     }
     Ok(())
 }
@@ -71,12 +60,7 @@ fn add_hard(
 }
 
 /// Adds a sum that is to be at least its bound where the bit of a variable is 0.
-fn add_eased(
-    problem: &mut Problem,
-    written: &mut Constraint,
-    literals: &mut Vec<Literal>,
-    variable: u64,
-) -> Result<(), NoMemory>
+fn add_eased(problem: &mut Problem, written: &mut Constraint, variable: u64) -> Result<(), NoMemory>
     requires small { constraint_total written.old < 2 ^ 100 }
     requires inexact { written.old.exact ≡ false }
     requires sound { IsSound (with_rows problem.old
@@ -84,7 +68,7 @@ fn add_eased(
     ensures { OnOk result (problem.new ≡ with_rows problem.old
         (eased variable written.old.products written.old.bound ∷ [])) }
 {
-    ease(written, literals, variable)?;
+    ease(written, variable)?;
     put(problem, written)
 }
 
@@ -111,7 +95,7 @@ fn add_soft(
     copy_products(&mut written.products, products, literals)?;
     written.bound = bound;
     written.exact = false;
-    add_eased(problem, written, literals, variable)?;
+    add_eased(problem, written, variable)?;
     if !exact {
         return Ok(());
     }
@@ -119,7 +103,7 @@ fn add_soft(
     written.products.negate();
     written.bound = -bound;
     written.exact = false;
-    add_eased(problem, written, literals, variable)
+    add_eased(problem, written, variable)
 }
 
 /// Adds the constraint of the top to a problem whose objective has the weights: they are to sum to
@@ -187,7 +171,7 @@ impl Wbo {
         ensures { OnOk result (problem.new ≡ rewritten self.now) }
     {
         problem.widen(self.variables + self.soft.len() as u64);
-        add_weights(problem, literals, self.variables, &self.soft)?;
+        add_weights(problem, self.variables, &self.soft)?;
         self.add_rows(problem, written, literals)?;
         match self.top {
             Some(top) => add_top(problem, written, literals, top),

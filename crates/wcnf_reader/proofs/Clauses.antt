@@ -1,5 +1,5 @@
 -- Clauses that are read one after the other, and put into a problem.
-use Rattle.wcnf_reader.proofs.Common.{nat_tests, ◌≡◌, ℕ, suc, ◌+◌, ◌-◌, ◌<◌, ◌≤◌, List, [], ◌∷◌, map, fold, Option, Some, Result, Ok, Err, refl, sym, arith, TextFault, TextAnswer, Word, ◌>>=◌, Fails, fault, next_of, Clause, ProblemContent, blank, with_variables, with_clause, normal_form, clauses_add_up, ClauseLayout, Header, Listed, Wcnf, header_at, clause_at, clauses_at, at_end, older_of, clause_of, problem_of, clause_read, problem_read, listed_problem, older_read}
+use Rattle.wcnf_reader.proofs.Common.{nat_tests, ◌≡◌, ℕ, suc, ◌+◌, ◌-◌, ◌<◌, ◌≤◌, List, [], ◌∷◌, map, fold, Option, Some, Result, Ok, Err, refl, sym, arith, TextFault, TextAnswer, Word, ◌>>=◌, Fails, fault, next_of, Clause, ProblemContent, blank, with_variables, with_clause, normal_form, clauses_add_up, ClauseLayout, Header, Listed, Wcnf, header_at, clauses_at, at_end, older_of, clause_of, problem_of, clause_read, problem_read, listed_problem, older_read}
 use Rattle.whole_text.specs.declared.faults.TextKind.TheVariants as kinds
 use Rattle.wcnf_reader.specs.declared.layout.ClauseLayout.TheVariants.{Older}
 
@@ -34,11 +34,6 @@ clause_then : (top : Option ℕ) (p : ProblemContent) (c : Clause) (ws : List Wo
     → first >>= as_clause (Older top) ≡ Ok (c, ws)
     → read_into top p (first >>= next_clause others) ≡ read_into top (with_clause p c) (others ws)
 clause_then top p c ws others first h = grind (arith, nat_tests)
-
--- the clause that begins with this word, and the others after it
-abbrev clause_and_others : Header → ℕ → ℕ → Word × List Word → Listing
-clause_and_others h n end w =
-    clause_at (Older h.top) (Some h.variables) end w.0 w.1 >>= next_clause (clauses_at n h end)
 
 pub clause_goes_on : (h : Header) (count i end : ℕ) (p : ProblemContent) (ws after rest : List Word)
     (w : Word) (c : Clause) (total : Putting) → i < count → next_of end ws ≡ Ok (w, after)

@@ -1,5 +1,5 @@
 -- Clauses up to the end of the words, put into a problem that is widened as they come.
-use Rattle.wcnf_reader.proofs.Common.{nat_tests, ◌≡◌, ℕ, zero, suc, ◌≤◌, max, cond, eqb, List, [], ◌∷◌, length, map, fold, Option, None, Result, Ok, Err, refl, sym, ◌∙◌, arith, ℤ, nat_abs, flat_map, IfOk, fold-append, TextFault, TextAnswer, Word, ◌>>=◌, Fails, Clause, ProblemContent, blank, with_variables, with_clause, normal_form, clauses_add_up, ClauseLayout, Listed, Wcnf, first_of, literals_at, clause_at, clauses_within, clauses_to_end, WordsAreEnough, largest, headerless_of, clause_of, problem_of, clause_read, widened, headerless_read}
+use Rattle.wcnf_reader.proofs.Common.{nat_tests, ◌≡◌, ℕ, zero, suc, ◌≤◌, max, cond, eqb, List, [], ◌∷◌, length, map, fold, Option, None, Result, Ok, refl, sym, ◌∙◌, arith, ℤ, nat_abs, flat_map, IfOk, fold-append, TextFault, TextAnswer, Word, ◌>>=◌, Fails, Clause, ProblemContent, blank, with_variables, with_clause, normal_form, clauses_add_up, ClauseLayout, Listed, Wcnf, first_of, literals_at, clause_at, clauses_within, clauses_to_end, WordsAreEnough, largest, headerless_of, clause_of, problem_of, clause_read, widened, headerless_read}
 use Rattle.wcnf_reader.specs.declared.layout.ClauseLayout.TheVariants.{WithoutHeader}
 use Rattle.wcnf_reader.proofs.Clauses.{as_clause}
 use Rattle.wcnf_reader.proofs.Widening.{AreLiterals, sizes_needed}

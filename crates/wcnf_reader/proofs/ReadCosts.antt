@@ -1,5 +1,5 @@
 -- What the problem of a text costs: what the text costs, clause by clause.
-use Rattle.wcnf_reader.proofs.Common.{nat_tests, ◌≡◌, Bool, true, false, not, ◌&&◌, ◌||◌, arith, refl, ◌∙◌, List, [], ◌∷◌, map, unwrap_or, ℤ, pos, ◌+ℤ◌, if◌then◌else◌, list_any, ints, total_by, if_so, holds, some_holds, fails_hard, soft_cost, problem_cost, normal_form-cost, ClauseLayout, Listed, Wcnf, is_true, is_satisfied, is_hard, is_broken, unsatisfied_weight, wcnf_cost, literal_of, clause_of, problem_of, ReadingKeepsCosts}
+use Rattle.wcnf_reader.proofs.Common.{nat_tests, ◌≡◌, Bool, false, not, ◌&&◌, ◌||◌, arith, refl, ◌∙◌, List, [], ◌∷◌, map, unwrap_or, ℤ, pos, ◌+ℤ◌, if◌then◌else◌, list_any, ints, total_by, if_so, holds, some_holds, fails_hard, soft_cost, problem_cost, normal_form-cost, ClauseLayout, Listed, Wcnf, is_true, is_satisfied, is_hard, is_broken, unsatisfied_weight, wcnf_cost, literal_of, clause_of, problem_of, ReadingKeepsCosts}
 use Rattle.base.specs.declared.costs.Cost.TheVariants.{Whole, Infinite}
 
 holds-literal_of : (x : List Bool) (z : ℤ) → holds x (literal_of z) ≡ is_true x z

@@ -35,8 +35,7 @@ literal_read variables w = literal_at variables w >>= λ z. Ok (some_literal z)
 
 -- the literals of a clause, and what is left
 abbrev pub literals_read : Option ℕ → ℕ → List Word → Result (List Literal × List Word) TextFault
-literals_read variables end ws =
-    literals_at variables end ws >>= λ x. Ok (map literal_of x.0, x.1)
+literals_read variables end ws = literals_at variables end ws >>= λ x. Ok (map literal_of x.0, x.1)
 
 -- as many variables as are said, or as can be numbered
 abbrev pub bound_of : Option ℕ → ℕ
@@ -64,8 +63,7 @@ listed_problem h cs =
 
 -- the clauses that the header counts, as a problem, and what is left
 abbrev pub problem_read : Header → ℕ → List Word → Result (ProblemContent × List Word) TextFault
-problem_read h end ws =
-    clauses_at h.clauses h end ws >>= λ x. Ok (listed_problem h x.0, x.1)
+problem_read h end ws = clauses_at h.clauses h end ws >>= λ x. Ok (listed_problem h x.0, x.1)
 
 -- the problem of a text of the older layout, after a `p` on this line
 abbrev pub older_read : ℕ → ℕ → List Word → Result ProblemContent TextFault

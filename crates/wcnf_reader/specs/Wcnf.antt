@@ -86,8 +86,7 @@ wanted_word line bytes w =
 
 -- a number on this line
 unfoldable pub header_number : ℕ → Word → Result ℕ TextFault
-header_number line w =
-    if w.line == line then natural_at 0 w else Err (fault kinds.Word w.line)
+header_number line w = if w.line == line then natural_at 0 w else Err (fault kinds.Word w.line)
 
 -- nothing more on this line
 unfoldable pub at_line_end : {A : Type 0} → ℕ → A → List Word → Result (A × List Word) TextFault

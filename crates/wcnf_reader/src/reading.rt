@@ -11,7 +11,7 @@ use crate::layout::ClauseLayout;
 use crate::listed::{clause, widened};
 use problem_form::Problem;
 use std::alloc::Global;
-use whole_text::{Lexer, Style, TextAnswer, TextKind, TokenText, Words, fault, next_word};
+use whole_text::{Style, TextAnswer, TextKind, TokenText, Words, cut_words, fault, next_word};
 
 /// The clauses that the header counts.
 #[inline(always)]
@@ -117,11 +117,10 @@ pub fn read_wcnf_tokens(alloc: Global, text: &TokenText) -> Result<Problem, Text
 }
 
 /// The problem of a text, in normal form, or the first fault of the text.
+#[tactic(auto, unfolding(crate::specs::Cost::normal_reading, crate::specs::Cost::problem_of_words, crate::specs::Wcnf::reading))]
 pub fn read_wcnf(alloc: Global, text: &[u8]) -> Result<Problem, TextAnswer>
     requires { length text.now ≤ 2 ^ 24 }
     ensures { Gives (λ problem. problem) result (normal_reading text.now) }
 {
-    let mut lexer = Lexer::new(alloc, Style::Plain);
-    lexer.feed(text)?;
-    read_wcnf_tokens(alloc, &lexer.finish()?)
+    read_wcnf_tokens(alloc, &cut_words(alloc, text, Style::Plain)?)
 }

@@ -6,7 +6,7 @@ pub use Rattle.whole_text.specs.declared.packed.Stride.{Stride}
 pub use Rattle.whole_text.specs.Tokens.{word, Word, word_at, is_feed, is_blank, joins, comment_byte, words_at, AreJoined, is_filled, begins_with, pieces_of_line, AreInOrder, IsWithin, last_line}
 unfoldable pub use Rattle.whole_text.specs.Tokens.{words, is_comment, tokens_of_line, tokens_from, tokens_of, pieces}
 pub use Rattle.whole_text.specs.Packed.{stride_of, strides, words_along, bytes_along, lines_along, IsCursor, placed, wide_marks}
-pub use Rattle.std.specs.Char.{is_ascii_digit, digit_value}
+pub use Rattle.std.specs.Char.{is_ascii_digit}
 pub use Rattle.std.specs.List.{list_all, position_or_len, slice_range, prefix_len, AllByRecursion, slice_split, onto_first, flat_map, join_with_byte}
 pub use Rattle.std.specs.Str.Parse.{digits_value, AllDigits}
 pub use Rattle.std.proofs.lemmas.Bool.{cases_Bool, ne_eqb, cases_lt, not-true, eqb-true, le-leb, ltb-true, ltb-false, eqb-false}
@@ -20,7 +20,7 @@ pub use Rattle.whole_text.specs.declared.token_text.TokenText.{TokenText}
 pub use Rattle.whole_text.specs.TokenTexts.{words_of}
 pub use Rattle.whole_text.specs.Steps.{next_of}
 unfoldable pub use Rattle.whole_text.specs.Steps.{integer_at, natural_at}
-pub use Rattle.std.specs.Prelude.{OnOk, filter, if◌then◌else◌, nat_abs, unwrap_or, slice_get}
+pub use Rattle.std.specs.Prelude.{OnOk, filter, if◌then◌else◌, nat_abs, unwrap_or}
 pub use Rattle.std.proofs.lemmas.List.Sums.{prefix_len-le-length, prefix_len_passes, prefix_len_stops}
 pub use Rattle.whole_text.specs.declared.lexing.At.{At}
 pub use Rattle.whole_text.specs.declared.token.Token.{Token}

@@ -363,3 +363,12 @@ impl Lexer {
         Ok(())
     }
 }
+
+/// The words of a whole text, as a lexer of that style cuts it.
+pub fn cut_words(alloc: Global, text: &[u8], style: Style) -> Result<TokenText, NoMemory>
+    requires { length text.now ≤ 2 ^ 32 }
+    ensures words { IfOk result (λ t. words_of t ≡ tokens_of style text.now) }
+    ensures size { IfOk result (λ t. length t.bytes ≤ length text.now) }
+{
+    Lexer::new(alloc, style).fed(text)?.finish()
+}

@@ -20,7 +20,7 @@ mod words;
 pub use cutting::{blank_len, is_blank, line_len, push_line, tokens, word_len};
 pub use faults::{TextAnswer, TextFault, TextKind};
 pub use laws::laws_of_numbers;
-pub use lexing::Lexer;
+pub use lexing::{Lexer, cut_words};
 pub use numbers::{digits, number, push_number};
 pub use packed::TokenList;
 pub use putting::put_number;

@@ -5,6 +5,7 @@
 
 ghost use Rattle.std.specs.Prelude.{◌≡◌, ◌++◌, ◌<◌, ◌^◌, nat_abs, IfSome, OnOk, OnErr, pos, neg_ℤ, position};
 ghost use Rattle.std.specs.List.{list_all};
+ghost use Rattle.std.specs.Option.{option_map};
 ghost use Rattle.std.specs.Fmt.{signed_decimal};
 ghost use Rattle.whole_text.specs.Numbers.{digits_number, is_point, is_zero, size_of, number_of};
 
@@ -88,16 +89,28 @@ fn any_size(bytes: &[u8]) -> Option<u64>
     }
 }
 
-fn positive(size: u64) -> i128
-    ensures { result ≡ pos size }
+/// The number of a size, where there is one.
+#[inline(always)]
+fn positive(size: Option<u64>) -> Option<i128>
+    ensures value { result ≡ option_map pos size }
+    ensures small { IfSome result (λ z. nat_abs z < 2 ^ 64) }
 {
-    i128::from(size)
+    match size {
+        Some(size) => Some(i128::from(size)),
+        None => None,
+    }
 }
 
-fn negative(size: u64) -> i128
-    ensures { result ≡ neg_ℤ (pos size) }
+/// The number below 0 of a size, where there is one.
+#[inline(always)]
+fn negative(size: Option<u64>) -> Option<i128>
+    ensures value { result ≡ option_map (λ n. neg_ℤ (pos n)) size }
+    ensures small { IfSome result (λ z. nat_abs z < 2 ^ 64) }
 {
-    -i128::from(size)
+    match size {
+        Some(size) => Some(-i128::from(size)),
+        None => None,
+    }
 }
 
 /// The value of a token, where it is a number.
@@ -108,10 +121,10 @@ pub fn number(token: &[u8]) -> Option<i128>
     ensures small { IfSome result (λ z. nat_abs z < 2 ^ 64) }
 {
     match token {
-        [b'+', rest @ ..] => Some(positive(size(rest)?)),
-        [b'-', rest @ ..] => Some(negative(size(rest)?)),
+        [b'+', rest @ ..] => positive(size(rest)),
+        [b'-', rest @ ..] => negative(size(rest)),
         [] => None,
-        [_, ..] => Some(positive(size(token)?)),
+        [_, ..] => positive(size(token)),
     }
 }
 

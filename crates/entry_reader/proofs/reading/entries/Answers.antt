@@ -18,12 +18,12 @@ loop-first-preserved c =
           c.loop-first.problem (word_of c.in-Some.first ∷ c.next.new.self) c.entry.new.words entry
           all c.in_ok-entry.ensures.read before);
       variables = c.in_ok-add_entry.ensures.same ∙ c.loop-first.invariant.variables;
-      nodes = c.in_ok-entry.ensures.same ∙ c.loop-first.invariant.nodes;
+      nodes = c.in_ok-entry.ensures.listed.same ∙ c.loop-first.invariant.nodes;
       small =
           let e = c.in_ok-entry.ensures in
           let total = c.in_ok-add_entry.ensures.total in
           let long = ap length c.in-Some.ensures in
-          omega (arith, e.small, e.shorter, c.loop-first.invariant.small);
+          omega (arith, e.listed.small, e.shorter, c.loop-first.invariant.small);
     }
 
 pub returns-in_err-none_to_come : goal.returns-in_err-none_to_come
