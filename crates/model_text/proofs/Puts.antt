@@ -1,40 +1,92 @@
 -- A text that is put piece by piece: what of it was put, and what is left.
-use Rattle.model_text.proofs.Common.{nat_tests, arith, ◌≡◌, ℕ, List, [], ◌++◌, refl, sym, ap, ◌∙◌, subst, append_assoc, append-nil, Result, OnOk, OnErr, Taken, Takes, TakesFront, Passes, Takes-trans, Passes-trans, Passes-front, Passes-kept, TakesFront-more}
+use Rattle.model_text.proofs.Common.{nat_tests, arith, ◌≡◌, ℕ, ◌≤◌, List, [], ◌++◌, refl, sym, ap, ◌∙◌, subst, append_assoc, append-nil, Result, Ok, Err, IsErrAnd, Rose, IsPutBy, OnOk, OnErr, Taken, Takes, TakesFront, Passes, Takes-trans, Passes-trans, Passes-front, Passes-kept, TakesFront-more, err_from_is_err_and}
 
--- all of the text but the rest was put
-pub record IsPut (told now : Taken) (pending left text rest : List ℕ) : Type 0 where
+-- all of the text but the rest was put, and the sink's count of faults did not fall
+pub record IsPut (told now : Taken) (before after : ℕ) (pending left text rest : List ℕ) : Type 0 where
   pub done : List ℕ
   pub split : text ≡ done ++ rest
   pub passed : Passes told now pending left done
+  pub later : before ≤ after
 
-pub put_none : (a : Taken) (p text : List ℕ) → IsPut a a p p text text
-put_none a p text = record { done = []; split = refl; passed = Passes-kept a p p [] (sym (append-nil p)) }
+pub put_none : {a : Taken} {k : ℕ} {p text : List ℕ} → IsPut a a k k p p text text
+put_none {a} {k} {p} = record { done = []; split = refl; passed = Passes-kept a p p [] (sym (append-nil p)); later = omega arith }
 
 -- one piece more was put
-pub put_more : (a b c : Taken) (p q r text rest piece later : List ℕ) → rest ≡ piece ++ later
-    → IsPut a b p q text rest → Passes b c q r piece → IsPut a c p r text later
-put_more a b c p q r text rest piece later cut so_far put = record {
+pub put_more : {T E : Type 0} {v : T} {a b c : Taken} {k l m : ℕ} {p q r text rest piece later : List ℕ}
+    → rest ≡ piece ++ later → IsPut a b k l p q text rest → IsPutBy {T = T} {E = E} b c l m q r piece (Ok v)
+    → IsPut a c k m p r text later
+put_more {a = a} {b} {c} {p = p} {q} {r} {piece = piece} cut so_far put = record {
   done = so_far.done ++ piece;
   split = grind (arith, nat_tests, so_far.split, append_assoc);
-  passed = Passes-trans a b c p q r so_far.done piece so_far.passed put;
+  passed = Passes-trans a b c p q r so_far.done piece so_far.passed put.passed;
+  later = omega (arith, so_far.later, put.cause.later);
 }
 
 -- of one piece more a front was put
-pub put_fault : (a b c : Taken) (p q text rest piece later : List ℕ) → rest ≡ piece ++ later
-    → IsPut a b p q text rest → TakesFront b c (q ++ piece) → TakesFront a c (p ++ text)
-put_fault a b c p q text rest piece later cut so_far fault =
+front_more : (a b c : Taken) (p q text rest piece later : List ℕ) (k l : ℕ) → rest ≡ piece ++ later
+    → IsPut a b k l p q text rest → TakesFront b c (q ++ piece) → TakesFront a c (p ++ text)
+front_more a b c p q text rest piece later k l cut so_far fault =
     let front = TakesFront-more a c (p ++ (so_far.done ++ piece)) later (Passes-front a b c p q so_far.done piece so_far.passed fault) in
     let split = so_far.split in
     grind (arith, nat_tests, append_assoc)
 
--- nothing is left
-pub put_all : (a b : Taken) (p q text rest : List ℕ) → rest ≡ [] → IsPut a b p q text rest
-    → Passes a b p q text
-put_all a b p q text rest none so_far = grind (arith, nat_tests, append-nil)
+rose_more : (k l m : ℕ) → k ≤ l → Rose l m → Rose k m
+rose_more k l m le rose = omega (arith, le, rose)
 
--- what holds anyhow holds at an error
-pub at_error : {T E : Type 0} {P : Type 0} (result : Result T E) → P → OnErr result P
-at_error result h = grind (arith, nat_tests)
+pub put_fault : {T R E : Type 0} {e : E} {a b c : Taken} {k l m : ℕ} {p q r text rest piece : List ℕ}
+    {result : Result R E} (later : List ℕ) (Q : E → Type 0) → IsErrAnd result Q → rest ≡ piece ++ later → IsPut a b k l p q text rest → IsPutBy {T = T} b c l m q r piece (Err e)
+    → IsPutBy a c k m p r text result
+put_fault {a = a} {b} {c} {k} {l} {m} {p} {q} {r} {text} {rest} {piece} {result} later Q failed cut so_far put =
+    let is = err_from_is_err_and result failed in
+    subst (IsPutBy a c k m p r text) (sym is.1) (record {
+      passed = grind (arith, nat_tests);
+      front = front_more a b c p q text rest piece later k l cut so_far put.front;
+      lost = put.lost;
+      cause = record {
+        later = omega (arith, so_far.later, put.cause.later);
+        failed = rose_more k l m so_far.later put.cause.failed;
+      };
+    })
+
+-- the last piece was put, or a front of it
+pub put_last : {R E : Type 0} {a b c : Taken} {k l m : ℕ} {p q r text piece : List ℕ} {result : Result R E}
+    → IsPut a b k l p q text piece → IsPutBy b c l m q r piece result → IsPutBy a c k m p r text result
+put_last {a = a} {b} {c} {k} {l} {m} {p} {q} {r} {text} {piece} {result = Ok v} so_far put =
+    let more = put_more (sym (append-nil piece)) so_far put in
+    let whole : text ≡ more.done = more.split ∙ append-nil more.done in
+    record {
+      passed = subst (Passes a c p r) (sym whole) more.passed;
+      front = put.front;
+      lost = put.lost;
+      cause = record { later = more.later; failed = put.cause.failed };
+    }
+put_last {a = a} {b} {c} {k} {l} {m} {p} {q} {r} {text} {piece} {result = Err e} so_far put = record {
+  passed = put.passed;
+  front = front_more a b c p q text piece piece [] k l (sym (append-nil piece)) so_far put.front;
+  lost = put.lost;
+  cause = record {
+    later = omega (arith, so_far.later, put.cause.later);
+    failed = rose_more k l m so_far.later put.cause.failed;
+  };
+}
+
+-- nothing is left
+pub put_all : {R E : Type 0} {v : R} {a b : Taken} {k l : ℕ} {p q text rest : List ℕ} → rest ≡ []
+    → IsPut a b k l p q text rest → IsPutBy {T = R} {E = E} a b k l p q text (Ok v)
+put_all {a = a} {b} {p = p} {q} {text} none so_far =
+    let whole : text ≡ so_far.done = grind (arith, nat_tests, so_far.split, append-nil) in
+    record {
+      passed = subst (Passes a b p q) (sym whole) so_far.passed;
+      front = grind (arith, nat_tests);
+      lost = grind (arith, nat_tests);
+      cause = record { later = so_far.later; failed = grind (arith, nat_tests) };
+    }
+
+-- the same text in other words
+pub put_same : {R E : Type 0} {a b : Taken} {k l : ℕ} {p q xs ys : List ℕ} {result : Result R E} → xs ≡ ys
+    → IsPutBy a b k l p q xs result → IsPutBy a b k l p q ys result
+put_same {a = a} {b} {k} {l} {p} {q} {result = result} same =
+    subst (λ text. IsPutBy a b k l p q text result) same
 
 -- what follows from an answer holds of it, and so for an error
 pub then_ok : {T E : Type 0} {P Q : Type 0} (result : Result T E) → (P → Q) → OnOk result P → OnOk result Q
@@ -42,15 +94,6 @@ then_ok result f h = grind (arith, nat_tests)
 
 pub then_error : {T E : Type 0} {P Q : Type 0} (result : Result T E) → (P → Q) → OnErr result P → OnErr result Q
 then_error result f h = grind (arith, nat_tests)
-
--- the same text in other words
-pub same_front : {T E : Type 0} (result : Result T E) (a b : Taken) (p xs ys : List ℕ) → xs ≡ ys
-    → OnErr result (TakesFront a b (p ++ xs)) → OnErr result (TakesFront a b (p ++ ys))
-same_front result a b p xs ys e h = grind (arith, nat_tests)
-
-pub same_passed : {T E : Type 0} (result : Result T E) (a b : Taken) (p q xs ys : List ℕ) → xs ≡ ys
-    → OnOk result (Passes a b p q xs) → OnOk result (Passes a b p q ys)
-same_passed result a b p q xs ys e h = grind (arith, nat_tests)
 
 -- ---- the last bytes are written
 

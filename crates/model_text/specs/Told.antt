@@ -6,8 +6,7 @@ use Rattle.model_text.specs.Rows.{FitsFields, model_text}
 -- the text is that of no model but n, of whatever kind, among those that are well formed and fit
 -- their fields
 abbrev pub TellsModel : List ℕ → Written → Type 0
-TellsModel text n =
-    (m : Written) → IsWellFormed m → FitsFields m → model_text m ≡ text → m ≡ n
+TellsModel text n = (m : Written) → IsWellFormed m → FitsFields m → model_text m ≡ text → m ≡ n
 
 -- the text is that of this model and of no other
 pub record IsTextOf (m : Written) (text : List ℕ) : Type 0 where

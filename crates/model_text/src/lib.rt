@@ -12,5 +12,6 @@ mod summary;
 mod writing;
 
 pub use laws::laws_of_texts;
+pub use lines::put_pieces;
 pub use summary::written_summary;
 pub use writing::{write_text, written_text};

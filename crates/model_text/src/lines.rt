@@ -1,12 +1,11 @@
 //! The rows of a text, each put to a sink through a buffer by a function of its own. None takes
 //! memory, and after a fault nothing is pending.
-ghost use Rattle.std.specs.Prelude.{◌≡◌, ◌+◌, ◌<◌, ◌≤◌, ◌++◌, [], ◌∷◌, OnOk, OnErr, length, map, drop};
+ghost use Rattle.std.specs.Prelude.{◌≡◌, ◌+◌, ◌<◌, ◌≤◌, ◌++◌, [], ◌∷◌, length, map, drop};
 ghost use Rattle.std.specs.List.{join_with_byte, slice_index_or};
 ghost use Rattle.std.specs.Fmt.{decimal, signed_decimal};
-ghost use Rattle.edge_io.specs.Counts.{HasCause};
-ghost use Rattle.edge_io.specs.Sinks.{TakesFront, Passes, joined_bytes};
+ghost use Rattle.edge_io.specs.Sinks.{joined_bytes};
 ghost use Rattle.model_text.specs.Rows.{row_text, rows_text, figure_rows, chimera_row, chain_row, chain_rows, graph_rows, kind_words, header_row, entry_row, FitsFigures, FitsGraph};
-ghost use Rattle.model_text.specs.Lines.{spaced_numbers};
+ghost use Rattle.model_text.specs.Lines.{spaced_numbers, IsPutBy};
 
 use base::Figures;
 use bits_model::{ChainList, CouplerList, Entry, EntryList, Kind, NodeWeights, Row};
@@ -22,17 +21,13 @@ const FRONT: usize = 11;
 
 /// Puts the pieces one after the other.
 #[inline(always)]
-fn put_pieces<S: Sink>(
+pub fn put_pieces<S: Sink>(
     buffer: &mut LineBuffer,
     sink: &mut S,
     pieces: &[&[u8]],
 ) -> Result<(), WriteFault>
-    ensures passed { OnOk result (Passes (S.taken sink.old) (S.taken sink.new)
-        buffer.old buffer.new (joined_bytes pieces.now)) }
-    ensures front { OnErr result (TakesFront (S.taken sink.old) (S.taken sink.new)
-        (buffer.old ++ joined_bytes pieces.now)) }
-    ensures lost { OnErr result (buffer.new ≡ []) }
-    ensures cause { HasCause (S.faults sink.old) (S.faults sink.new) result }
+    ensures { IsPutBy (S.taken sink.old) (S.taken sink.new) (S.faults sink.old) (S.faults sink.new)
+        buffer.old buffer.new (joined_bytes pieces.now) result }
 {
     for piece in pieces {
         buffer.put(sink, piece)?;
@@ -48,14 +43,8 @@ pub fn put_figures<S: Sink>(
     unit: i128,
     variables: u32,
 ) -> Result<(), WriteFault>
-    ensures passed { let rows = figure_rows figures unit variables in
-        OnOk result (Passes (S.taken sink.old) (S.taken sink.new)
-        buffer.old buffer.new (rows_text rows)) }
-    ensures front { let rows = figure_rows figures unit variables in
-        OnErr result (TakesFront (S.taken sink.old) (S.taken sink.new)
-        (buffer.old ++ rows_text rows)) }
-    ensures lost { OnErr result (buffer.new ≡ []) }
-    ensures cause { HasCause (S.faults sink.old) (S.faults sink.new) result }
+    ensures put { IsPutBy (S.taken sink.old) (S.taken sink.new) (S.faults sink.old) (S.faults sink.new)
+        buffer.old buffer.new (rows_text (figure_rows figures unit variables)) result }
     ensures fits { FitsFigures figures }
 {
     let mut scale = Buffer::new();
@@ -93,12 +82,8 @@ fn put_qubits<S: Sink>(
     sink: &mut S,
     qubits: &[u32],
 ) -> Result<(), WriteFault>
-    ensures passed { OnOk result (Passes (S.taken sink.old) (S.taken sink.new)
-        buffer.old buffer.new (spaced_numbers qubits.now)) }
-    ensures front { OnErr result (TakesFront (S.taken sink.old) (S.taken sink.new)
-        (buffer.old ++ spaced_numbers qubits.now)) }
-    ensures lost { OnErr result (buffer.new ≡ []) }
-    ensures cause { HasCause (S.faults sink.old) (S.faults sink.new) result }
+    ensures { IsPutBy (S.taken sink.old) (S.taken sink.new) (S.faults sink.old) (S.faults sink.new)
+        buffer.old buffer.new (spaced_numbers qubits.now) result }
 {
     for qubit in qubits {
         let mut digits = Buffer::new();
@@ -115,14 +100,8 @@ fn put_chain<S: Sink>(
     node: usize,
     qubits: &[u32],
 ) -> Result<(), WriteFault>
-    ensures passed { let row = chain_row node qubits.now in
-        OnOk result (Passes (S.taken sink.old) (S.taken sink.new)
-        buffer.old buffer.new (row_text row)) }
-    ensures front { let row = chain_row node qubits.now in
-        OnErr result (TakesFront (S.taken sink.old) (S.taken sink.new)
-        (buffer.old ++ row_text row)) }
-    ensures lost { OnErr result (buffer.new ≡ []) }
-    ensures cause { HasCause (S.faults sink.old) (S.faults sink.new) result }
+    ensures { IsPutBy (S.taken sink.old) (S.taken sink.new) (S.faults sink.old) (S.faults sink.new)
+        buffer.old buffer.new (row_text (chain_row node qubits.now)) result }
 {
     let mut digits = Buffer::new();
     let number = digits.format(node).as_bytes();
@@ -137,14 +116,8 @@ fn put_chains<S: Sink>(
     sink: &mut S,
     chains: &ChainList,
 ) -> Result<(), WriteFault>
-    ensures passed { let rows = chain_rows 0 chains.now in
-        OnOk result (Passes (S.taken sink.old) (S.taken sink.new)
-        buffer.old buffer.new (rows_text rows)) }
-    ensures front { let rows = chain_rows 0 chains.now in
-        OnErr result (TakesFront (S.taken sink.old) (S.taken sink.new)
-        (buffer.old ++ rows_text rows)) }
-    ensures lost { OnErr result (buffer.new ≡ []) }
-    ensures cause { HasCause (S.faults sink.old) (S.faults sink.new) result }
+    ensures { IsPutBy (S.taken sink.old) (S.taken sink.new) (S.faults sink.old) (S.faults sink.new)
+        buffer.old buffer.new (rows_text (chain_rows 0 chains.now)) result }
 {
     for node in 0..chains.len() {
         put_chain(buffer, sink, node, chains.list(node))?;
@@ -160,14 +133,8 @@ fn put_chimera<S: Sink>(
     cols: u32,
     shore: u32,
 ) -> Result<(), WriteFault>
-    ensures passed { let row = chimera_row rows cols shore in
-        OnOk result (Passes (S.taken sink.old) (S.taken sink.new)
-        buffer.old buffer.new (row_text row)) }
-    ensures front { let row = chimera_row rows cols shore in
-        OnErr result (TakesFront (S.taken sink.old) (S.taken sink.new)
-        (buffer.old ++ row_text row)) }
-    ensures lost { OnErr result (buffer.new ≡ []) }
-    ensures cause { HasCause (S.faults sink.old) (S.faults sink.new) result }
+    ensures { IsPutBy (S.taken sink.old) (S.taken sink.new) (S.faults sink.old) (S.faults sink.new)
+        buffer.old buffer.new (row_text (chimera_row rows cols shore)) result }
 {
     let mut first = Buffer::new();
     let mut second = Buffer::new();
@@ -189,14 +156,8 @@ pub fn put_graph<S: Sink>(
     kind: Kind,
     chains: &ChainList,
 ) -> Result<(), WriteFault>
-    ensures passed { let rows = graph_rows kind chains.now in
-        OnOk result (Passes (S.taken sink.old) (S.taken sink.new)
-        buffer.old buffer.new (rows_text rows)) }
-    ensures front { let rows = graph_rows kind chains.now in
-        OnErr result (TakesFront (S.taken sink.old) (S.taken sink.new)
-        (buffer.old ++ rows_text rows)) }
-    ensures lost { OnErr result (buffer.new ≡ []) }
-    ensures cause { HasCause (S.faults sink.old) (S.faults sink.new) result }
+    ensures put { IsPutBy (S.taken sink.old) (S.taken sink.new) (S.faults sink.old) (S.faults sink.new)
+        buffer.old buffer.new (rows_text (graph_rows kind chains.now)) result }
     ensures fits { FitsGraph kind }
 {
     if let Kind::Chimera { rows, cols, shore } = kind {
@@ -224,14 +185,8 @@ pub fn put_header<S: Sink>(
     nodes: u32,
     entries: &EntryList,
 ) -> Result<(), WriteFault>
-    ensures passed { let row = header_row kind nodes entries.now in
-        OnOk result (Passes (S.taken sink.old) (S.taken sink.new)
-        buffer.old buffer.new (row_text row)) }
-    ensures front { let row = header_row kind nodes entries.now in
-        OnErr result (TakesFront (S.taken sink.old) (S.taken sink.new)
-        (buffer.old ++ row_text row)) }
-    ensures lost { OnErr result (buffer.new ≡ []) }
-    ensures cause { HasCause (S.faults sink.old) (S.faults sink.new) result }
+    ensures { IsPutBy (S.taken sink.old) (S.taken sink.new) (S.faults sink.old) (S.faults sink.new)
+        buffer.old buffer.new (row_text (header_row kind nodes entries.now)) result }
 {
     let counts = entries.counts();
     let mut first = Buffer::new();
@@ -357,14 +312,8 @@ fn write_coupler(
 /// A weight of any size, after the numbers of its nodes.
 #[inline(never)]
 fn put_wide<S: Sink>(buffer: &mut LineBuffer, sink: &mut S, entry: &Entry) -> Result<(), WriteFault>
-    ensures passed { let row = entry_row entry.now in
-        OnOk result (Passes (S.taken sink.old) (S.taken sink.new)
-        buffer.old buffer.new (row_text row)) }
-    ensures front { let row = entry_row entry.now in
-        OnErr result (TakesFront (S.taken sink.old) (S.taken sink.new)
-        (buffer.old ++ row_text row)) }
-    ensures lost { OnErr result (buffer.new ≡ []) }
-    ensures cause { HasCause (S.faults sink.old) (S.faults sink.new) result }
+    ensures { IsPutBy (S.taken sink.old) (S.taken sink.new) (S.faults sink.old) (S.faults sink.new)
+        buffer.old buffer.new (row_text (entry_row entry.now)) result }
 {
     let mut first = Buffer::new();
     let mut second = Buffer::new();
@@ -384,14 +333,8 @@ fn put_entry<S: Sink>(
     sink: &mut S,
     entry: &Entry,
 ) -> Result<(), WriteFault>
-    ensures passed { let row = entry_row entry.now in
-        OnOk result (Passes (S.taken sink.old) (S.taken sink.new)
-        buffer.old buffer.new (row_text row)) }
-    ensures front { let row = entry_row entry.now in
-        OnErr result (TakesFront (S.taken sink.old) (S.taken sink.new)
-        (buffer.old ++ row_text row)) }
-    ensures lost { OnErr result (buffer.new ≡ []) }
-    ensures cause { HasCause (S.faults sink.old) (S.faults sink.new) result }
+    ensures { IsPutBy (S.taken sink.old) (S.taken sink.new) (S.faults sink.old) (S.faults sink.new)
+        buffer.old buffer.new (row_text (entry_row entry.now)) result }
 {
     match i64::try_from(entry.weight) {
         Ok(weight) => {
@@ -414,14 +357,8 @@ fn put_coupler<S: Sink>(
 ) -> Result<(), WriteFault>
     requires within { start ≤ 11 }
     requires front { drop start front.now ≡ decimal entry.now.first ++ 32 ∷ [] }
-    ensures passed { let row = entry_row entry.now in
-        OnOk result (Passes (S.taken sink.old) (S.taken sink.new)
-        buffer.old buffer.new (row_text row)) }
-    ensures front { let row = entry_row entry.now in
-        OnErr result (TakesFront (S.taken sink.old) (S.taken sink.new)
-        (buffer.old ++ row_text row)) }
-    ensures lost { OnErr result (buffer.new ≡ []) }
-    ensures cause { HasCause (S.faults sink.old) (S.faults sink.new) result }
+    ensures { IsPutBy (S.taken sink.old) (S.taken sink.new) (S.faults sink.old) (S.faults sink.new)
+        buffer.old buffer.new (row_text (entry_row entry.now)) result }
 {
     match i64::try_from(entry.weight) {
         Ok(weight) => {
@@ -439,14 +376,8 @@ fn put_nodes<S: Sink>(
     sink: &mut S,
     weights: &NodeWeights,
 ) -> Result<(), WriteFault>
-    ensures passed { let rows = map entry_row weights.now in
-        OnOk result (Passes (S.taken sink.old) (S.taken sink.new)
-        buffer.old buffer.new (rows_text rows)) }
-    ensures front { let rows = map entry_row weights.now in
-        OnErr result (TakesFront (S.taken sink.old) (S.taken sink.new)
-        (buffer.old ++ rows_text rows)) }
-    ensures lost { OnErr result (buffer.new ≡ []) }
-    ensures cause { HasCause (S.faults sink.old) (S.faults sink.new) result }
+    ensures { IsPutBy (S.taken sink.old) (S.taken sink.new) (S.faults sink.old) (S.faults sink.new)
+        buffer.old buffer.new (rows_text (map entry_row weights.now)) result }
 {
     for entry in weights.iter() {
         put_entry(line, buffer, sink, &entry)?;
@@ -474,14 +405,8 @@ fn put_row<S: Sink>(
     sink: &mut S,
     row: &Row<'_>,
 ) -> Result<(), WriteFault>
-    ensures passed { let rows = map entry_row row.now in
-        OnOk result (Passes (S.taken sink.old) (S.taken sink.new)
-        buffer.old buffer.new (rows_text rows)) }
-    ensures front { let rows = map entry_row row.now in
-        OnErr result (TakesFront (S.taken sink.old) (S.taken sink.new)
-        (buffer.old ++ rows_text rows)) }
-    ensures lost { OnErr result (buffer.new ≡ []) }
-    ensures cause { HasCause (S.faults sink.old) (S.faults sink.new) result }
+    ensures { IsPutBy (S.taken sink.old) (S.taken sink.new) (S.faults sink.old) (S.faults sink.new)
+        buffer.old buffer.new (rows_text (map entry_row row.now)) result }
 {
     let mut front = [0u8; FRONT];
     let start = write_front(row.first(), &mut front);
@@ -499,14 +424,8 @@ fn put_couplers<S: Sink>(
     sink: &mut S,
     couplers: &CouplerList,
 ) -> Result<(), WriteFault>
-    ensures passed { let rows = map entry_row couplers.now in
-        OnOk result (Passes (S.taken sink.old) (S.taken sink.new)
-        buffer.old buffer.new (rows_text rows)) }
-    ensures front { let rows = map entry_row couplers.now in
-        OnErr result (TakesFront (S.taken sink.old) (S.taken sink.new)
-        (buffer.old ++ rows_text rows)) }
-    ensures lost { OnErr result (buffer.new ≡ []) }
-    ensures cause { HasCause (S.faults sink.old) (S.faults sink.new) result }
+    ensures { IsPutBy (S.taken sink.old) (S.taken sink.new) (S.faults sink.old) (S.faults sink.new)
+        buffer.old buffer.new (rows_text (map entry_row couplers.now)) result }
 {
     for index in 0..couplers.row_count() {
         let row = couplers.row(index);
@@ -521,14 +440,8 @@ pub fn put_entries<S: Sink>(
     sink: &mut S,
     entries: &EntryList,
 ) -> Result<(), WriteFault>
-    ensures passed { let rows = map entry_row entries.now in
-        OnOk result (Passes (S.taken sink.old) (S.taken sink.new)
-        buffer.old buffer.new (rows_text rows)) }
-    ensures front { let rows = map entry_row entries.now in
-        OnErr result (TakesFront (S.taken sink.old) (S.taken sink.new)
-        (buffer.old ++ rows_text rows)) }
-    ensures lost { OnErr result (buffer.new ≡ []) }
-    ensures cause { HasCause (S.faults sink.old) (S.faults sink.new) result }
+    ensures { IsPutBy (S.taken sink.old) (S.taken sink.new) (S.faults sink.old) (S.faults sink.new)
+        buffer.old buffer.new (rows_text (map entry_row entries.now)) result }
 {
     let mut line = [0u8; LINE];
     put_nodes(&mut line, buffer, sink, &entries.nodes)?;

@@ -1,7 +1,8 @@
 //! The text of a model as a whole.
-ghost use Rattle.std.specs.Prelude.{◌≡◌, ◌++◌, [], Some, length, IfOk, OnOk, OnErr};
+ghost use Rattle.std.specs.Prelude.{◌≡◌, [], Some, length, IfOk, OnOk, OnErr};
 ghost use Rattle.edge_io.specs.Counts.{HasCause};
-ghost use Rattle.edge_io.specs.Sinks.{Takes, TakesFront, Passes};
+ghost use Rattle.edge_io.specs.Sinks.{Takes, TakesFront};
+ghost use Rattle.model_text.specs.Lines.{IsPutBy};
 ghost use Rattle.model_text.specs.Rows.{model_text};
 ghost use Rattle.model_text.specs.Told.{TellsModel};
 
@@ -58,13 +59,9 @@ fn put_text<S: Sink>(
     buffer: &mut LineBuffer,
     sink: &mut S,
 ) -> Result<(), WriteFault>
-    ensures passed { OnOk result (Passes (S.taken sink.old) (S.taken sink.new)
-        buffer.old buffer.new (model_text model.now)) }
+    ensures put { IsPutBy (S.taken sink.old) (S.taken sink.new) (S.faults sink.old) (S.faults sink.new)
+        buffer.old buffer.new (model_text model.now) result }
     ensures one { OnOk result (TellsModel (model_text model.now) model.now) }
-    ensures front { OnErr result (TakesFront (S.taken sink.old) (S.taken sink.new)
-        (buffer.old ++ model_text model.now)) }
-    ensures lost { OnErr result (buffer.new ≡ []) }
-    ensures cause { HasCause (S.faults sink.old) (S.faults sink.new) result }
 {
     let entries = &model.entries;
     put_figures(buffer, sink, model.figures, model.unit, model.variables)?;

@@ -33,8 +33,7 @@ is_below Infinite cost = false
 
 -- a score is better than another: its cost is below, or the costs are equal and its energy is below
 abbrev pub is_better : Score → Score → Bool
-is_better s t =
-    is_below s.cost t.cost || (not (is_below t.cost s.cost) && int_lt s.energy t.energy)
+is_better s t = is_below s.cost t.cost || (not (is_below t.cost s.cost) && int_lt s.energy t.energy)
 
 -- some state is better than this one
 abbrev pub has_better : Judgement → List StateLine → StateLine → Bool

@@ -90,9 +90,9 @@ impl Batch {
         requires measured { length self.old.energies.items ≡ length self.old.states }
         requires width { All (λ state. length state ≡ (J.judgement judge.old).width)
             self.old.states }
-        ensures costs { AreCosts (J.judgement judge.old) self.old.states self.new.costs.items }
+        ensures costs { AreCosts (J.judgement judge.old) self.new.states self.new.costs.items }
         ensures small { All IsSmall self.new.costs.items }
-        ensures energies { AreEnergies (J.judgement judge.old) self.old.states
+        ensures energies { AreEnergies (J.judgement judge.old) self.new.states
             self.new.energies.items }
         ensures room { length self.new.costs.items ≡ length self.old.costs.items }
         ensures measured { length self.new.energies.items ≡ length self.old.energies.items }

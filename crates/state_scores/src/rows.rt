@@ -1,8 +1,7 @@
 //! The rows of an evaluation, each put to a sink through a buffer by a function of its own. None takes
 //! memory, and after a fault nothing is pending.
-ghost use Rattle.std.specs.Prelude.{◌≡◌, ◌++◌, [], OnOk, OnErr, map};
-ghost use Rattle.edge_io.specs.Counts.{HasCause};
-ghost use Rattle.edge_io.specs.Sinks.{TakesFront, Passes, joined_bytes};
+ghost use Rattle.std.specs.Prelude.{◌≡◌, ◌++◌, map};
+ghost use Rattle.model_text.specs.Lines.{IsPutBy};
 ghost use Rattle.model_text.specs.Rows.{row_text, rows_text};
 ghost use Rattle.state_scores.specs.Texts.{best_row, cost_word, score_row, scores_text};
 
@@ -11,25 +10,7 @@ use crate::worth::Score;
 use base::Cost;
 use edge_io::{LineBuffer, Sink, WriteFault};
 use itoa::Buffer;
-
-/// Puts the pieces one after the other.
-fn put_pieces<S: Sink>(
-    buffer: &mut LineBuffer,
-    sink: &mut S,
-    pieces: &[&[u8]],
-) -> Result<(), WriteFault>
-    ensures passed { OnOk result (Passes (S.taken sink.old) (S.taken sink.new)
-        buffer.old buffer.new (joined_bytes pieces.now)) }
-    ensures front { OnErr result (TakesFront (S.taken sink.old) (S.taken sink.new)
-        (buffer.old ++ joined_bytes pieces.now)) }
-    ensures lost { OnErr result (buffer.new ≡ []) }
-    ensures cause { HasCause (S.faults sink.old) (S.faults sink.new) result }
-{
-    for piece in pieces {
-        buffer.put(sink, piece)?;
-    }
-    Ok(())
-}
+use model_text::put_pieces;
 
 /// The word of a cost.
 fn cost_word(digits: &mut Buffer, cost: Cost) -> &[u8]
@@ -47,12 +28,8 @@ fn put_score<S: Sink>(
     sink: &mut S,
     score: &Score,
 ) -> Result<(), WriteFault>
-    ensures passed { OnOk result (Passes (S.taken sink.old) (S.taken sink.new)
-        buffer.old buffer.new (row_text (score_row score.now))) }
-    ensures front { OnErr result (TakesFront (S.taken sink.old) (S.taken sink.new)
-        (buffer.old ++ row_text (score_row score.now))) }
-    ensures lost { OnErr result (buffer.new ≡ []) }
-    ensures cause { HasCause (S.faults sink.old) (S.faults sink.new) result }
+    ensures { IsPutBy (S.taken sink.old) (S.taken sink.new) (S.faults sink.old) (S.faults sink.new)
+        buffer.old buffer.new (row_text (score_row score.now)) result }
 {
     let mut first = Buffer::new();
     let mut second = Buffer::new();
@@ -81,12 +58,8 @@ fn put_scores<S: Sink>(
     sink: &mut S,
     scores: &ScoreList,
 ) -> Result<(), WriteFault>
-    ensures passed { OnOk result (Passes (S.taken sink.old) (S.taken sink.new)
-        buffer.old buffer.new (rows_text (map score_row scores.now))) }
-    ensures front { OnErr result (TakesFront (S.taken sink.old) (S.taken sink.new)
-        (buffer.old ++ rows_text (map score_row scores.now))) }
-    ensures lost { OnErr result (buffer.new ≡ []) }
-    ensures cause { HasCause (S.faults sink.old) (S.faults sink.new) result }
+    ensures { IsPutBy (S.taken sink.old) (S.taken sink.new) (S.faults sink.old) (S.faults sink.new)
+        buffer.old buffer.new (rows_text (map score_row scores.now)) result }
 {
     for index in 0..scores.len() {
         let score = scores.score(index);
@@ -102,12 +75,8 @@ fn put_best<S: Sink>(
     line: u64,
     tail: &[u8],
 ) -> Result<(), WriteFault>
-    ensures passed { OnOk result (Passes (S.taken sink.old) (S.taken sink.new)
-        buffer.old buffer.new (row_text (best_row line) ++ tail.now)) }
-    ensures front { OnErr result (TakesFront (S.taken sink.old) (S.taken sink.new)
-        (buffer.old ++ (row_text (best_row line) ++ tail.now))) }
-    ensures lost { OnErr result (buffer.new ≡ []) }
-    ensures cause { HasCause (S.faults sink.old) (S.faults sink.new) result }
+    ensures { IsPutBy (S.taken sink.old) (S.taken sink.new) (S.faults sink.old) (S.faults sink.new)
+        buffer.old buffer.new (row_text (best_row line) ++ tail.now) result }
 {
     let mut digits = Buffer::new();
     let number = digits.format(line).as_bytes();
@@ -122,12 +91,8 @@ pub(crate) fn put_text<S: Sink>(
     best: u64,
     tail: &[u8],
 ) -> Result<(), WriteFault>
-    ensures passed { OnOk result (Passes (S.taken sink.old) (S.taken sink.new)
-        buffer.old buffer.new (scores_text scores.now best tail.now)) }
-    ensures front { OnErr result (TakesFront (S.taken sink.old) (S.taken sink.new)
-        (buffer.old ++ scores_text scores.now best tail.now)) }
-    ensures lost { OnErr result (buffer.new ≡ []) }
-    ensures cause { HasCause (S.faults sink.old) (S.faults sink.new) result }
+    ensures { IsPutBy (S.taken sink.old) (S.taken sink.new) (S.faults sink.old) (S.faults sink.new)
+        buffer.old buffer.new (scores_text scores.now best tail.now) result }
 {
     put_scores(buffer, sink, scores)?;
     put_best(buffer, sink, best, tail)

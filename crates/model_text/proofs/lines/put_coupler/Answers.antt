@@ -1,6 +1,6 @@
 use Rattle.std.proofs.Common.{append_assoc, ◌++◌}
 use Rattle.model_text.proofs.Common.{◌≡◌, ◌-◌, ℕ, [], ◌∷◌, length, take, drop, ap, sym, ◌∙◌, arith, to_z, of_z, w64, rules, take_rest, decimal, signed_decimal, row_text}
-use Rattle.model_text.proofs.Puts.{same_front, same_passed}
+use Rattle.model_text.proofs.Puts.{put_same}
 use Rattle.model_text.proofs.lines.put_coupler.Goals as goal
 
 pub returns-in-Ok : goal.returns-in-Ok
@@ -14,9 +14,5 @@ returns-in-Ok g c =
     let row : drop c.args.start c.args.front.now ++ row_text (decimal entry.second ∷ signed_decimal (to_z w64 (of_z w64 c.in-Ok.weight)) ∷ [])
     ≡ row_text (decimal entry.first ∷ decimal entry.second ∷ signed_decimal entry.weight ∷ []) =
     grind (arith, append_assoc, c.requires.front, narrow) in
-    let text = rest ∙ c.write_coupler-at.ensures.written ∙ row in record {
-      passed = same_passed c.put.result _ _ c.args.buffer.now c.put.new.self _ _ text c.put.ensures.passed;
-      front = same_front c.put.result _ _ c.args.buffer.now _ _ text c.put.ensures.front;
-      lost = c.put.ensures.lost;
-      cause = c.put.ensures.cause;
-    }
+    let text = rest ∙ c.write_coupler-at.ensures.written ∙ row in
+    put_same text (record { passed = c.put.ensures.passed; front = c.put.ensures.front; lost = c.put.ensures.lost; cause = c.put.ensures.cause })

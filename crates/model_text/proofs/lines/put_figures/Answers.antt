@@ -1,6 +1,6 @@
 use Rattle.model_text.proofs.Common.{◌≡◌, pos, rules, signed_decimal}
 use Rattle.model_text.proofs.Numerals.{size_fits}
-use Rattle.model_text.proofs.Puts.{same_front, same_passed}
+use Rattle.model_text.proofs.Puts.{put_same}
 use Rattle.model_text.proofs.RowPieces.{figures_pieces}
 use Rattle.model_text.proofs.lines.put_figures.Goals as goal
 
@@ -13,10 +13,7 @@ returns g c =
     let unit : c.as_bytes-counted.result.now ≡ signed_decimal c.args.unit = search rules in
     let number : c.as_bytes-number.result.now ≡ signed_decimal (pos c.args.variables) = search rules in
     let rows = figures_pieces f c.args.unit c.args.variables _ _ _ _ _ scale offset threshold unit number in record {
-      passed = same_passed c.put_pieces.result _ _ c.args.buffer.now c.put_pieces.new.buffer _ _ rows c.put_pieces.ensures.passed;
-      front = same_front c.put_pieces.result _ _ c.args.buffer.now _ _ rows c.put_pieces.ensures.front;
-      lost = c.put_pieces.ensures.lost;
-      cause = c.put_pieces.ensures.cause;
+      put = put_same rows c.put_pieces.ensures;
       fits = record {
         scale = size_fits f.scale (search rules);
         offset = size_fits f.offset (search rules);

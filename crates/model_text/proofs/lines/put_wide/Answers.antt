@@ -1,5 +1,5 @@
 use Rattle.model_text.proofs.Common.{◌≡◌, rules, decimal, signed_decimal}
-use Rattle.model_text.proofs.Puts.{same_front, same_passed}
+use Rattle.model_text.proofs.Puts.{put_same}
 use Rattle.model_text.proofs.RowPieces.{three_pieces}
 use Rattle.model_text.proofs.lines.put_wide.Goals as goal
 
@@ -9,9 +9,5 @@ returns g c =
     let first : c.as_bytes-first.result.now ≡ decimal entry.first = search rules in
     let second : c.as_bytes-second.result.now ≡ decimal entry.second = search rules in
     let weight : c.as_bytes-weight.result.now ≡ signed_decimal entry.weight = search rules in
-    let row = three_pieces _ _ _ _ _ _ first second weight in record {
-      passed = same_passed c.put_pieces.result _ _ c.args.buffer.now c.put_pieces.new.buffer _ _ row c.put_pieces.ensures.passed;
-      front = same_front c.put_pieces.result _ _ c.args.buffer.now _ _ row c.put_pieces.ensures.front;
-      lost = c.put_pieces.ensures.lost;
-      cause = c.put_pieces.ensures.cause;
-    }
+    let row = three_pieces _ _ _ _ _ _ first second weight in
+    put_same row c.put_pieces.ensures

@@ -1,5 +1,4 @@
-use Rattle.state_scores.proofs.Common.{◌≡◌, ◌^◌, ◌<◌, [], ◌++◌, Bool, length, List, All, refl, sym, ap, ◌∙◌, subst, append_assoc, append-nil, rules, StateLine, Judgement, zip, IsEvaluationOf, Standing, after_states, standing}
-use Rattle.state_scores.specs.Batches.{AreCosts, AreEnergies}
+use Rattle.state_scores.proofs.Common.{◌≡◌, ℕ, ◌^◌, ◌<◌, [], ◌++◌, Bool, length, List, All, refl, sym, ap, ◌∙◌, subst, append_assoc, append-nil, rules, StateLine, zip, IsEvaluationOf, Standing, after_states, standing}
 use Rattle.state_scores.proofs.Best.{IsStanding, standing_after, standing_of_all}
 use Rattle.state_scores.proofs.TakenStates.{fewer_left, low_left, low_taken, none_left}
 use Rattle.state_scores.proofs.evaluating.Evaluation.go_on.Goals as goal
@@ -34,7 +33,7 @@ pub take_all-requires-clause-lines : goal.take_all-requires-clause-lines
 take_all-requires-clause-lines g c =
     let taken = c.in_ok-read.ensures.taken in
     subst (λ (l : List StateLine). All (λ s. s.0 < 2 ^ 32) l)
-    (λ k. zip (sym c.judge.ensures.lines k) (sym c.judge.ensures.states k))
+    (λ k. zip (sym {A = List ℕ} c.judge.ensures.lines k) (sym {A = List (List Bool)} c.judge.ensures.states k))
     (low_taken _ _ _ taken.front c.loop-batch.invariant.1.lines)
 
 pub take_all-requires-clause-width : goal.take_all-requires-clause-width
@@ -56,14 +55,8 @@ loop-batch-preserved g c =
     let states = zip c.read.new.self.lines.items c.read.new.self.states in
     let rest = c.read.new.states.states in
     let j = g.J.Judge.judgement c.args.judge.now in
-    let costs : AreCosts j c.judge.new.self.states c.judge.new.self.costs.items =
-    subst (λ (l : List (List Bool)). AreCosts j l c.judge.new.self.costs.items) (sym c.judge.ensures.states)
-    (subst (λ (now : Judgement). AreCosts now c.read.new.self.states c.judge.new.self.costs.items) so_far.same
-    c.judge.ensures.costs) in
-    let energies : AreEnergies j c.judge.new.self.states c.judge.new.self.energies.items =
-    subst (λ (l : List (List Bool)). AreEnergies j l c.judge.new.self.energies.items) (sym c.judge.ensures.states)
-    (subst (λ (now : Judgement). AreEnergies now c.read.new.self.states c.judge.new.self.energies.items) so_far.same
-    c.judge.ensures.energies) in
+    let costs = rw so_far.same at c.judge.ensures.costs in
+    let energies = rw so_far.same at c.judge.ensures.energies in
     let known : standing c.take_all.new.self ≡ after_states j (standing c.loop-batch.self) states =
     c.in_ok-take_all.ensures.taken j costs energies
     ∙ (λ k. after_states j (standing c.loop-batch.self) (zip (c.judge.ensures.lines k) (c.judge.ensures.states k))) in (

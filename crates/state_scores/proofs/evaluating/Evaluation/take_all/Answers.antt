@@ -28,6 +28,5 @@ loop-place-preserved c =
 
 pub returns-clause-taken : goal.returns-clause-taken
 returns-clause-taken c = λ j costs energies.
-    c.loop-place.invariant.taken j costs energies
-    ∙ ap (after_states j (standing c.args.self.now))
+    c.loop-place.invariant.taken j costs energies ∙ ap (after_states j (standing c.args.self.now))
     (all_taken _ _ _ c.requires.numbered (search rules))
