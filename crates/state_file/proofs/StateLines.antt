@@ -1,11 +1,7 @@
 -- The lines of a text that are states: the first of them, how many there are, and where lines are cut.
-use Rattle.state_file.proofs.Common.{nat_tests, ◌≡◌, ℕ, ◌+◌, ◌<◌, ◌≤◌, Bool, true, false, ◌&&◌, List, [], ◌∷◌, ◌++◌, length, map, take, drop, get_or, set, cond, not, arith, refl, sym, ap, ◌∙◌, find, slice_get, All, list_all, slice_split, onto_first, position_or_len, option_map, take_more, take_more_set, take_all, map-append, length-map, All-nil, and-true, list_all-append, length-enumerate_from, length-filter, count_by-le-length, length-slice_split, slice_split_first, is_feed, StateLine, is_bit, is_one, is_state, lines_of, states_from, trimmed_line}
+use Rattle.state_file.proofs.Common.{nat_tests, ◌≡◌, ℕ, ◌+◌, ◌<◌, ◌≤◌, Bool, true, false, ◌&&◌, List, [], ◌∷◌, ◌++◌, length, map, take, drop, get_or, set, cond, not, arith, refl, sym, ap, ◌∙◌, find, slice_get, All, list_all, slice_split, onto_first, position_or_len, option_map, take_more, take_more_set, take_all, map-append, length-map, All-nil, and-true, list_all-append, length-enumerate_from, length-filter, count_by-le-length, length-slice_split, slice_split_first, is_blank, is_feed, prefix_len, StateLine, is_bit, is_one, is_state, lines_of, states_from, trimmed_line}
 
 -- ---- the states among lines
-
--- the number and the bits of a line
-abbrev state_line : ℕ × List ℕ → StateLine
-state_line line = (line.0, map is_one line.1)
 
 -- the first line that is a state is the first of all that are
 pub first_state : (width number : ℕ) (lines : List (List ℕ))
@@ -29,6 +25,12 @@ numbered_states top width number (line ∷ lines) room =
     grind (arith, nat_tests, numbered_states top width (number + 1) lines (omega arith))
 
 -- ---- where lines are cut
+
+-- the blanks in front, counted up to the first byte that is none
+pub blanks_in_front : (line : List ℕ)
+    → position_or_len (λ c. not (is_blank c)) line ≡ prefix_len is_blank line
+blanks_in_front [] = refl
+blanks_in_front (byte ∷ line) = grind (arith, nat_tests, blanks_in_front line)
 
 -- each line but the last one has a line feed
 pub few_lines : (text : List ℕ) → length (lines_of text) ≤ length text + 1

@@ -3,26 +3,17 @@
 //! A line is judged where it stands in the text, and a state's bits go into a buffer that is lent, so
 //! nothing here takes memory.
 ghost use Rattle.std.specs.Prelude.{◌≡◌, ◌+◌, ◌≤◌, ◌<◌, ◌^◌, ◌∷◌, [], All, length, map, IfSome, MatchOption, option_copied};
-ghost use Rattle.std.specs.List.{position_or_len};
-ghost use Rattle.whole_text.specs.Tokens.{is_feed};
 ghost use Rattle.state_file.specs.States.{is_one, lines_left, lines_of, states_of, trimmed_line};
 
 use crate::reading::{is_one, is_state, trimmed_line};
 use std::marker::Model;
-
-/// How many bytes stand before the first line feed.
-fn line_length(text: &[u8]) -> usize
-    ensures count { result ≡ position_or_len is_feed text.now }
-    ensures within { result ≤ length text.now }
-{
-    text.iter().take_while(|byte| **byte != b'\n').count()
-}
+use whole_text::line_len;
 
 /// The first line of a text, trimmed, and what follows its line feed, where it has one.
 fn cut_line(text: &[u8]) -> (&[u8], Option<&[u8]>)
     ensures { lines_of text.now ≡ result.0.now ∷ lines_left (option_copied result.1) }
 {
-    let end = line_length(text);
+    let end = line_len(text);
     let line = trimmed_line(&text[..end]);
     if end == text.len() {
         (line, None)
@@ -79,7 +70,7 @@ impl<'a> States<'a> {
     }
 
     /// The next line that is a state, trimmed, and its number.
-    fn next_line(&mut self) -> Option<(u64, &'a [u8])>
+    pub(crate) fn next_line(&mut self) -> Option<(u64, &'a [u8])>
         ensures width { self.new.width ≡ self.old.width }
         ensures next { MatchOption result ((self.old.states ≡ []) × (self.new.states ≡ []))
             (λ found. self.old.states ≡ (found.0, map is_one found.1.now) ∷ self.new.states) }

@@ -2,34 +2,16 @@
 //!
 //! A line that is no state takes no memory: it is judged where it stands in the text.
 
-ghost use Rattle.std.specs.Prelude.{
-  ◌≡◌,
-  ◌≤◌,
-  length,
-  map,
-  find,
-  option_copied,
-  IfOk,
-  IsErrOf,
-  None,
-  Some,
-};
-ghost use Rattle.std.specs.List.{list_all, prefix_len, suffix_len};
+ghost use Rattle.std.specs.Prelude.{◌≡◌, ◌≤◌, length, map, IfOk, IsErrOf, None, Some};
+ghost use Rattle.std.specs.List.{list_all, suffix_len};
 ghost use Rattle.whole_text.specs.Tokens.{is_blank};
-ghost use Rattle.state_file.specs.States.{
-  is_zero,
-  is_one,
-  is_bit,
-  is_state,
-  trimmed_line,
-  lines_of,
-  state_of,
-};
+ghost use Rattle.state_file.specs.States.{is_zero, is_one, is_bit, is_state, trimmed_line, state_of};
 
 use crate::answer::StateAnswer;
+use crate::lines::States;
 use base::NoMemory;
 use std::alloc::Global;
-use whole_text::is_blank;
+use whole_text::{blank_len, is_blank};
 
 fn is_zero(byte: u8) -> bool
     ensures { result ≡ is_zero byte }
@@ -43,13 +25,6 @@ pub(crate) fn is_one(byte: u8) -> bool
     byte == b'1' || byte == b'+'
 }
 
-fn blanks_in_front(line: &[u8]) -> usize
-    ensures count { result ≡ prefix_len is_blank line.now }
-    ensures within { result ≤ length line.now }
-{
-    line.iter().take_while(|byte| is_blank(**byte)).count()
-}
-
 fn blanks_at_end(line: &[u8]) -> usize
     ensures count { result ≡ suffix_len is_blank line.now }
     ensures within { result ≤ length line.now }
@@ -60,10 +35,11 @@ fn blanks_at_end(line: &[u8]) -> usize
         .count()
 }
 
+#[tactic(auto, using(crate::proofs::StateLines::blanks_in_front))]
 pub(crate) fn trimmed_line(line: &[u8]) -> &[u8]
     ensures { result.now ≡ trimmed_line line.now }
 {
-    let rest = &line[blanks_in_front(line)..];
+    let rest = &line[blank_len(line)..];
     &rest[..rest.len() - blanks_at_end(rest)]
 }
 
@@ -91,15 +67,6 @@ pub(crate) fn is_state(line: &[u8], width: usize) -> bool
     line.len() == width && are_bits(line)
 }
 
-/// The first line that is a state, trimmed.
-fn state_line(text: &[u8], width: usize) -> Option<&[u8]>
-    ensures { option_copied result ≡ find (is_state width) (lines_of text.now) }
-{
-    text.split(|byte| *byte == b'\n')
-        .map(|line| trimmed_line(line))
-        .find(|line| is_state(line, width))
-}
-
 fn bits(alloc: Global, state: &[u8]) -> Result<Vec<bool>, NoMemory>
     ensures { IfOk result (λ bits. bits.items ≡ map is_one state.now) }
 {
@@ -111,8 +78,9 @@ pub fn read_state(alloc: Global, text: &[u8], length: usize) -> Result<Vec<bool>
     ensures state { IfOk result (λ bits. state_of length text.now ≡ Some bits.items) }
     ensures no_state { IsErrOf result StateAnswer.NoState → state_of length text.now ≡ None }
 {
-    match state_line(text, length) {
-        Some(state) => Ok(bits(alloc, state)?),
+    let mut states = States::new(text, length);
+    match states.next_line() {
+        Some((_, state)) => Ok(bits(alloc, state)?),
         None => Err(StateAnswer::NoState),
     }
 }
