@@ -41,9 +41,9 @@ each P Q more es h = recursion_from_All Q es (All-weaker P Q more es h)
 pub nodes_counted : (ns cs : List Entry) → All IsOfNode ns → All IsOfPair cs
     → count_by is_node (ns ++ cs) ≡ length ns
 nodes_counted ns cs nodes couplers =
-    grind (arith, nat_tests, sum_by-append, all_counted, each, node-counts, none_counted, pair-counts-not)
+    omega (arith, sum_by-append, all_counted is_node ns (each IsOfNode (λ e. is_node e ≡ true) node-counts ns nodes), none_counted is_node cs (each IsOfPair (λ e. is_node e ≡ false) pair-counts-not cs couplers))
 
 pub couplers_counted : (ns cs : List Entry) → All IsOfNode ns → All IsOfPair cs
     → count_by is_coupler (ns ++ cs) ≡ length cs
 couplers_counted ns cs nodes couplers =
-    grind (arith, nat_tests, sum_by-append, none_counted, each, node-counts-not, all_counted, pair-counts)
+    omega (arith, sum_by-append, none_counted is_coupler ns (each IsOfNode (λ e. is_coupler e ≡ false) node-counts-not ns nodes), all_counted is_coupler cs (each IsOfPair (λ e. is_coupler e ≡ true) pair-counts cs couplers))

@@ -100,8 +100,7 @@ pub record IsPacked (starts : List RowStart) (seconds : List ℕ) (weights : Lis
 
 -- the entries that are held
 abbrev pub packed_entries : List RowStart → List ℕ → List ℤ → List Entry
-packed_entries starts seconds weights =
-    coupled (firsts_of (length seconds) starts) seconds weights
+packed_entries starts seconds weights = coupled (firsts_of (length seconds) starts) seconds weights
 
 -- ---- what is left of them
 

@@ -1,6 +1,7 @@
 //! Whole numbers in as few bytes as they need.
 ghost use Rattle.std.specs.Prelude.{◌≡◌, ◌++◌, ◌∷◌, [], ◌<◌, ◌≤ℤ◌, IfOk, OnOk, OnErr, length, map, pos, int_div};
 ghost use Rattle.std.specs.List.{slice_index_or};
+ghost use Rattle.bits_model.specs.Entries.{held_weights};
 
 use base::NoMemory;
 use std::alloc::Global;
@@ -38,15 +39,23 @@ impl Model for WeightList {
     ghost view = { λ a. held_weights a.held };
 }
 
-/// The same numbers, and room for one more.
-fn widened(alloc: Global, narrow: &[i64]) -> Result<Vec<i128>, NoMemory>
-    ensures { IfOk result (λ wide. wide.items ≡ narrow.now) }
+/// The same numbers, and one more.
+fn widened(alloc: Global, narrow: &[i64], last: i128) -> Result<Vec<i128>, NoMemory>
+    ensures { IfOk result (λ wide. wide.items ≡ narrow.now ++ last ∷ []) }
 {
     let mut wide = Vec::with_capacity(alloc, narrow.len().saturating_add(1))?;
     for weight in narrow {
         wide.push(i128::from(*weight))?;
     }
+    wide.push(last)?;
     Ok(wide)
+}
+
+/// Holds these weights, and lets go of the others.
+fn hold_wide(held: &mut HeldWeights, wide: Vec<i128>)
+    ensures { held_weights held.new ≡ wide.items }
+{
+    *held = HeldWeights::Wide(wide);
 }
 
 /// A narrow weight divided by a unit, and rounded towards 0.
@@ -129,24 +138,23 @@ impl WeightList {
         }
     }
 
-    /// Appends a weight of any size.
+    /// Appends a weight of any size, to wide ones.
     #[inline(never)]
     fn push_any(&mut self, weight: i128) -> Result<(), NoMemory>
         ensures pushed { OnOk result (self.new ≡ self.old ++ weight ∷ []) }
         ensures unchanged { OnErr result (self.new ≡ self.old) }
     {
         match &mut self.held {
-            HeldWeights::Narrow(weights) => match i64::try_from(weight) {
-                Ok(narrow) => weights.push(narrow)?,
-                Err(_) => {
-                    let mut wide = widened(self.alloc, weights)?;
-                    wide.push(weight)?;
-                    self.held = HeldWeights::Wide(wide);
-                }
-            },
-            HeldWeights::Wide(weights) => weights.push(weight)?,
+            HeldWeights::Narrow(weights) => {
+                let wide = widened(self.alloc, weights, weight)?;
+                hold_wide(&mut self.held, wide);
+                Ok(())
+            }
+            HeldWeights::Wide(weights) => {
+                weights.push(weight)?;
+                Ok(())
+            }
         }
-        Ok(())
     }
 
     /// Appends a weight. A narrow one to narrow ones takes no call.

@@ -1,5 +1,5 @@
 -- The position that is told is that of the first word that cannot stand.
-use Rattle.command_words.proofs.Common.{nat_tests, ◌<◌, ◌≡◌, ℕ, suc, ◌+◌, List, [], ◌∷◌, ◌++◌, length, take, drop, Option, Some, None, Result, Ok, Err, refl, ap, sym, subst, ◌∙◌, ◌⊎◌, inl, inr, arith, ◌≤◌, codes, unwrap_or, option_map_or, ok_or, drop-take, length-drop, digits_number, Format, Notice, Origin, TargetWord, Verb, Keys, graph_with, keys_from, no_keys, ◌>>=◌, alone, clauses_of, command_of, commanding, drawn_words, file_words, first_key, format_of, notice_of, request_of, source_words, target_of, verb_of, AskForTooLarge, CanGoOn, PositionsTellTheFirst, File, Drawn, Whole}
+use Rattle.command_words.proofs.Common.{◌<◌, ◌≡◌, ℕ, suc, ◌+◌, List, [], ◌∷◌, ◌++◌, length, take, drop, Option, Some, None, Result, Ok, Err, refl, ap, sym, subst, ◌∙◌, ◌⊎◌, inl, inr, arith, ◌≤◌, codes, unwrap_or, option_map_or, ok_or, drop-take, length-drop, digits_number, Format, Notice, Origin, TargetWord, Verb, Keys, graph_with, keys_from, no_keys, ◌>>=◌, alone, clauses_of, command_of, commanding, drawn_words, file_words, first_key, format_of, notice_of, request_of, source_words, target_of, verb_of, AskForTooLarge, CanGoOn, PositionsTellTheFirst, File, Drawn, Whole}
 use Rattle.command_words.specs.declared.commands.Format.TheVariants as formats
 use Rattle.command_words.specs.declared.commands.NodeModel.TheVariants.{Qubo}
 use Rattle.command_words.specs.declared.commands.Notice.TheVariants as notices
@@ -31,15 +31,12 @@ unfolding small_graph
 room_at_first (Nodes model) = tt
 room_at_first Chimera = graph_with-its small_graph
 
-keys_of_none : (verb : Verb) (target : TargetWord) (at n : ℕ)
-    → keys_from verb target no_keys at (drop n []) ≡ Ok no_keys
-keys_of_none verb target at n = ap (keys_from verb target no_keys at) (drop-nil n)
-
 -- a word that cannot stand behind words that go on
 told_at : {A : Type 0} (words : List (List ℕ)) (j i : ℕ) → the_err {A = A} (suc j) ≡ Err (i + 1)
     → CanGoOn (take j words) → (j < length words → (more : List (List ℕ))
     → request_of (take (suc j) words ++ more) ≡ Err (suc j)) → Told words i
-told_at words j i e before wrong = grind (arith, nat_tests)
+told_at words j i e before wrong =
+    at_index words j i e (record { before = inl before; wrong = wrong })
 
 -- ---- words that say a source and its target
 
@@ -157,16 +154,11 @@ module _ (verb : Verb) (n : ℕ) (first : List ℕ) (no_notice : notice_of first
         at_key rest i q (stop verb target no_keys (first_key verb) q (drop n rest)
         (ap (λ k. keys_from verb target no_keys (first_key verb) (drop k words)) (sym behind) ∙ e)) cc
 
-    on_source : (rest : List (List ℕ)) (i : ℕ)
-        → with_source verb (first ∷ second ∷ third ∷ fourth ∷ rest) origin target ≡ Err (i + 1)
-        → Told (first ∷ second ∷ third ∷ fourth ∷ rest) i
-    on_source rest i f = by_keys rest i _ refl f
-
     -- four words go on by themselves
     goes_on : CanGoOn (first ∷ second ∷ third ∷ fourth ∷ [])
     goes_on =
-        go_on second third fourth origin target say [] no_keys small_graph (keys_of_none verb target (first_key verb) n)
-        (room_at_first target)
+        go_on second third fourth origin target say [] no_keys small_graph
+        (ap (keys_from verb target no_keys (first_key verb)) (drop-nil n)) (room_at_first target)
 
 -- ---- the words of a source in a file
 
@@ -176,7 +168,8 @@ module _ (verb : Verb) (n : ℕ) (first : List ℕ) (no_notice : notice_of first
   says_file : (second third fourth : List ℕ) (format : Format) (target : TargetWord)
       → format_of second ≡ Some format → target_of third ≡ Some target
       → Say verb n first no_notice is_verb behind second third fourth (File format (Whole 3)) target
-  says_file second third fourth format target e f rest = grind (arith, nat_tests)
+  says_file second third fourth format target e f rest =
+      rw (of_file (first ∷ second ∷ third ∷ fourth ∷ rest), e, f) refl
 
   third_goes_on : (second third : List ℕ) (format : Format) (target : TargetWord)
       → format_of second ≡ Some format → target_of third ≡ Some target
@@ -189,10 +182,12 @@ module _ (verb : Verb) (n : ℕ) (first : List ℕ) (no_notice : notice_of first
   second_goes_on : (second : List ℕ) (format : Format) → format_of second ≡ Some format
       → CanGoOn (first ∷ second ∷ [])
   second_goes_on second format e =
-      grind (arith, nat_tests, third_goes_on second (codes "qubo") format (Nodes Qubo) e refl)
+      let all = third_goes_on second (codes "qubo") format (Nodes Qubo) e refl in
+      (codes "qubo" ∷ all.0, all.1, all.2)
 
   first_goes_on : CanGoOn (first ∷ [])
-  first_goes_on = grind (arith, nat_tests, second_goes_on (codes "wcnf") formats.Wcnf refl)
+  first_goes_on =
+      let all = second_goes_on (codes "wcnf") formats.Wcnf refl in (codes "wcnf" ∷ all.0, all.1, all.2)
 
   on_target : (second third : List ℕ) (rest : List (List ℕ)) (format : Format)
       (target : TargetWord) (i : ℕ) → format_of second ≡ Some format → target_of third ≡ Some target
@@ -202,8 +197,8 @@ module _ (verb : Verb) (n : ℕ) (first : List ℕ) (no_notice : notice_of first
   on_target second third [] format target i e f g =
       at_index _ 3 i g (late _ 3 (omega arith) (inl (third_goes_on second third format target e f)))
   on_target second third (fourth ∷ rest) format target i e f g =
-      on_source verb n first no_notice is_verb behind second third fourth (File format (Whole 3)) target
-      (says_file second third fourth format target e f) rest i g
+      by_keys verb n first no_notice is_verb behind second third fourth (File format (Whole 3)) target
+      (says_file second third fourth format target e f) rest i _ refl g
 
   by_target : (second third : List ℕ) (rest : List (List ℕ)) (format : Format) (i : ℕ)
       → format_of second ≡ Some format → (o : Option TargetWord) → target_of third ≡ o
@@ -259,7 +254,7 @@ module _ (first : List ℕ) (no_notice : notice_of first ≡ None)
       → CanGoOn (first ∷ second ∷ [])
   unfolding digits_number
   second_is_drawn second number a =
-      grind (arith, nat_tests, third_is_drawn second (codes "0") number 0 a refl)
+      let all = third_is_drawn second (codes "0") number 0 a refl in (codes "0" ∷ all.0, all.1, all.2)
 
   first_is_drawn : CanGoOn (first ∷ [])
   unfolding digits_number
@@ -271,10 +266,11 @@ module _ (first : List ℕ) (no_notice : notice_of first ≡ None)
       >>= λ source. with_source verbs.Sample (first ∷ second ∷ third ∷ fourth ∷ rest) source.0 source.1)
       ≡ Err (i + 1) → Told (first ∷ second ∷ third ∷ fourth ∷ rest) i
   by_drawn_target second third fourth rest number clauses i a b None e f =
-      grind (arith, nat_tests, third_is_drawn second third number clauses a b)
+      told_at _ 3 i f (third_is_drawn second third number clauses a b)
+      (λ less more. rw (no_notice, is_verb, a, b, e) refl)
   by_drawn_target second third fourth rest number clauses i a b (Some target) e f =
-      on_source verbs.Sample 0 first no_notice is_verb refl second third fourth (Drawn number clauses)
-      target (says_drawn second third fourth number clauses target a b e) rest i f
+      by_keys verbs.Sample 0 first no_notice is_verb refl second third fourth (Drawn number clauses)
+      target (says_drawn second third fourth number clauses target a b e) rest i _ refl f
 
   by_clauses : (second third : List ℕ) (rest : List (List ℕ)) (number i : ℕ)
       → digits_number second ≡ Some number → (o : Option ℕ) → clauses_of third ≡ o
@@ -282,7 +278,8 @@ module _ (first : List ℕ) (no_notice : notice_of first ≡ None)
       >>= λ source. with_source verbs.Sample (first ∷ second ∷ third ∷ rest) source.0 source.1)
       ≡ Err (i + 1) → Told (first ∷ second ∷ third ∷ rest) i
   by_clauses second third rest number i a None e f =
-      grind (arith, nat_tests, at_index, second_is_drawn)
+      told_at _ 2 i f (second_is_drawn second number a)
+      (λ less more. rw (no_notice, is_verb, a, e) refl)
   by_clauses second third [] number i a (Some clauses) e f =
       at_index _ 3 i f (late _ 3 (omega arith) (inl (third_is_drawn second third number clauses a e)))
   by_clauses second third (fourth ∷ rest) number i a (Some clauses) e f =
@@ -292,15 +289,17 @@ module _ (first : List ℕ) (no_notice : notice_of first ≡ None)
       → digits_number second ≡ o → ((ok_or o 2 >>= with_number (first ∷ second ∷ rest))
       >>= λ source. with_source verbs.Sample (first ∷ second ∷ rest) source.0 source.1) ≡ Err (i + 1)
       → Told (first ∷ second ∷ rest) i
-  by_number second rest i None e f = grind (arith, nat_tests, at_index, first_is_drawn)
-  by_number second [] i (Some number) e f = grind (arith, nat_tests, at_index, second_is_drawn)
+  by_number second rest i None e f =
+      told_at _ 1 i f first_is_drawn (λ less more. rw (no_notice, is_verb, e) refl)
+  by_number second [] i (Some number) e f =
+      at_index _ 2 i f (late _ 2 (omega arith) (inl (second_is_drawn second number e)))
   by_number second (third ∷ rest) i (Some number) e f =
       by_clauses second third rest number i e (clauses_of third) refl f
 
   on_drawn_words : (rest : List (List ℕ)) (i : ℕ) → (drawn_words (first ∷ rest)
       >>= λ source. with_source verbs.Sample (first ∷ rest) source.0 source.1) ≡ Err (i + 1)
       → Told (first ∷ rest) i
-  on_drawn_words [] i e = grind (arith, nat_tests, at_index, first_is_drawn)
+  on_drawn_words [] i e = at_index _ 1 i e (late _ 1 (omega arith) (inl first_is_drawn))
   on_drawn_words (second ∷ rest) i e = by_number second rest i (digits_number second) refl e
 
 -- ---- all words
@@ -363,5 +362,5 @@ tell_the_first words i e =
     let next : suc i ≡ i + 1 = omega arith in
     record {
       before = told.before;
-      wrong = λ less more. grind (arith, nat_tests);
+      wrong = λ less more. subst (λ k. request_of (take k words ++ more) ≡ Err k) next (told.wrong less more);
     }

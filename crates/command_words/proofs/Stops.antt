@@ -193,7 +193,7 @@ pub record Told (words : List (List ℕ)) (i : ℕ) : Type 0 where
 -- words that are refused at an index
 pub at_index : {A : Type 0} (words : List (List ℕ)) (j i : ℕ)
     → the_err {A = A} (suc j) ≡ Err (i + 1) → Told words j → Told words i
-at_index words j i e first = grind (arith, nat_tests)
+at_index words j i e first = let same : suc j ≡ i + 1 = cc in subst (Told words) (omega (arith, same)) first
 
 -- words of which none is wrong
 pub late : (words : List (List ℕ)) (i : ℕ) → length words ≤ i → CanGoOn words ⊎ AskForTooLarge words
@@ -210,7 +210,8 @@ pad (suc n) [] = [] ∷ pad n []
 pad (suc n) (word ∷ words) = pad n words
 
 pub drop-nil : (n : ℕ) → drop n (the_none) ≡ []
-drop-nil n = grind (arith, nat_tests)
+drop-nil zero = refl
+drop-nil (suc n) = refl
 
 pub drop-pad : (n : ℕ) (words more : List (List ℕ))
     → drop n (words ++ (pad n words ++ more)) ≡ drop n words ++ more

@@ -114,8 +114,7 @@ on_fourth_word format target keys ask = commanding (File format (Whole 3)) targe
 
 -- the summary of the sample of these numbers
 abbrev pub summary_of : ℕ → ℕ → Target → Keys → Command
-summary_of number clauses target keys =
-    commanding (Drawn number clauses) target keys asks.Summary
+summary_of number clauses target keys = commanding (Drawn number clauses) target keys asks.Summary
 
 -- the key that chooses a normal form
 abbrev pub normal_key : Normal → List ℕ

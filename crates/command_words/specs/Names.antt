@@ -89,8 +89,7 @@ if_named command which = option_map_or (λ place. which ∷ []) (place_of comman
 -- The files that the model of a command is made of, in the order in which they are taken. At most
 -- three: the source, the list of dead parts, and the map.
 abbrev pub model_files : Command → List Which
-model_files command =
-    if_named command Source ++ if_named command Dead ++ if_named command Map
+model_files command = if_named command Source ++ if_named command Dead ++ if_named command Map
 
 -- The files that are taken once the model stands. The source is read first, so a fault in it is
 -- told before one in these.

@@ -196,25 +196,25 @@ fn ties_of(value: &str) -> Option<ChainStrength>
 
 /// The keys of the chains of a graph: the keys with one more, whose word stands at the index `at`,
 /// or none where it cannot stand.
-fn with_chain_pair(keys: Keys, at: usize, name: &str, value: &str) -> Option<Keys>
+fn with_chain_pair(mut keys: Keys, at: usize, name: &str, value: &str) -> Option<Keys>
     ensures { result ≡ with_chain_pair keys at name.now value.now }
 {
     match name {
         "embed" => {
-            let chains = Some(once(keys.chains, embed_of(value))?);
-            Some(Keys { chains, ..keys })
+            keys.chains = Some(once(keys.chains, embed_of(value))?);
+            Some(keys)
         }
         "map" => {
-            let chains = Some(once(keys.chains, Some(Chaining::Map(WordAt::Value(at))))?);
-            Some(Keys { chains, ..keys })
+            keys.chains = Some(once(keys.chains, Some(Chaining::Map(WordAt::Value(at))))?);
+            Some(keys)
         }
         "dead" => {
-            let dead = Some(once(keys.dead, Some(WordAt::Value(at)))?);
-            Some(Keys { dead, ..keys })
+            keys.dead = Some(once(keys.dead, Some(WordAt::Value(at)))?);
+            Some(keys)
         }
         "chain" => {
-            let ties = Some(once(keys.ties, ties_of(value))?);
-            Some(Keys { ties, ..keys })
+            keys.ties = Some(once(keys.ties, ties_of(value))?);
+            Some(keys)
         }
         _ => None,
     }
@@ -222,21 +222,21 @@ fn with_chain_pair(keys: Keys, at: usize, name: &str, value: &str) -> Option<Key
 
 /// The keys of a graph: the keys with one more, whose word stands at the index `at`, or none where
 /// it cannot stand.
-fn with_graph_pair(keys: Keys, at: usize, name: &str, value: &str) -> Option<Keys>
+fn with_graph_pair(mut keys: Keys, at: usize, name: &str, value: &str) -> Option<Keys>
     ensures { result ≡ with_graph_pair keys at name.now value.now }
 {
     match name {
         "rows" => {
-            let rows = Some(once(keys.rows, side_of(value))?);
-            Some(Keys { rows, ..keys })
+            keys.rows = Some(once(keys.rows, side_of(value))?);
+            Some(keys)
         }
         "cols" => {
-            let cols = Some(once(keys.cols, side_of(value))?);
-            Some(Keys { cols, ..keys })
+            keys.cols = Some(once(keys.cols, side_of(value))?);
+            Some(keys)
         }
         "shore" => {
-            let shore = Some(once(keys.shore, side_of(value))?);
-            Some(Keys { shore, ..keys })
+            keys.shore = Some(once(keys.shore, side_of(value))?);
+            Some(keys)
         }
         _ => with_chain_pair(keys, at, name, value),
     }
@@ -244,13 +244,13 @@ fn with_graph_pair(keys: Keys, at: usize, name: &str, value: &str) -> Option<Key
 
 /// The keys with an order of elimination, whose word stands at the index `at`, or none where it
 /// cannot stand: `solve` alone takes one.
-fn with_order(verb: Verb, keys: Keys, at: usize) -> Option<Keys>
+fn with_order(verb: Verb, mut keys: Keys, at: usize) -> Option<Keys>
     ensures { result ≡ with_order verb keys at }
 {
     match verb {
         Verb::Solve => {
-            let order = Some(once(keys.order, Some(WordAt::Value(at)))?);
-            Some(Keys { order, ..keys })
+            keys.order = Some(once(keys.order, Some(WordAt::Value(at)))?);
+            Some(keys)
         }
         _ => None,
     }
@@ -261,7 +261,7 @@ fn with_order(verb: Verb, keys: Keys, at: usize) -> Option<Keys>
 fn with_pair(
     verb: Verb,
     target: TargetWord,
-    keys: Keys,
+    mut keys: Keys,
     at: usize,
     name: &str,
     value: &str,
@@ -270,24 +270,24 @@ fn with_pair(
 {
     match name {
         "normal" => {
-            let normal = Some(once(keys.normal, normal_of(value))?);
-            Some(Keys { normal, ..keys })
+            keys.normal = Some(once(keys.normal, normal_of(value))?);
+            Some(keys)
         }
         "high" => {
-            let high = Some(once(keys.high, high_of(value))?);
-            Some(Keys { high, ..keys })
+            keys.high = Some(once(keys.high, high_of(value))?);
+            Some(keys)
         }
         "unit" => {
-            let unit = Some(once(keys.unit, unit_of(value))?);
-            Some(Keys { unit, ..keys })
+            keys.unit = Some(once(keys.unit, unit_of(value))?);
+            Some(keys)
         }
         "bound" => {
-            let bound = Some(once(keys.bound, bound_of(value))?);
-            Some(Keys { bound, ..keys })
+            keys.bound = Some(once(keys.bound, bound_of(value))?);
+            Some(keys)
         }
         "slack" => {
-            let slack = Some(once(keys.slack, slack_of(value))?);
-            Some(Keys { slack, ..keys })
+            keys.slack = Some(once(keys.slack, slack_of(value))?);
+            Some(keys)
         }
         "order" => with_order(verb, keys, at),
         _ => match target {

@@ -30,5 +30,4 @@ stays_beyond spent k r n s over = let same = s.pairs in grind (arith, nat_tests)
 
 pub is_found : (spent : ℕ) (k : Constraint) (r n : ℕ) → IsSeen k r n → spent + n ≤ most_pairs
     → conflicting r k ≡ true → IsFound spent k (record { room = r; pairs = n })
-is_found spent k r n s within apart =
-    grind (arith, nat_tests, conflict-parts)
+is_found spent k r n s within apart = grind (arith, nat_tests, conflict-parts)

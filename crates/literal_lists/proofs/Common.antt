@@ -24,6 +24,5 @@ pub use Rattle.literal_lists.specs.Literals.{literal_cmp, with_literal, literal_
 pub use Rattle.std.proofs.lemmas.List.Filters.{dedup_is}
 pub use Rattle.std.proofs.lemmas.Grind.{elements}
 pub use Rattle.std.proofs.lemmas.Bool.Decides.{nat_tests}
-pub use Rattle.std.proofs.lemmas.Map.Iter.{rest_more}
 pub use Rattle.std.specs.Cmp.Lexicographic.{slice_cmp}
 pub use Rattle.std.specs.Ordering.{nat_cmp}

@@ -48,5 +48,4 @@ pub use Rattle.std.proofs.lemmas.Slice.Eq.{bytes_eq-Decides}
 pub use Rattle.std.proofs.lemmas.Option.{slice_get_within, get_or_from_slice_get, slice_get_cases}
 pub use Rattle.std.proofs.Math.IntN.{*ℤ_comm}
 pub use Rattle.base.proofs.Products.{multiply_out, integers, times_assoc}
-pub use Rattle.base.specs.declared.unit.UnitChoice.{UnitChoice}
 pub use Rattle.std.proofs.Math.Bridge.{le_prop}

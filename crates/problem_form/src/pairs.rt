@@ -2,7 +2,7 @@
 ghost use Rattle.std.specs.Prelude.{◌≡◌, ◌+◌, ◌*◌, ◌<◌, ◌≤◌, ◌^◌, length, map, max, fold, count_by, not};
 ghost use Rattle.std.specs.List.{sum_by};
 ghost use Rattle.problem_form.specs.Problems.{constraint_total};
-ghost use Rattle.problem_form.specs.Limits.{answered_number, binary_digits, clause_complements, clause_pairs, complements, constraint_degree, constraint_pairs, factor, most_complements, negations, pairs, product_pairs, slack_bits, summands};
+ghost use Rattle.problem_form.specs.Limits.{answered_number, binary_digits, clause_complements, clause_pairs, complements, constraint_pairs, factor, most_complements, negations, pairs, product_pairs, slack_bits, summands};
 
 use crate::clause_list::{ClauseList, ClauseRef};
 use crate::constraint_list::{ConstraintList, ConstraintRef};
@@ -139,20 +139,13 @@ fn summands_of(constraint: &ConstraintRef<'_>, normal: Normal) -> u128
     times(factor_of(normal, most_complements_of(constraint)), listed)
 }
 
-/// The largest degree of a product of a constraint.
-fn constraint_degree_of(constraint: &ConstraintRef<'_>) -> usize
-    ensures { result ≡ constraint_degree constraint.now }
-{
-    products_degree(0, constraint.products.again())
-}
-
 fn constraint_pairs_of(constraint: &ConstraintRef<'_>, normal: Normal) -> u128
     requires { constraint_total constraint.now < 2 ^ 100 }
     ensures { result ≡ answered_number (constraint_pairs normal constraint.now) }
 {
     let summands = summands_of(constraint, normal);
     let squared = times(summands, summands);
-    let degree = constraint_degree_of(constraint);
+    let degree = products_degree(0, constraint.products.again());
     if degree <= 1 {
         squared
     } else {

@@ -1,4 +1,4 @@
-use Rattle.batch_costs.proofs.Common.{◌≡◌, ℤ, pos, get_or, ap, ◌∙◌, unsigned_abs, List, length, to_z, of_z, rules, w128, to_z-of_z, get_or-replicate, if_so, assignment, is_marked}
+use Rattle.batch_costs.proofs.Common.{◌≡◌, ℤ, pos, get_or, ap, ◌∙◌, unsigned_abs, List, length, arith, sum_by, sum_by-cons, to_z, of_z, rules, w128, to_z-of_z, get_or-replicate, if_so, assignment, is_marked}
 use Rattle.bits_model.specs.declared.output.Entry.{Entry}
 use Rattle.bits_model.specs.Output.{bits_energy}
 use Rattle.batch_costs.proofs.MarkedWords.{entry-marked, size-if_so, sums_begin, sums_left}
@@ -13,6 +13,14 @@ loop-entry-init c = record {
       c.into_iter-entry-iterator.result c.args.entries.now _
       (c.into_iter-entry-iterator.ensures.into_iter_gives ∙ c.iter-entry-items.ensures) none;
 }
+
+pub add_marked-requires-clause-small : goal.add_marked-requires-clause-small
+add_marked-requires-clause-small c = λ k below.
+    let e = c.in-Some.entry in
+    let size = λ (d : Entry). unsigned_abs d.weight in
+    let left = ap (sum_by size) c.in-Some.ensures.steps ∙ sum_by-cons size e c.next.new.self in
+    let number : to_z w128 (of_z w128 e.weight) ≡ e.weight = to_z-of_z w128 e.weight (search rules) in
+    rw number (omega (arith, left, (c.loop-entry.invariant.sums k below).small, c.requires.small))
 
 pub loop-entry-preserved : goal.loop-entry-preserved
 loop-entry-preserved c = record {
