@@ -45,8 +45,7 @@ pair_terms (l ∷ ls) c = with_each l c ls ++ pair_terms ls c
 -- One node where the coefficient is negative: it is worth taking where all literals are true. The
 -- node costs |c| * (d - 1) and gives back |c| for each true literal.
 abbrev pub negative_terms : List Literal → ℤ → ℕ → List Term
-negative_terms ls c n =
-    (node n ∷ [], neg_ℤ (c *ℤ pos (length ls - 1))) ∷ each_with ls (node n) c
+negative_terms ls c n = (node n ∷ [], neg_ℤ (c *ℤ pos (length ls - 1))) ∷ each_with ls (node n) c
 
 -- The factor of the node after k others, in a term of degree d: 1 for the last of an odd degree. A
 -- term of degree 5 has two nodes, of the factors 2 and 1; one of degree 6 has two of factor 2.
@@ -83,8 +82,7 @@ is_low t = nat_le (length t.0) 2
 -- How many new nodes a term has. A term of degree 2 or less has none, and a negative one has one,
 -- whatever its degree is.
 abbrev pub new_nodes : Term → ℕ
-new_nodes t =
-    if is_low t then 0 else (if int_lt t.1 (pos 0) then 1 else nodes_for (length t.0))
+new_nodes t = if is_low t then 0 else (if int_lt t.1 (pos 0) then 1 else nodes_for (length t.0))
 
 -- what stands for a term, its new nodes being numbered from n on
 abbrev pub new_terms : Term → ℕ → List Term

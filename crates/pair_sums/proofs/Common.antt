@@ -1,10 +1,10 @@
 -- What the proofs of this crate stand on, of std and of the crates below.
-pub use Rattle.std.proofs.Common.{if◌then◌else◌, eqb, false, true, Bool, ◌≡◌, ◌⊎◌, inl, inr, ℕ, ◌+◌, ◌*◌, ◌<◌, ◌^◌, List, [], ◌∷◌, refl, sym, ap, ◌∙◌, arith, ◌≢◌, ◌/◌, ◌≤◌, unsigned_abs, subst, ◌++◌, append_assoc, append-nil, pos, length, map, ℤ, drop, Option, Some, slice_get, ◌+ℤ◌, OnErr, Result, Ok, Err, suc, rules, take}
+pub use Rattle.std.proofs.Common.{if◌then◌else◌, eqb, false, true, Bool, ◌≡◌, ◌⊎◌, inl, inr, ℕ, ◌+◌, ◌*◌, ◌<◌, ◌^◌, List, [], ◌∷◌, refl, sym, ap, ◌∙◌, arith, ◌≢◌, ◌/◌, ◌≤◌, unsigned_abs, subst, ◌++◌, append_assoc, append-nil, pos, length, map, ℤ, drop, Some, slice_get, ◌+ℤ◌, OnErr, Result, Ok, Err, suc, rules, take, to_z, of_z}
 pub use Rattle.std.specs.List.{AllByRecursion}
 pub use Rattle.std.specs.List.Sorted.{IsPermutation, IsNonDecreasingBy}
 unfoldable pub use Rattle.std.specs.List.Sorted.{IsStrictlySortedBy}
 pub use Rattle.std.specs.Ordering.{nat_cmp}
-pub use Rattle.std.specs.Prelude.{⊤, All, IfSome}
+pub use Rattle.std.specs.Prelude.{⊤, All}
 pub use Rattle.std.proofs.lemmas.Bool.{eq-eqb}
 pub use Rattle.std.proofs.lemmas.Bool.Decides.{Decides-eqb, nat_tests}
 pub use Rattle.bits_model.specs.declared.output.Entry.{Entry}

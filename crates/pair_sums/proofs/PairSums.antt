@@ -31,9 +31,8 @@ pub listed-kept : (shape : Shape) (ws vs : List ℤ) (codes : List ℕ) → Keep
 listed-kept shape ws vs [] kept all = refl
 listed-kept shape ws vs (c ∷ cs) kept all =
     let here : low_of shape c < length ws = all 0 c (omega arith) in
-    let one = kept.same (low_of shape c) here in
     let rest = listed-kept shape ws vs cs kept (All-tail (λ d. low_of shape d < length ws) c cs all) in
-    λ k. coupler_of shape c (one k) ∷ rest k
+    λ k. coupler_of shape c (kept.same (low_of shape c) here k) ∷ rest k
 
 pub on_err : {T E P : Type 0} (r : Result T E) → P → OnErr r P
 on_err (Ok x) p = tt

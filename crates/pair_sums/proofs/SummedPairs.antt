@@ -15,8 +15,7 @@ pub All-sums_of : (P : Entry → Type 0) → ((e : Entry) (c : ℤ) → P e → 
 All-sums_of P keeps e [] here all = All-front P e [] here all
 All-sums_of P keeps e (f ∷ fs) here all =
     let one = All-sums_of P keeps (heavier e f.weight) fs (keeps e f.weight here) all.1 in
-    let apart = All-front P e (sums_from f fs) here (All-sums_of P keeps f fs all.0 all.1) in
-    grind (arith, one, apart)
+    grind (arith, one, All-front P e (sums_from f fs) here (All-sums_of P keeps f fs all.0 all.1))
 
 nonzero-front : (e : Entry) (es : List Entry) → AllByRecursion IsNonzero es
     → AllByRecursion IsNonzero (entry_in_front e es)
@@ -53,11 +52,10 @@ rises-front e es before rises = grind (arith, nat_tests)
 rises-sums_of : (e : Entry) (es : List Entry) → UpTo e es → Climbs es → Rises (sums_from e es)
 rises-sums_of e [] up climbs = rises-front e [] tt tt
 rises-sums_of e (f ∷ fs) up climbs =
-    let one = rises-sums_of (heavier e f.weight) fs up.1 climbs.1 in
     let rest = rises-sums_of f fs climbs.0 climbs.1 in
     let apart : pair_number e < pair_number f → Rises (entry_in_front e (sums_from f fs)) =
     λ less. rises-front e (sums_from f fs) (before-sums_of e f fs less climbs.0) rest in
-    grind (arith, nat_tests, one, apart, up.0)
+    grind (arith, nat_tests, rises-sums_of (heavier e f.weight) fs up.1 climbs.1, apart, up.0)
 
 -- ---- the sums
 
@@ -100,10 +98,7 @@ total-sums_of : (e : Entry) (es : List Entry)
 total-sums_of e [] = total-front e []
 total-sums_of e (f ∷ fs) =
     let one = total-sums_of (heavier e f.weight) fs in
-    let apart = total-sums_of f fs in
-    let front = total-front e (sums_from f fs) in
-    let both = sum_by-cons size f fs in
-    grind (arith, one, apart, front, both, size-plus e.weight f.weight)
+    grind (arith, one, total-sums_of f fs, total-front e (sums_from f fs), sum_by-cons size f fs, size-plus e.weight f.weight)
 
 -- ---- entries in any order, sorted and then summed
 

@@ -81,8 +81,11 @@ fn found(weights: &WeightList, recent: &[u32], place: usize, weight: i128) -> Op
     }
 }
 
-/// Puts an index into a place of the table, where both fit.
-fn note(recent: &mut [u32], place: usize, index: usize) {
+/// Puts an index into a place of the table, where there is one and both fit.
+fn note(recent: &mut [u32], place: Option<usize>, index: usize) {
+    let Some(place) = place else {
+        return;
+    };
     if let Some(entry) = recent.get_mut(place) {
         if let Ok(index) = u32::try_from(index) {
             *entry = index;
@@ -102,9 +105,7 @@ fn appended(
 {
     let index = weights.len();
     weights.push(weight)?;
-    if let Some(place) = place {
-        note(recent, place, index);
-    }
+    note(recent, place, index);
     Ok(index)
 }
 

@@ -1,5 +1,5 @@
 -- What the proofs of this crate stand on, of std and of the crates below.
-pub use Rattle.std.proofs.Common.{set, ◌≡◌, Bool, true, false, arith, sym, ap, refl, List, [], ◌∷◌, ℤ, pos, ◌+ℤ◌, ◌⊎◌, inl, inr, ℕ, zero, suc, ◌*◌, ◌%◌, ◌≤◌, neg_ℤ, ◌*ℤ◌, int_rem, unsigned_abs, ◌++◌, if◌then◌else◌, map, ◌∙◌, subst, ◌≢◌, ◌+◌, ◌<◌, ◌^◌, eqb, length, replicate, All, fold, append_assoc, append-nil, ◌-◌, length-append, get_or, ◌&&◌, take, ◌≤ℤ◌, ◌<ℤ◌, to_z, of_z, rules, ◌-ℤ◌, drop, OnErr, FitsSigned}
+pub use Rattle.std.proofs.Common.{set, ◌≡◌, Bool, true, false, arith, sym, ap, refl, List, [], ◌∷◌, ℤ, pos, ◌+ℤ◌, ◌⊎◌, inl, inr, ℕ, zero, suc, ◌*◌, ◌%◌, ◌≤◌, neg_ℤ, ◌*ℤ◌, int_rem, unsigned_abs, ◌++◌, if◌then◌else◌, map, ◌∙◌, subst, ◌≢◌, ◌+◌, ◌<◌, ◌^◌, eqb, length, replicate, All, fold, append_assoc, append-nil, length-append, get_or, ◌&&◌, take, ◌≤ℤ◌, ◌<ℤ◌, to_z, of_z, rules, ◌-ℤ◌, drop, FitsSigned}
 pub use Rattle.term_table.proofs.Common.{Ordering, Decides-int_eq, nat_tests, total_by, if_so, Literal, Term, set_cmp, in_front, with_addition, with_additions, terms_total, Ascends, AreTerms, IsTermSet, set_size, terms_size, coefficient_of, recursion_from_All, All-from_recursion, All-append, All-nil, All-push, All-tail, All-weaker, All-head, contributions, plain_terms, HasRoomFor, elements}
 pub use Rattle.form_steps.proofs.Common.{Form, Figures, take-append_seam}
 pub use Rattle.pair_sums.proofs.Common.{Entry, IsPair, weight_at, weight_for, IsNonzero}
@@ -16,7 +16,7 @@ pub use Rattle.quad_form.specs.Units.{is_multiple, greatest_within, unit_of, cou
 pub use Rattle.std.specs.Prelude.{slice_set, Result, Ok, Err}
 pub use Rattle.std.proofs.lemmas.List.{length-replicate, flat_map_more, get_or-append_right, get_or_append_left, get_or_past, length-set, take_more, length-take, length-map, same_lists, get_or_default, get_or-replicate, get_or-set_same, get_or-set_other, map-append, take-append-drop}
 pub use Rattle.base.proofs.Totals.{size-plus, total_by_push, total_by-append, total_by-flat_map}
-pub use Rattle.bits_model.specs.Output.{entry_cmp, entry_size, weight_total, bit_at, bits_energy, is_coupler, has_node, IsPlaced, IsWellFormed, decoding_of, Written}
+pub use Rattle.bits_model.specs.Output.{entry_cmp, entry_size, weight_total, bit_at, bits_energy, is_coupler, has_node, IsPlaced, IsWellFormed, Written}
 pub use Rattle.term_table.specs.Tables.{TableContent, IsLow, table_size, IsTable, with_appended}
 pub use Rattle.term_table.proofs.Additions.{terms_total-cons, terms_total-with_additions, sets_sum, sets_sum-cons, sets_sum-with_additions, terms_size-cons, terms_total-append, coefficient_of-with_additions}
 pub use Rattle.term_table.proofs.KeptTerms.{OfSet, Under, All-with_additions, AreTerms-with_additions}
@@ -39,7 +39,6 @@ pub use Rattle.base.proofs.Products.{times-plus}
 pub use Rattle.base.specs.Figures.{figures_moved}
 pub use Rattle.quad_form.specs.Stated.{RelaxesAsWritten}
 pub use Rattle.form_steps.specs.declared.layer.BitsLink.{BitsLink}
-pub use Rattle.std.proofs.lemmas.Result.{IfOk-from_err}
 pub use Rattle.base.specs.declared.costs.Cost.TheVariants.{Whole}
 pub use Rattle.bits_model.specs.declared.output.Kind.TheVariants.{Qubo}
 pub use Rattle.std.specs.declared.cmp.Ordering.TheVariants.{Less, Greater, Equal}

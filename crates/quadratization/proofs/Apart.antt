@@ -117,8 +117,7 @@ filter-with_additions ts = filter-sums is_long_set ts
 pub nodes-filter : (ts : List Term) → sum_by new_nodes ts ≡ sum_by new_nodes (filter is_long ts)
 nodes-filter [] = refl
 nodes-filter (t ∷ ts) =
-    let kept = sum_by-cons new_nodes t (filter is_long ts) in
-    grind (arith, nat_tests, nodes-filter ts, sum_by-cons new_nodes t ts, kept)
+    grind (arith, nat_tests, nodes-filter ts, sum_by-cons new_nodes t ts, sum_by-cons new_nodes t (filter is_long ts))
 
 -- ---- how long they are
 

@@ -28,9 +28,8 @@ pub weight-image : (t : TableContent) (i : ℕ) → AreAdditions t
 weight-image t i additions total within =
     let low = low_of t in
     let sets = recursion_from_All _ _ (flat_sets low (IsTable-low_of t additions total) (IsLow-image (table_of t))) in
-    let none = get_or-replicate low.width i (pos 0) (pos 0) within in
     let folded = node-fold (zero_quad low.width) low.width i (with_additions [] (contributions low.terms)) (length-replicate low.width (pos 0)) sets in
-    omega (arith, ints, folded, none, sums-image (node i ∷ []) t)
+    omega (arith, ints, folded, get_or-replicate low.width i (pos 0) (pos 0) within, sums-image (node i ∷ []) t)
 
 pub pair-image : (t : TableContent) (i j : ℕ) → AreAdditions t
     → (terms_total t.terms + 1) * 2 ^ 26 ≤ 2 ^ 124
@@ -143,9 +142,8 @@ long_shares : (i : ℕ) (ts : List Term) (n : ℕ) → AreLong ts
     → sum_for (node i ∷ []) (all_new_terms ts n) ≡ share_at i (all_shares ts n)
 long_shares i [] n long = refl
 long_shares i (t ∷ ts) n long =
-    let rest = long_shares i ts (n + new_nodes t) long.1 in
     let both = sum_for-append (node i ∷ []) (new_terms t n) (all_new_terms ts (n + new_nodes t)) in
-    simp total_by-append (omega (arith, ints, both, shares_close t n i long.0, rest))
+    simp total_by-append (omega (arith, ints, both, shares_close t n i long.0, long_shares i ts (n + new_nodes t) long.1))
 
 long_couplers : (i j : ℕ) (ts : List Term) (n : ℕ) → AreLong ts
     → sum_for (node i ∷ node j ∷ []) (all_new_terms ts n)
@@ -169,9 +167,8 @@ shares-parts t i =
     let both = sum_for-append (node i ∷ []) shorts (all_new_terms (long_terms t.terms) t.width) in
     let short = short_part (node i ∷ []) (λ (u : Term). share_at i (short_shares u)) t.terms (short_shares-are i) in
     let flat = total_by-flat_map (λ (s : Share). if_so (eqb i s.0) s.1) short_shares shorts in
-    let long = long_shares i (long_terms t.terms) t.width (long_terms-long t.terms) in
     let sum = share_at-append i (flat_map short_shares shorts) (all_shares (long_terms t.terms) t.width) in
-    omega (arith, ints, both, short, flat, long, sum)
+    omega (arith, ints, both, short, flat, long_shares i (long_terms t.terms) t.width (long_terms-long t.terms), sum)
 
 pub couplers-parts : (t : TableContent) (i j : ℕ)
     → sum_for (node i ∷ node j ∷ []) (parts t) ≡ weight_at i j (couplers_of t)
@@ -179,9 +176,8 @@ couplers-parts t i j =
     let shorts = short_terms t.terms in
     let both = sum_for-append (node i ∷ node j ∷ []) shorts (all_new_terms (long_terms t.terms) t.width) in
     let short = short_part (node i ∷ node j ∷ []) (λ (u : Term). weight_at i j (short_couplers u)) t.terms (short_couplers-are i j) in
-    let flat = total_by-flat_map (weight_for i j) short_couplers shorts in
     let long = long_couplers i j (long_terms t.terms) t.width (long_terms-long t.terms) in
-    simp total_by-append (omega (arith, ints, both, short, flat, long))
+    simp total_by-append (omega (arith, ints, both, short, total_by-flat_map (weight_for i j) short_couplers shorts, long))
 
 -- what has these sums is the image
 pub sum_is_image : (t : TableContent) (q : QuadContent) → IsWithin t → IsSumOf t q → q ≡ image t

@@ -1,6 +1,6 @@
 -- What the proofs of this crate stand on, of std and of the crates below.
 pub use Rattle.std.proofs.Common.{◌≡◌, ℕ, ◌+◌, ◌≤◌, arith, sym, ap, ◌∙◌, refl, List, [], ◌∷◌, ◌++◌, length, ℤ, ◌+ℤ◌, eqb, ◌<◌, subst, inl, inr, ◌*◌, ◌^◌, Bool, true, false, ◌&&◌, get_or, pos, not, cond, sum_by, zero, suc, ◌-◌, append_assoc, append-nil, ◌-ℤ◌, ◌*ℤ◌, unsigned_abs, take, leb, map, drop, neg_ℤ, to_z, of_z, if◌then◌else◌, ◌⊎◌, int_lt, ◌≢◌, length-append, replicate, set, rules, FitsSigned, None, ◌<ℤ◌, nat_eq, IsTrue}
-pub use Rattle.rosenberg_layer.proofs.Common.{ints, to_z-of_z, total_by, if_so, Literal, Term, coefficient_of, terms_total, with_additions, IsTermSet, terms_size, set_cmp, set_size, in_front, with_addition, Ascends, TableContent, AreAdditions, table_size, IsLow, IsTable, with_more, with_appended, nat_tests, coefficient_of-with_additions, terms_total-append, if_so-plus, terms_size-cons, terms_total-cons, sets_sum, sets_sum-cons, OfSet, Ascends-with_additions, nonzero-with_additions, Under, excess, pairs_of, run, weights, AreParts, NoneLong, IsSound, HasRoomFor, IsTermSet-wider, IsBelow, Ascend, IsLiteralSet-ascends, is_short, moved_of, IsPermutation, sum_by-IsPermutation, All-permutation, Contains-permutation, IsNonDecreasingBy-from_sort, sum_by-filter_both, w128, is_eq, match_ordering, nat_cmp, ordering_then, is_lt, same_terms, literal_cmp, on_ok_weaker, IfOk-weaker, rest_more, rest_all, Ordering, IsStrictlySortedBy, IsTotalOrder}
+pub use Rattle.rosenberg_layer.proofs.Common.{ints, to_z-of_z, total_by, if_so, Literal, Term, coefficient_of, terms_total, with_additions, IsTermSet, terms_size, set_cmp, set_size, TableContent, AreAdditions, table_size, IsLow, IsTable, with_more, with_appended, nat_tests, coefficient_of-with_additions, terms_total-append, if_so-plus, terms_size-cons, terms_total-cons, sets_sum, sets_sum-cons, OfSet, Ascends-with_additions, nonzero-with_additions, excess, pairs_of, run, weights, AreParts, NoneLong, HasRoomFor, IsTermSet-wider, IsBelow, Ascend, IsLiteralSet-ascends, is_short, moved_of, IsPermutation, sum_by-IsPermutation, All-permutation, Contains-permutation, IsNonDecreasingBy-from_sort, sum_by-filter_both, w128, is_eq, nat_cmp, ordering_then, is_lt, same_terms, literal_cmp, on_ok_weaker, IfOk-weaker, rest_more, rest_all, Ordering, IsTotalOrder}
 pub use Rattle.std.proofs.lemmas.Bool.Decides.{Decides-int_eq}
 pub use Rattle.term_table.proofs.Additions.{terms_total-with_additions}
 pub use Rattle.term_table.proofs.KeptTerms.{All-with_additions}
@@ -19,7 +19,7 @@ pub use Rattle.quadratization.specs.Parts.{image, parts, sum_for, all_nodes, Giv
 pub use Rattle.quadratization.specs.Apart.{short_terms, long_terms, table_of, long_additions, is_long}
 pub use Rattle.quadratization.specs.Places.{place_couplers, term_shares, all_shares, long_constant, node_share, node_shares, node_coupler, node_couplers, complements, pairs_among, literal_share}
 pub use Rattle.quadratization.specs.TermPlaces.{term_places, all_places, Place, places_in, is_at, places_of}
-pub use Rattle.quadratization.specs.Gathered.{constant_of, shares_of, couplers_of, IsSumOf, couplers_of_long}
+pub use Rattle.quadratization.specs.Gathered.{constant_of, shares_of, couplers_of, IsSumOf}
 pub use Rattle.quadratization.specs.Stated.{IsWithin}
 pub use Rattle.quadratization.specs.laws.Between.{low_of, IsTable-low_of, total-low_of, IsTable-table_of}
 pub use Rattle.std.proofs.lemmas.Bool.{cases_Bool, cases_eq, cases_lt, le-leb, lt-leb, eq-eqb, or_right}
@@ -34,12 +34,12 @@ pub use Rattle.std.proofs.lemmas.List.Sums.{sum_by-cons, sum_by-append, sum_by-t
 pub use Rattle.rosenberg_layer.proofs.Finish.{made-image, width-le}
 pub use Rattle.rosenberg_layer.proofs.Growth.{total-weights, weights-table, square_is}
 pub use Rattle.rosenberg_layer.proofs.Turns.{excess-size, width-pairs}
-pub use Rattle.std.proofs.lemmas.Option.{slice_get_within, get_or_from_slice_get, slice_get-map, slice_get-get_or}
+pub use Rattle.std.proofs.lemmas.Option.{slice_get_within, get_or_from_slice_get, slice_get-map}
 pub use Rattle.std.proofs.Math.Nat.{mul-le-mul, mul-le-mul_left, mul-le-mul_right}
 pub use Rattle.monomial_layer.specs.laws.Positive.{factor_cases, pairs, pairs_is}
 pub use Rattle.quad_form.proofs.HeldSums.{gain-one, gain-both, length-widened, value-widened, size-with_weight, size-zeros, size-widened}
 pub use Rattle.quadratization.specs.Long.{AreLong, node_at, terms_of, node_count, product_term, IsPlaceOf, place_nodes, additions_at, set_at, summed_term, sums_with, first_nodes, addition_at, key_for, triple_key, code_of, IsCoded, IsNextSum}
-pub use Rattle.quadratization.specs.Held.{shares_total, HeldContent, AreHeld, HasPlaces, IsHeld, held_of, Gains}
+pub use Rattle.quadratization.specs.Held.{shares_total, HeldContent, AreHeld, HasPlaces, IsHeld, held_of}
 pub use Rattle.quadratization.specs.Rows.{AreRows, AreFromRow, row_of, IsRow}
 pub use Rattle.penalty_layer.proofs.Admitted.{image_size}
 pub use Rattle.quadratization.specs.Direct.{additions_of}

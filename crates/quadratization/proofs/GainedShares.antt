@@ -44,14 +44,12 @@ term_shares-size t n long short =
     let x = unsigned_abs t.1 in
     let some = complements-le t.0 in
     let most : unsigned_abs (pos (e + 1) -ℤ pos d) ≤ 2 ^ 24 = omega (arith, ints, some, short) in
-    let one = mul-le-mul_left x most in
     let half : 2 * nodes_for d ≤ d = omega arith in
     let own : d * (x * e) ≤ d * (x * d) = mul-le-mul_left d (mul-le-mul_left x some) in
     let nodes : 2 * nodes_for d * (x * (2 * d)) ≤ d * (x * (2 * d)) = mul-le-mul_right (x * (2 * d)) half in
-    let shares = literal_shares-size e t.1 t.0 in
     let new = node_shares-size d e t.1 n (nodes_for d) some (omega (arith, long)) half in
     let joined = sum_by-append (λ (s : Share). unsigned_abs s.1) (map (literal_share e t.1) t.0) (node_shares d e t.1 n (nodes_for d)) in
-    grind (arith, unsigned_abs-mul, one, own, nodes, shares, new, joined, squares x d short)
+    grind (arith, unsigned_abs-mul, mul-le-mul_left x most, own, nodes, literal_shares-size e t.1 t.0, new, joined, squares x d short)
 
 -- ---- long terms: constants
 

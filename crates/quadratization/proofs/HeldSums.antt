@@ -103,11 +103,10 @@ module _ (s : SumsContent) (long : List Product) (ls : List Literal) (z : ℤ) w
       → new ≡ long ++ record { literals = ls; coefficient = z } ∷ [] → IsHeld (held_of s new)
   fits-long new fits high set low pushed =
       let p : Product = record { literals = ls; coefficient = z } in
-      let n = length s.weights in
       subst (λ ps. IsHeld (held_of s ps)) (sym pushed) (record {
         total = omega (arith, low, products_more long ls z);
         long = All-push (λ (q : Product). 3 ≤ length q.literals) long p fits.long (omega (arith, high));
-        sets = All-push (λ (q : Product). IsTermSet n q.literals) long p fits.sets set;
+        sets = All-push (λ (q : Product). IsTermSet (length s.weights) q.literals) long p fits.sets set;
       })
 
 -- ---- short additions alone, and more nodes
@@ -261,11 +260,10 @@ module _ (t : TableContent) (h : HeldContent) (additions : AreAdditions t) (pair
       → IsSumOf t (record { constant = constant; diagonal = weights; couplers = couplers })
   sum-of_held constant weights couplers most sum gain rows =
       let shares = all_shares (long_terms t.terms) t.width in
-      let wide = length-widened (all_nodes t) h.weights (omega (arith, held.short.width)) in
       let whole = rows-whole (all_nodes t) t.width (couplers_of t) couplers (omega arith) none-before (rw held.short.pairs at rows) in
       record {
         constant = omega (arith, ints, sum, held.short.constant);
-        width = gain.width ∙ wide;
+        width = gain.width ∙ length-widened (all_nodes t) h.weights (omega (arith, held.short.width));
         weights = λ i in'.
             let old = value-widened (all_nodes t) h.weights i ∙ held.short.weights i in
             omega (arith, ints, gain.weights i, old, share_at-append i (flat_map short_shares shorts) shares);

@@ -104,12 +104,11 @@ share-with_each : (i : ℕ) (l : Literal) (c : ℤ) (ks : List Literal)
     ≡ own i c l *ℤ pos (complements ks) +ℤ if_so l.negated (total_by (own i c) ks)
 share-with_each i l c ks =
     let sum = total_by-plus (λ (k : Literal). if_so k.negated (own i c l)) (λ (k : Literal). if_so l.negated (own i c k)) ks in
-    let first = total_by-if_so (λ (k : Literal). k.negated) (own i c l) ks in
     let under : total_by (λ (k : Literal). if_so l.negated (own i c k)) ks ≡ if_so l.negated (total_by (own i c) ks) =
     grind (arith, total-zero ks) in
     over_with_each (share_of (node i ∷ [])) l c ks
     (λ (k : Literal). if_so k.negated (own i c l) +ℤ if_so l.negated (own i c k)) (λ k. share-pair i l k c)
-    ∙ omega (arith, ints, sum, first, under)
+    ∙ omega (arith, ints, sum, total_by-if_so (λ (k : Literal). k.negated) (own i c l) ks, under)
 
 -- what a literal's variable gets with e complements in all
 abbrev amount : ℕ → ℤ → Literal → ℤ
@@ -143,9 +142,7 @@ share-pair_terms i (l ∷ ls) c =
     let e = complements ls in
     let whole = ap (λ k. total_by (amount_at i k c) (l ∷ ls)) (complements-cons l ls) in
     let both = given-append (share_of (node i ∷ [])) (with_each l c ls) (pair_terms ls c) in
-    let here = share-with_each i l c ls in
-    let more = amounts-more i e c l.negated ls in
-    omega (arith, ints, both, here, share-pair_terms i ls c, whole, amount-first i e c l, more)
+    omega (arith, ints, both, share-with_each i l c ls, share-pair_terms i ls c, whole, amount-first i e c l, amounts-more i e c l.negated ls)
 
 -- in the closed form a complement counts one less
 amount-closed : (i e : ℕ) (c : ℤ) (l : Literal) → cond l.negated 1 0 ≤ e
@@ -246,8 +243,7 @@ places-positive : (i j d : ℕ) (c : ℤ) (n : ℕ) (ls : List Literal) → int_
     +ℤ total_by (nodes_weight i j d c n (nodes_for d)) ls
 places-positive i j d c n [] sign = refl
 places-positive i j d c n (l ∷ ls) sign =
-    let here = couplers-with_each i j l c ls in
-    simp (sign, total_by-append) (omega (arith, ints, places-positive i j d c n ls sign, here))
+    simp (sign, total_by-append) (omega (arith, ints, places-positive i j d c n ls sign, couplers-with_each i j l c ls))
 
 -- those of a negative one each literal with its node
 places-negative : (i j d : ℕ) (c : ℤ) (n : ℕ) (ls : List Literal) → int_lt c (pos 0) ≡ true
@@ -271,25 +267,21 @@ given-long ls t n long = grind (arith, nat_tests, sum_for-given, given, share_of
 pub constants_close : (t : Term) (n : ℕ) → 3 ≤ length t.0
     → sum_for [] (new_terms t n) ≡ long_constant t
 constants_close t n long =
-    let e = complements t.0 in
-    let negative = constant-each_with t.0 n t.1 in
-    let pair = constant-pair_terms t.0 t.1 in
     let nodes = constant-node_terms t.0 t.1 n (nodes_for (length t.0)) in
     let both = given-append (share_of []) (pair_terms t.0 t.1) (node_terms t.0 t.1 n (nodes_for (length t.0))) in
-    let same = ap (λ k. t.1 *ℤ pos k) (pairs_among-is e) in
-    rw (given-long [] t n long) (grind (arith, ints, negative, pair, nodes, both, same))
+    let same = ap (λ k. t.1 *ℤ pos k) (pairs_among-is (complements t.0)) in
+    rw (given-long [] t n long) (grind (arith, ints, constant-each_with t.0 n t.1, constant-pair_terms t.0 t.1, nodes, both, same))
 
 pub shares_close : (t : Term) (n i : ℕ) → 3 ≤ length t.0
     → sum_for (node i ∷ []) (new_terms t n) ≡ share_at i (term_shares t n)
 shares_close t n i long =
     let d = length t.0 in
     let e = complements t.0 in
-    let pair = share-pair_terms i t.0 t.1 in
     let closed = amounts-closed i e t.1 t.0 (omega arith) in
     let nodes = share-node_terms i t.0 t.1 n (nodes_for d) in
     rw (given-long (node i ∷ []) t n long) (elim (cases_Bool (int_lt t.1 (pos 0))) [
       | inl sign ↦ rw sign (share-negative_terms i t.0 t.1 n (omega (arith, long)))
-      | inr sign ↦ rw sign (simp total_by-append (omega (arith, ints, pair, closed, nodes)))
+      | inr sign ↦ rw sign (simp total_by-append (omega (arith, ints, share-pair_terms i t.0 t.1, closed, nodes)))
     ])
 
 pub couplers_close : (t : Term) (n i j : ℕ) → 3 ≤ length t.0

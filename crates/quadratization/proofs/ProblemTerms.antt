@@ -73,8 +73,7 @@ couplers-few : (ts : List Term)
 couplers-few [] = omega arith
 couplers-few (t ∷ ts) =
     let both = length-append (short_couplers t) (flat_map short_couplers (short_terms ts)) in
-    let few = short_couplers-few t.0 t.1 in
-    grind (arith, nat_tests, couplers-few ts, both, few, sets_sum-cons square t ts)
+    grind (arith, nat_tests, couplers-few ts, both, short_couplers-few t.0 t.1, sets_sum-cons square t ts)
 
 pub few-pairs : (p : ProblemContent) (h : HeldContent) → Admits p → AreHeld (additions_of p) h
     → 4 * length h.pairs ≤ 2 ^ 31

@@ -86,7 +86,6 @@ rows_follow nodes i all couplers row narrow before here =
     let below = recursion_from_All _ couplers before.first in
     let first = recursion_from_All _ row here.first in
     let old = recursion_from_All _ couplers before.couplers in
-    let old_pairs = couplers_are_pairs nodes couplers narrow old in
     let new_pairs = couplers_are_pairs nodes row narrow (recursion_from_All _ row here.couplers) in
     let together = All-append (IsCoupler nodes) couplers row before.couplers here.couplers in
     let pairs = couplers_are_pairs nodes (couplers ++ row) narrow (recursion_from_All _ (couplers ++ row) together) in
@@ -98,7 +97,7 @@ rows_follow nodes i all couplers row narrow before here =
       ordered =
           ordered_from_rising (couplers ++ row) pairs
           (Rises-append nodes i couplers row (omega arith) below old first
-          (rising_from_ordered couplers old_pairs before.ordered)
+          (rising_from_ordered couplers (couplers_are_pairs nodes couplers narrow old) before.ordered)
           (rising_from_ordered row new_pairs here.ordered));
       couplers = together;
       sums = λ k j less. elim (cases_lt k i) [
@@ -125,8 +124,7 @@ before : (i n : ℕ) (e : Entry) (es : List Entry) → e.first ≡ i → e.secon
 before i n e [] first less firsts from = tt
 before i n e (f ∷ fs) first less firsts from =
     let one = firsts.0 in
-    let up = from.0 in
-    grind (arith, nat_tests, before i (suc f.second) e fs first (omega (arith, less, up)) firsts.1 from.1)
+    grind (arith, nat_tests, before i (suc f.second) e fs first (omega (arith, less, from.0)) firsts.1 from.1)
 
 -- entries of one first node whose second nodes ascend
 rises : (i n : ℕ) (es : List Entry) → AllByRecursion (λ e. e.first ≡ i) es → AreFrom n es → Rises es
@@ -323,9 +321,8 @@ row_is t pairs i row kept all in' h =
     let up : i < e.second = elim (cases_lt i e.second) [
       | inl lt ↦ lt
       | inr le ↦
-          let a = weight_none i e.second w es up le in
           let b = weight_none i e.second w fs more le in
-          absurd (h.nonzero k d here (omega (arith, ints, h.weights k d here, value e.second, a, b)))
+          absurd (h.nonzero k d here (omega (arith, ints, h.weights k d here, value e.second, weight_none i e.second w es up le, b)))
     ] in
     record {
       upward = omega (arith, up, h.firsts k d here);
@@ -460,8 +457,7 @@ later-total : (l : Literal) (c : ℤ) (ks : List Literal) (m : ℕ) → length k
 later-total l c [] m le = omega arith
 later-total l c (k ∷ ks) zero le = absurd (omega arith)
 later-total l c (k ∷ ks) (suc m) le =
-    let size = size-signed l (signed k c) ∙ size-signed k c in
-    simp sum_by-cons (omega (arith, later-total l c ks m (omega (arith, le)), size))
+    simp sum_by-cons (omega (arith, later-total l c ks m (omega (arith, le)), size-signed l (signed k c) ∙ size-signed k c))
 
 part-total : (p : Place) (m : ℕ) → length p.later ≤ m
     → weight_total (pair_part p) ≤ m * unsigned_abs p.coefficient

@@ -140,8 +140,7 @@ module _ (ps : List Product) (order : List Keyed) (i : ℕ) (in' : i < length or
       → unsigned_abs (sum +ℤ (term_at ps order i).1) + terms_total (left ps order (i + 1)) ≤ 2 ^ 124
   small_more sum small =
       let size : Term → ℕ = λ u. unsigned_abs u.1 in
-      let count = sum_by-cons size (term_at ps order i) (left ps order (i + 1)) in
-      omega (arith, ints, small, ap terms_total left_more, count)
+      omega (arith, ints, small, ap terms_total left_more, sum_by-cons size (term_at ps order i) (left ps order (i + 1)))
 
   -- the next one is of the same set: the sum waits
   pub wait : (sum : ℤ) → i + 1 < length order

@@ -24,8 +24,7 @@ constant_of t =
 
 -- all that is added to the weights of nodes
 abbrev pub shares_of : TableContent → List Share
-shares_of t =
-    flat_map short_shares (short_terms t.terms) ++ all_shares (long_terms t.terms) t.width
+shares_of t = flat_map short_shares (short_terms t.terms) ++ all_shares (long_terms t.terms) t.width
 
 -- all couplers of long terms, whose new nodes are numbered from n on
 abbrev pub couplers_of_long : List Term → ℕ → List Entry

@@ -47,13 +47,11 @@ place_couplers p =
 
 -- of a literal's variable, in a positive term with e complements: one for each other complement
 abbrev pub literal_share : ℕ → ℤ → Literal → Share
-literal_share e c l =
-    (l.variable, if l.negated then neg_ℤ (c *ℤ pos (e - 1)) else (c *ℤ pos e))
+literal_share e c l = (l.variable, if l.negated then neg_ℤ (c *ℤ pos (e - 1)) else (c *ℤ pos e))
 
 -- of the new node after k others, in a positive term
 abbrev pub node_share : ℕ → ℕ → ℤ → ℕ → ℕ → Share
-node_share d e c n k =
-    (n + k, c *ℤ (pos (factor d k) *ℤ (pos (2 * k + 2) -ℤ pos e) -ℤ pos 1))
+node_share d e c n k = (n + k, c *ℤ (pos (factor d k) *ℤ (pos (2 * k + 2) -ℤ pos e) -ℤ pos 1))
 
 -- of the first k new nodes, numbered from n on, of a positive term
 abbrev pub node_shares : ℕ → ℕ → ℤ → ℕ → ℕ → List Share
@@ -87,5 +85,4 @@ all_shares (t ∷ ts) n = term_shares t n ++ all_shares ts (n + new_nodes t)
 
 -- of a long term: where it is positive, once for each pair of complements
 abbrev pub long_constant : Term → ℤ
-long_constant t =
-    if int_lt t.1 (pos 0) then pos 0 else (t.1 *ℤ pos (pairs_among (complements t.0)))
+long_constant t = if int_lt t.1 (pos 0) then pos 0 else (t.1 *ℤ pos (pairs_among (complements t.0)))

@@ -76,7 +76,6 @@ fn add_literal_shares(
 }
 
 /// How often the new node after k others of a positive term counts in its own weight.
-#[tactic(auto, using(crate::proofs::GainedShares::count_bound))]
 fn node_times(degree: usize, negated: usize, k: usize) -> i128
     requires degree { degree ≤ 2048 }
     requires negated { negated ≤ degree }

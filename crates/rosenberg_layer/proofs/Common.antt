@@ -1,14 +1,14 @@
 -- What the proofs of this crate stand on, of std and of the crates below.
 pub use Rattle.rosenberg_layer.specs.laws.Common.{Ordering, nat_tests, Literal, node, Pair, is_long, new_term, tie_terms, with_pair, front_pair, next_pair, pair_total, replaced, with_next, substituted, run, excess, image, has_literal, has_pair, pairs_of, without, is_literal, next_before, Fits, with_product, literal_cmp, literal_total, IsBelow, Ascend, IsLiteralSet-ascends, IsTermSet-wider, first_bits, Extends, Keeps, BitsLink}
 pub use Rattle.term_table.proofs.Common.{ints, to_z-of_z, total_by, if_so, Term, set_cmp, in_front, terms_total, with_addition, with_additions, Ascends, IsTermSet, set_size, terms_size, coefficient_of, ⊤, HasRoomFor, w128}
-pub use Rattle.literal_lists.proofs.Common.{All, Result, Ok, Err, Contains, get_or_from_slice_get, parts, AreEnds, start_of, parts-at, part_lies, length-parts, pushed, drop-cons, code_of, literal_of, elements}
-pub use Rattle.std.proofs.Common.{◌≡◌, ◌≢◌, ℕ, suc, ◌+◌, ◌≤◌, Bool, true, false, not, ◌||◌, cond, arith, refl, sym, ap, ◌∙◌, subst, List, [], ◌∷◌, ◌++◌, map, ℤ, pos, ◌+ℤ◌, Some, None, ◌^◌, sum_by, unsigned_abs, zero, IsTrue, ◌↔◌, ◌-◌, ◌<◌, length, get_or, set, replicate, Option, ◌&&◌, ◌*◌, take, drop, ◌==◌, leb, ◌⊎◌, inl, inr, eqb, ◌/◌, ◌%◌, rules, is_ok, is_err, fold}
+pub use Rattle.literal_lists.proofs.Common.{All, Contains, get_or_from_slice_get, parts, AreEnds, start_of, parts-at, part_lies, length-parts, pushed, drop-cons, code_of, literal_of, elements}
+pub use Rattle.std.proofs.Common.{◌≡◌, ◌≢◌, ℕ, suc, ◌+◌, ◌≤◌, Bool, true, false, not, ◌||◌, cond, arith, refl, sym, ap, ◌∙◌, subst, List, [], ◌∷◌, ◌++◌, map, ℤ, pos, ◌+ℤ◌, Some, None, ◌^◌, sum_by, unsigned_abs, zero, IsTrue, ◌↔◌, ◌-◌, ◌<◌, length, get_or, set, replicate, Option, ◌&&◌, ◌*◌, take, drop, ◌==◌, leb, ◌⊎◌, inl, inr, eqb, ◌/◌, ◌%◌, rules, fold}
 pub use Rattle.std.specs.List.{AllByRecursion, filter, list_any, slice_range, AllZip}
 unfoldable pub use Rattle.std.specs.List.{IsDistinct}
 pub use Rattle.std.specs.List.Sorted.{IsPermutation, IsNonDecreasing}
 unfoldable pub use Rattle.std.specs.List.Sorted.{IsStrictlySortedBy}
 pub use Rattle.std.specs.Ordering.{is_lt, match_ordering, is_eq, ordering_then, nat_cmp}
-pub use Rattle.std.proofs.lemmas.List.{append-nil, append_assoc, map-set, get_or-set_same, get_or-set_other, length-map, length-append, length-take-le, length-drop, drop-set-lt, drop-set-add, map-append, take_all, drop_all, get_or-append_right, get_or-drop, set-get_or, get_or_default, length-set, drop-map, set-append_left, drop-append-le, drop-drop, take_more_set, get_or_past, get_or_read, drop_more, take_at, take_more, length-replicate, get_or_at, length-take}
+pub use Rattle.std.proofs.lemmas.List.{append-nil, append_assoc, map-set, get_or-set_same, get_or-set_other, length-map, length-append, length-take-le, length-drop, drop-set-lt, drop-set-add, map-append, take_all, drop_all, get_or-append_right, get_or-drop, set-get_or, get_or_default, length-set, drop-map, set-append_left, drop-append-le, drop-drop, take_more_set, get_or_past, get_or_read, drop_more, length-replicate, get_or_at, length-take}
 pub use Rattle.std.proofs.lemmas.List.Elements.{All-weaker, All-from_recursion, recursion_from_All, filter-append, All-get_or, All-tail, All-head, All-filter, filter_more, All-contains, Contains-get_or, All-replicate, All-rest, All-same}
 pub use Rattle.std.proofs.lemmas.List.Sorted.{All-permutation, sum_by-IsPermutation, IsPermutation-refl, IsPermutation-cons, IsPermutation-trans, IsPermutation-middle, IsPermutation-filter_both, IsPermutation-append_left, IsPermutation-append_right, IsPermutation-append_comm, length_permutation, Contains-permutation, IsPermutation-sym, IsNonDecreasingBy-from_sort}
 pub use Rattle.std.proofs.lemmas.List.Sums.{sum_by-append, sum_by-cons, sum_by_more_le, sum_by-set, fold_more}

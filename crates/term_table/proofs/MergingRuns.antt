@@ -1,11 +1,17 @@
 -- Steps of merging two runs: the lesser of the two first sets goes first.
-use Rattle.term_table.proofs.Common.{to_z, of_z, w128, unsigned_abs, ◌^◌, nat_tests, ints, arith, ◌≡◌, ℕ, ◌+◌, ◌<◌, ◌≤◌, ◌⊎◌, length, get_or, drop, List, [], ◌∷◌, ◌++◌, sym, ap, ◌∙◌, subst, refl, append_assoc, append-nil, ℤ, ◌+ℤ◌, All, IsStrictlySortedBy, match_ordering, ordering_reverse, drop_more, drop_all, All-head, All-tail, Literal, Term, set_cmp, in_front, with_addition, with_additions, Ascends, merged}
+use Rattle.term_table.proofs.Common.{to_z, of_z, w128, unsigned_abs, ◌^◌, nat_tests, ints, arith, ◌≡◌, ℕ, ◌+◌, ◌<◌, ◌≤◌, ◌⊎◌, length, get_or, drop, List, [], ◌∷◌, ◌++◌, sym, ap, ◌∙◌, subst, refl, append_assoc, append-nil, ℤ, ◌+ℤ◌, All, IsStrictlySortedBy, Ordering, match_ordering, ordering_reverse, drop_more, drop_all, All-get_or, All-head, All-tail, Literal, Term, set_cmp, in_front, with_addition, with_additions, Ascends, merged}
 use Rattle.std.specs.declared.cmp.Ordering.TheVariants.{Less, Equal, Greater}
 use Rattle.term_table.proofs.SetOrder.{set_total, same_set}
 use Rattle.term_table.proofs.KeptTerms.{IsNonzero, Under, Under-further, greater_back}
 
 pub less_back : (ks ls : List Literal) → set_cmp ks ls ≡ Less → set_cmp ls ks ≡ Greater
 less_back ks ls e = set_total.antisymm ls ks ∙ ap ordering_reverse e
+
+-- a term at a place is small, as all are
+pub small_at : (ts : List Term) (i : ℕ) (t : Term) → t ≡ get_or ts i t → i < length ts
+    → All (λ v. unsigned_abs v.1 ≤ 2 ^ 125) ts → unsigned_abs t.1 ≤ 2 ^ 125
+small_at ts i t at p all =
+    let P = λ (v : Term). unsigned_abs v.1 ≤ 2 ^ 125 in subst P (sym at) (All-get_or P ts i t p all)
 
 -- two small coefficients are summed in 128 bits
 pub sum_back : (a b x y : ℤ) → a ≡ x → b ≡ y → unsigned_abs x ≤ 2 ^ 125 → unsigned_abs y ≤ 2 ^ 125
@@ -92,41 +98,45 @@ tail_up t ts up = up.1
 
 -- ---- by places in the two runs
 
-module _ (now new ts us all : List Term) (i j : ℕ) (d : Term) (p : i < length ts) (q : j < length us) where
-  pub less_at : set_cmp (get_or ts i d).0 (get_or us j d).0 ≡ Less
-      → new ≡ now ++ in_front (get_or ts i d).0 (get_or ts i d).1 []
-      → MergedRuns now (drop i ts) (drop j us) all → MergedRuns new (drop (i + 1) ts) (drop j us) all
-  less_at e pushed before =
-      let m = rw (drop_more ts i d p, drop_more us j d q) at before in
-      let some = All-head IsNonzero (get_or ts i d) (drop (i + 1) ts) m.left_some in
-      let step =
-      merged-less (get_or ts i d) (drop (i + 1) ts) (get_or us j d) (drop (j + 1) us) m.right_up some e in
-      let up = tail_up (get_or ts i d) (drop (i + 1) ts) m.left_up in
-      let rest = All-tail IsNonzero (get_or ts i d) (drop (i + 1) ts) m.left_some in
-      grind (arith, nat_tests, append_assoc, drop_more us j d q)
+module _ (now new ts us all : List Term) (i j : ℕ) (t u : Term) (o : Ordering) (w : ℤ)
+    (p : i < length ts) (q : j < length us) (at_t : t ≡ get_or ts i t) (at_u : u ≡ get_or us j u)
+    (e : o ≡ set_cmp t.0 u.0) where
+  left : drop i ts ≡ t ∷ drop (i + 1) ts
+  left = drop_more ts i t p ∙ ap (λ (v : Term). v ∷ drop (i + 1) ts) (sym at_t)
 
-  pub equal_at : set_cmp (get_or ts i d).0 (get_or us j d).0 ≡ Equal
-      → new ≡ now ++ in_front (get_or ts i d).0 ((get_or ts i d).1 +ℤ (get_or us j d).1) []
+  right : drop j us ≡ u ∷ drop (j + 1) us
+  right = drop_more us j u q ∙ ap (λ (v : Term). v ∷ drop (j + 1) us) (sym at_u)
+
+  pub less_at : o ≡ Less → w ≡ t.1 → new ≡ now ++ in_front t.0 w []
+      → MergedRuns now (drop i ts) (drop j us) all → MergedRuns new (drop (i + 1) ts) (drop j us) all
+  less_at is weight pushed before =
+      let m = rw (left, right) at before in
+      let some = All-head IsNonzero t (drop (i + 1) ts) m.left_some in
+      let step = merged-less t (drop (i + 1) ts) u (drop (j + 1) us) m.right_up some (sym e ∙ is) in
+      let up = tail_up t (drop (i + 1) ts) m.left_up in
+      let rest = All-tail IsNonzero t (drop (i + 1) ts) m.left_some in
+      grind (arith, nat_tests, append_assoc, right)
+
+  pub equal_at : o ≡ Equal → w ≡ t.1 +ℤ u.1 → new ≡ now ++ in_front t.0 w []
       → MergedRuns now (drop i ts) (drop j us) all
       → MergedRuns new (drop (i + 1) ts) (drop (j + 1) us) all
-  equal_at e pushed before =
-      let m = rw (drop_more ts i d p, drop_more us j d q) at before in
-      let step = merged-equal (get_or ts i d) (drop (i + 1) ts) (get_or us j d) (drop (j + 1) us) m.right_up e in
-      let up = tail_up (get_or ts i d) (drop (i + 1) ts) m.left_up in
-      let up' = tail_up (get_or us j d) (drop (j + 1) us) m.right_up in
-      let rest = All-tail IsNonzero (get_or ts i d) (drop (i + 1) ts) m.left_some in
-      let rest' = All-tail IsNonzero (get_or us j d) (drop (j + 1) us) m.right_some in
+  equal_at is weight pushed before =
+      let m = rw (left, right) at before in
+      let step = merged-equal t (drop (i + 1) ts) u (drop (j + 1) us) m.right_up (sym e ∙ is) in
+      let up = tail_up t (drop (i + 1) ts) m.left_up in
+      let up' = tail_up u (drop (j + 1) us) m.right_up in
+      let rest = All-tail IsNonzero t (drop (i + 1) ts) m.left_some in
+      let rest' = All-tail IsNonzero u (drop (j + 1) us) m.right_some in
       grind (arith, nat_tests, append_assoc)
 
-  pub greater_at : set_cmp (get_or ts i d).0 (get_or us j d).0 ≡ Greater
-      → new ≡ now ++ in_front (get_or us j d).0 (get_or us j d).1 []
+  pub greater_at : o ≡ Greater → w ≡ u.1 → new ≡ now ++ in_front u.0 w []
       → MergedRuns now (drop i ts) (drop j us) all → MergedRuns new (drop i ts) (drop (j + 1) us) all
-  greater_at e pushed before =
-      let m = rw (drop_more ts i d p, drop_more us j d q) at before in
-      let step = merged-greater (get_or ts i d) (drop (i + 1) ts) (get_or us j d) (drop (j + 1) us) m.right_up e in
-      let up = tail_up (get_or us j d) (drop (j + 1) us) m.right_up in
-      let rest = All-tail IsNonzero (get_or us j d) (drop (j + 1) us) m.right_some in
-      grind (arith, nat_tests, append_assoc, drop_more ts i d p)
+  greater_at is weight pushed before =
+      let m = rw (left, right) at before in
+      let step = merged-greater t (drop (i + 1) ts) u (drop (j + 1) us) m.right_up (sym e ∙ is) in
+      let up = tail_up u (drop (j + 1) us) m.right_up in
+      let rest = All-tail IsNonzero u (drop (j + 1) us) m.right_some in
+      grind (arith, nat_tests, append_assoc, left)
 
 -- the rests, one after the other, where one of them is none
 pub runs_all : (now new ts us all : List Term) (i j : ℕ) → ((length ts ≤ i) ⊎ (length us ≤ j)) → new

@@ -25,8 +25,7 @@ ThreeSets = three ≡ (entry_of 3 (pos 2) ∷ entry_of 5 (pos 1) ∷ []) ∷ (en
 
 -- which are merged as they are gone through
 abbrev pub ThreeTerms : Type 0
-ThreeTerms =
-    merged_terms three ≡ entry_of 3 (pos 2) ∷ entry_of 4 (pos 7) ∷ entry_of 5 (pos 1) ∷ []
+ThreeTerms = merged_terms three ≡ entry_of 3 (pos 2) ∷ entry_of 4 (pos 7) ∷ entry_of 5 (pos 1) ∷ []
 
 -- four different sets stand in one run
 abbrev pub FourSets : Type 0

@@ -160,8 +160,7 @@ image_bound t table y =
 -- as many bits are appended as there are new nodes
 length-bits : (x : List Bool) (ts : List Term)
     → length (flat_map (new_bits x) ts) ≡ sum_by new_nodes ts
-length-bits x ts =
-    length-flat_map (new_bits x) ts ∙ (λ i. sum_by (λ t. length-new_bits x t i) ts)
+length-bits x ts = length-flat_map (new_bits x) ts ∙ (λ i. sum_by (λ t. length-new_bits x t i) ts)
 
 -- a link that fits can be decoded by
 pub mono_sound : (link : BitsLink) (t : TableContent) → Fits link t → HasFirstBits link

@@ -74,8 +74,7 @@ saves d s w (suc k) =
 -- and for all of them taken so
 reaches : (d s n : ℕ) → below d s (is_taken s) n ≡ above d (is_taken s) n + gain d s n
 reaches d s zero = omega arith
-reaches d s (suc k) =
-    omega (arith, reaches d s k, one_reaches (factor d k) s k (factor_cases d k))
+reaches d s (suc k) = omega (arith, reaches d s k, one_reaches (factor d k) s k (factor_cases d k))
 
 -- ---- what all can save
 
@@ -187,5 +186,4 @@ positive_bound d s n w sized within = omega (arith, saves d s w n, gain_is d s n
 -- .. and no more, where each node is taken as is_taken says
 pub positive_reached : (d s n : ℕ) → IsSized d n → s ≤ d
     → cond (eqb s d) 1 0 + below d s (is_taken s) n ≡ pairs s + above d (is_taken s) n
-positive_reached d s n sized within =
-    omega (arith, reaches d s n, gain_is d s n sized within)
+positive_reached d s n sized within = omega (arith, reaches d s n, gain_is d s n sized within)

@@ -52,8 +52,7 @@ broken_lifted y p broken =
     let squares = squares_not_negative y (penalty p) p.variables p.constraints in
     elim (or_cases (list_any (fails_hard y) p.clauses) (list_any (fails y) p.constraints) broken) [
       | inl hard ↦ omega (arith, ints, clauses_at_least y (penalty p) p.clauses hard)
-      | inr off ↦
-          omega (arith, ints, squares_at_least y (penalty p) p.variables p.constraints off)
+      | inr off ↦ omega (arith, ints, squares_at_least y (penalty p) p.variables p.constraints off)
     ]
 
 -- The penalty lifts the least cost above the threshold. A gain and one more lift it above all that

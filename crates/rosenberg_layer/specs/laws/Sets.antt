@@ -74,8 +74,7 @@ Ascend-push n (l ∷ ls) up within =
 
 Within-push : (n : ℕ) (ls : List Literal) → Within n ls → Within (n + 1) (ls ++ node n ∷ [])
 Within-push n [] within = (omega arith, tt)
-Within-push n (l ∷ ls) within =
-    (let h = within.0 in omega arith, Within-push n ls within.1)
+Within-push n (l ∷ ls) within = (let h = within.0 in omega arith, Within-push n ls within.1)
 
 -- ---- how much shorter a set gets
 

@@ -1,4 +1,4 @@
-use Rattle.monomial_layer.proofs.Common.{nat_tests, ◌∷◌, ◌-◌, ◌^◌, ◌*ℤ◌, ◌∙◌, [], ap, pos, neg_ℤ, length, arith, rules, w128, ints, to_z-of_z, on_ok_weaker, Literal, fills_same, room_same, node}
+use Rattle.monomial_layer.proofs.Common.{◌∷◌, ◌-◌, ◌^◌, ◌*ℤ◌, ◌∙◌, [], ap, pos, neg_ℤ, length, arith, rules, w128, ints, to_z-of_z, Literal, node}
 use Rattle.monomial_layer.proofs.Adding.{others_room, own_and_others, own_room}
 use Rattle.monomial_layer.proofs.Sizes.{negative_weight-fits}
 use Rattle.monomial_layer.proofs.replace.add_negative.Goals as goal
@@ -21,12 +21,15 @@ pub add_each_with-requires : goal.add_each_with-requires
 add_each_with-requires g c =
     let back = to_z-of_z w128 c.args.coefficient c.ranges.coefficient in
     let weight = to_z-of_z w128 c.negative_weight.result (search rules) ∙ rw back at c.negative_weight.ensures in
-    grind (arith, nat_tests, ints, room_same, others_room)
+    rw (c.node-new_node.ensures, back)
+    (others_room g.G.Gather.takes g.G.Gather.holds c.args.terms.now _ _ _ _ _ _
+    (ap (λ (l : Literal). l ∷ []) c.node-new_node.ensures) weight c.in_ok-gather.ensures.added
+    c.in_ok-gather.ensures.takes c.requires.room)
 
 pub returns : goal.returns
 returns g c =
-    let Takes = g.G.Gather.takes in
-    let Holds = g.G.Gather.holds in
     let back = to_z-of_z w128 c.args.coefficient c.ranges.coefficient in
     let weight = to_z-of_z w128 c.negative_weight.result (search rules) ∙ rw back at c.negative_weight.ensures in
-    grind (arith, nat_tests, ints, own_and_others, on_ok_weaker, fills_same)
+    own_and_others g.G.Gather.takes g.G.Gather.holds c.add_each_with.result c.args.terms.now _ _ _ _ _ _ _
+    (ap (λ (l : Literal). l ∷ []) c.node-new_node.ensures) weight c.in_ok-gather.ensures.added
+    c.in_ok-gather.ensures.takes (rw (c.node-new_node.ensures, back) at c.add_each_with.ensures)

@@ -1,4 +1,4 @@
-use Rattle.monomial_layer.proofs.Common.{ints, nat_tests, ◌∷◌, ◌*◌, ◌+◌, ◌-◌, ◌^◌, ◌*ℤ◌, ◌∙◌, [], ap, refl, pos, length, arith, rules, w128, to_z-of_z, on_ok_weaker, fills_same, room_same, factor}
+use Rattle.monomial_layer.proofs.Common.{◌∷◌, ◌*◌, ◌+◌, ◌-◌, ◌^◌, ◌*ℤ◌, ◌∙◌, [], ap, refl, pos, length, arith, rules, w128, to_z-of_z, factor}
 use Rattle.monomial_layer.proofs.Adding.{others_room, own_and_others, own_room}
 use Rattle.monomial_layer.proofs.Sizes.{node_weight-fits, pair_weight-fits}
 use Rattle.monomial_layer.proofs.replace.add_node.Goals as goal
@@ -17,8 +17,7 @@ pair_weight-requires-clause-small g c =
 
 pub gather-requires : goal.gather-requires
 gather-requires g c =
-    let back = to_z-of_z w128 c.args.coefficient c.ranges.coefficient in
-    let weight = to_z-of_z w128 c.node_weight.result (search rules) ∙ rw back at c.node_weight.ensures in
+    let weight = to_z-of_z w128 c.node_weight.result (search rules) ∙ rw (to_z-of_z w128 c.args.coefficient c.ranges.coefficient) at c.node_weight.ensures in
     own_room g.G.Gather.takes g.G.Gather.holds c.args.terms.now (c.args.new_node ∷ []) _ _ _ _ refl weight
     c.requires.room
 
@@ -27,11 +26,13 @@ add_each_with-requires g c =
     let back = to_z-of_z w128 c.args.coefficient c.ranges.coefficient in
     let weight = to_z-of_z w128 c.node_weight.result (search rules) ∙ rw back at c.node_weight.ensures in
     let pair = to_z-of_z w128 c.pair_weight.result (search rules) ∙ rw back at c.pair_weight.ensures in
-    grind (arith, nat_tests, room_same, others_room)
+    rw pair (others_room g.G.Gather.takes g.G.Gather.holds c.args.terms.now _ _ _ _ _ _ refl weight
+    c.in_ok-gather.ensures.added c.in_ok-gather.ensures.takes c.requires.room)
 
 pub returns : goal.returns
 returns g c =
-    let Takes = g.G.Gather.takes in
-    let Holds = g.G.Gather.holds in
     let back = to_z-of_z w128 c.args.coefficient c.ranges.coefficient in
-    grind (arith, nat_tests, ints, to_z-of_z, w128, own_and_others, on_ok_weaker, fills_same)
+    let weight = to_z-of_z w128 c.node_weight.result (search rules) ∙ rw back at c.node_weight.ensures in
+    let pair = to_z-of_z w128 c.pair_weight.result (search rules) ∙ rw back at c.pair_weight.ensures in
+    own_and_others g.G.Gather.takes g.G.Gather.holds c.add_each_with.result c.args.terms.now _ _ _ _ _ _ _ refl
+    weight c.in_ok-gather.ensures.added c.in_ok-gather.ensures.takes (rw pair at c.add_each_with.ensures)

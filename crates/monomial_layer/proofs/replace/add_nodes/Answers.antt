@@ -1,4 +1,4 @@
-use Rattle.monomial_layer.proofs.Common.{nat_tests, ints, ◌<◌, add-one, length, rules, arith, ap, w128, to_z-of_z, Literal, terms_total, fills_more, fills_none, fills_same, room_same, node_term, nodes_for, sym}
+use Rattle.monomial_layer.proofs.Common.{nat_tests, ◌<◌, add-one, length, rules, arith, ap, w128, to_z-of_z, Literal, terms_total, fills_more, fills_none, fills_same, room_same, node_term, nodes_for, sym}
 use Rattle.monomial_layer.proofs.Adding.{nodes_room}
 use Rattle.monomial_layer.proofs.Sizes.{total-more_nodes}
 use Rattle.monomial_layer.proofs.replace.add_nodes.Goals as goal
@@ -14,9 +14,8 @@ add_node-requires-clause-room g c =
     let inside : c.loop-place.place < nodes_for (length ls) = search rules in
     room_same g.G.Gather.takes c.loop-place.terms (node_term ls c.args.coefficient c.node.result c.loop-place.place) _
     (ap (λ z. node_term ls z c.node.result c.loop-place.place) (sym back))
-    (nodes_room g.G.Gather.takes g.G.Gather.holds c.args.terms.now c.loop-place.terms ls c.node.result
-    c.args.coefficient c.args.next c.loop-place.place (nodes_for (length ls)) inside c.node.ensures so_far
-    c.requires.room)
+    (nodes_room g.G.Gather.takes g.G.Gather.holds _ _ ls _ c.args.coefficient c.args.next _ _ inside
+    c.node.ensures so_far c.requires.room)
 
 pub add_node-requires-clause-small : goal.add_node-requires-clause-small
 add_node-requires-clause-small g c =
@@ -29,7 +28,10 @@ add_node-requires-clause-small g c =
     omega (arith, c.requires.small, more, own, ap (λ z. terms_total (node_term ls z c.node.result k)) back)
 
 pub loop-place-preserved : goal.loop-place-preserved
-loop-place-preserved g c = grind (arith, nat_tests, ints, fills_same, add-one, fills_more)
+loop-place-preserved g c =
+    rw (add-one c.loop-place.place)
+    (fills_more g.G.Gather.takes g.G.Gather.holds c.args.terms.now c.loop-place.terms _ _ _
+    c.loop-place.invariant (rw c.node.ensures at c.in_ok-add_node.ensures))
 
 pub returns : goal.returns
 returns g c = grind (arith, nat_tests, to_z-of_z, fills_same)

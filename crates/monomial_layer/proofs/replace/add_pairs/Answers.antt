@@ -1,5 +1,5 @@
-use Rattle.monomial_layer.proofs.Common.{w128, to_z-of_z, rest_room}
-use Rattle.term_table.proofs.Filling.{rest_more}
+use Rattle.monomial_layer.proofs.Common.{ap, w128, to_z-of_z, drop_all, pair_terms, rest_room}
+use Rattle.term_table.proofs.Filling.{rest_all, rest_more}
 use Rattle.monomial_layer.proofs.Adding.{pairs_left}
 use Rattle.monomial_layer.proofs.replace.add_pairs.Goals as goal
 
@@ -18,3 +18,8 @@ loop-i-preserved g c =
     rw back
     (rest_more g.G.Gather.takes g.G.Gather.holds c.args.terms.now c.loop-i.terms c.add_with_each.new.terms _ _ _ _
     (pairs_left c.args.literals.now c.loop-i.i _ c.args.coefficient c.loop-i-test.true) made so_far)
+
+pub returns : goal.returns
+returns g c =
+    rest_all _ _ _ _ _ _ (ap (λ ls. pair_terms ls c.args.coefficient) (drop_all _ _ c.loop-i-test.false))
+    (rw (to_z-of_z w128 c.args.coefficient c.ranges.coefficient) at c.loop-i.invariant)

@@ -6,8 +6,7 @@ use Rattle.monomial_layer.proofs.replace.quadratic_table.Goals as goal
 
 pub overflow_add-next : goal.overflow_add-next
 overflow_add-next c =
-    let few = all_nodes-le c.args.table.now.content.terms in
-    omega (arith, c.width-next.ensures, c.all_new_nodes.ensures.nodes, few, c.requires.size)
+    omega (arith, c.width-next.ensures, c.all_new_nodes.ensures.nodes, all_nodes-le, c.requires.size)
 
 pub loop-literals-init : goal.loop-literals-init
 loop-literals-init c = grind (arith, nat_tests, empty_of, total-image)
@@ -18,8 +17,7 @@ add_replaced-requires-clause-narrow c =
     let left = rest_more _ c.loop-literals.literals-iterator c.next.new.self c.next.result (c.in-Some.literals, c.in-Some.coefficient) c.in-Some.is c.next.ensures.steps in
     let back = to_z-of_z w128 c.in-Some.coefficient (search rules) in
     let own = sum_by-cons new_nodes t c.next.new.self in
-    let few = all_nodes-le c.args.table.now.content.terms in
-    rw back (omega (arith, c.loop-literals.invariant.numbered, ap (sum_by new_nodes) left, own, few, c.requires.size))
+    rw back (omega (arith, c.loop-literals.invariant.numbered, ap (sum_by new_nodes) left, own, all_nodes-le, c.requires.size))
 
 pub add_replaced-requires-clause-room : goal.add_replaced-requires-clause-room
 add_replaced-requires-clause-room c =
@@ -38,10 +36,7 @@ add_replaced-requires-clause-small c =
 
 pub loop-literals-preserved : goal.loop-literals-preserved
 loop-literals-preserved c =
-    let u = c.args.table.now.content in
     let t : Term = (c.in-Some.literals.now, c.in-Some.coefficient) in
-    let now = c.loop-literals.quadratic in
-    let after = c.add_replaced.new.terms in
     let next = c.loop-literals.next in
     let rest = c.next.new.self in
     let left = rest_more _ c.loop-literals.literals-iterator c.next.new.self c.next.result (c.in-Some.literals, c.in-Some.coefficient) c.in-Some.is c.next.ensures.steps in
@@ -52,7 +47,7 @@ loop-literals-preserved c =
     let begins = ap (λ ts. all_new_terms ts next) left ∙ (λ i. new_terms t next ++ all_new_terms rest (sym number i)) in
     let both = terms_total-append (new_terms t next) (all_new_terms rest (next + c.new_nodes-next.result)) in
     record {
-      rest = filling.rest_more Takes Holds (empty_of u) now after _ _ _ (new_terms t next) begins made c.loop-literals.invariant.rest;
+      rest = filling.rest_more Takes Holds _ _ _ _ _ _ (new_terms t next) begins made c.loop-literals.invariant.rest;
       numbered = nodes_left next c.new_nodes-next.result _ t _ _ left found c.loop-literals.invariant.numbered;
       small = omega (arith, c.loop-literals.invariant.small, ap terms_total begins, both);
     }
@@ -62,12 +57,9 @@ returns-in_err-add_replaced-clause-kept c = c.terms-literals-items.ensures.kept
 
 pub returns-clause-made : goal.returns-clause-made
 returns-clause-made c =
-    let none =
-    rest_all _ c.loop-literals.literals-iterator c.next.new.self c.next.result c.in-None.is
-    c.next.ensures.steps in
+    let none = rest_all _ c.loop-literals.literals-iterator _ _ c.in-None.is c.next.ensures.steps in
     let filled =
-    filling.rest_all Takes Holds (empty_of c.args.table.now.content) c.loop-literals.quadratic _ _
-    (ap (λ us. all_new_terms us c.loop-literals.next) none) c.loop-literals.invariant.rest in
+    filling.rest_all Takes Holds _ _ _ _ (ap (λ us. all_new_terms us c.loop-literals.next) none) c.loop-literals.invariant.rest in
     let whole = filled.held (empty_of c.args.table.now.content) refl in
     c.into_table.ensures
     ∙ ap (λ (u : TableContent). kept_at_once (record { width = u.width; terms = with_additions [] u.terms })) whole

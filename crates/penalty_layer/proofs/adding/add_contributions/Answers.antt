@@ -22,8 +22,7 @@ room_for_products : (g : Over) (c : In_ok-gather g)
     → HasRoomFor g.T.Gather.takes c.gather.new.self (others c.args.problem.now)
 room_for_products g c =
     let p = c.args.problem.now in
-    room_next g.T.Gather.takes g.T.Gather.holds c.args.terms.now c.gather.new.self (contributions p)
-    (([], p.constant) ∷ []) (others p) refl
+    room_next g.T.Gather.takes g.T.Gather.holds _ _ _ (([], p.constant) ∷ []) (others p) refl
     (fills_as g.T.Gather.takes g.T.Gather.holds _ _ _ _ _ _ refl
     (to_z-of_z w128 c.problem.inside.constant (search rules) ∙ ap (λ (q : ProblemContent). q.constant) c.problem.view_is)
     c.in_ok-gather.ensures.added c.in_ok-gather.ensures.takes) c.requires.room
@@ -36,10 +35,8 @@ room_for_clauses : (g : Over) (c : In_ok-add_products g)
 room_for_clauses g c =
     let p = c.args.problem.now in
     let products = map product_term p.objective in
-    room_next g.T.Gather.takes g.T.Gather.holds c.gather.new.self c.add_products.new.terms
-    (others p) products _ (append_assoc products (clause_terms p) (squared_terms p))
-    (fills_same g.T.Gather.takes g.T.Gather.holds _ _ _ products
-    (ap (λ (q : ProblemContent). map product_term q.objective) c.problem.view_is)
+    room_next g.T.Gather.takes g.T.Gather.holds _ _ _ _ _ (append_assoc products (clause_terms p) (squared_terms p))
+    (fills_same _ _ _ _ _ _ (ap (λ (q : ProblemContent). map product_term q.objective) c.problem.view_is)
     c.in_ok-add_products.ensures)
 
 pub gather-requires : goal.gather-requires
@@ -95,6 +92,5 @@ add_constraints-requires-clause-room g c =
     room_same g.T.Gather.takes c.add_clauses.new.terms (squared_terms p) _
     (sym (λ i. constraint_terms (c.penalty-penalty.ensures.value i) (c.problem.view_is i).variables
     (c.problem.view_is i).constraints))
-    (room_next g.T.Gather.takes g.T.Gather.holds c.add_products.new.terms c.add_clauses.new.terms
-    (clause_terms p ++ squared_terms p) (clause_terms p) (squared_terms p) refl third
+    (room_next g.T.Gather.takes g.T.Gather.holds _ _ _ (clause_terms p) (squared_terms p) refl third
     (room_for_clauses g at.In_ok-add_products (room_for_products g at.In_ok-gather)))

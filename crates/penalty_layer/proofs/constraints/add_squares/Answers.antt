@@ -1,19 +1,13 @@
-use Rattle.penalty_layer.proofs.Common.{nat_tests, ◌≡◌, ◌+◌, ◌*◌, ◌^◌, ◌∙◌, ◌++◌, ap, subst, sym, rules, arith, ℕ, List, All, sum_by, All-head, All-tail, sum_by-cons, Constraint, constraint_total, reach, slack_bits, Term, terms_total, IsSet, square_terms, slack_form, constraint_terms, fills_same, rest_all, rest_more, rest_none, rest_room, room_same, Rest}
+use Rattle.penalty_layer.proofs.Common.{nat_tests, ◌≡◌, ◌+◌, ◌*◌, ◌^◌, ◌∙◌, ◌++◌, ap, subst, sym, rules, arith, ℕ, List, All, sum_by, All-head, All-tail, sum_by-cons, Constraint, constraint_total, reach, slack_bits, Term, terms_total, IsSet, square_terms, slack_form, constraint_terms, fills_same, rest_all, rest_more, rest_none, rest_room, room_same}
 use Rattle.penalty_layer.proofs.Sets.{slack_form-sets}
 use Rattle.penalty_layer.proofs.Sums.{slack_form-total}
 use Rattle.penalty_layer.proofs.constraints.add_squares.Goals as goal
 
 pub loop-constraint-init : goal.loop-constraint-init
 loop-constraint-init g c =
-    let Takes = g.T.Gather.takes in
-    let Holds = g.T.Gather.holds in
-    let n = c.args.factor in
-    let start = c.args.terms.now in
-    let all = constraint_terms n c.args.first c.args.constraints.now in
     let items : c.into_iter-constraint-iterator.result ≡ c.args.constraints.now = search rules in
     record {
-      rest = subst (λ ks. Rest Takes Holds start start (constraint_terms n c.args.first ks) all)
-          (sym items) (rest_none Takes Holds start all);
+      rest = rw items (rest_none g.T.Gather.takes g.T.Gather.holds c.args.terms.now _);
       small = rw items c.requires.small;
       place = ap (λ (ks : List Constraint). c.args.first + sum_by slack_bits ks) items;
       sets = rw items c.requires.sets;

@@ -4,5 +4,4 @@ use Rattle.quadratization.proofs.bits.push_bits.Goals as goal
 
 pub returns-then-coefficient-lt0 : goal.returns-then-coefficient-lt0
 returns-then-coefficient-lt0 c =
-    let one = bits-negative c.args.x.now c.args.literals c.args.coefficient c.requires.long (search rules) in
-    search (rules, one)
+    search (rules, bits-negative c.args.x.now c.args.literals c.args.coefficient c.requires.long (search rules))

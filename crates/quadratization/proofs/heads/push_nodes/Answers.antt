@@ -24,8 +24,7 @@ signed-weight-requires c =
     let i = c.loop-k.k in
     let is = c.from.ensures ∙ ap pos c.factor.ensures in
     let same = turned c.args.coefficient c.from.result (factor d i) is (factor_cases d i) c.requires.small in
-    let size = small_turned c.args.coefficient (factor d i) (factor_cases d i) c.requires.small in
-    omega (arith, ap unsigned_abs same, size)
+    omega (arith, ap unsigned_abs same, small_turned c.args.coefficient (factor d i) (factor_cases d i) c.requires.small)
 
 pub overflow_add-first_node : goal.overflow_add-first_node
 overflow_add-first_node c =

@@ -11,14 +11,12 @@ own c =
 pub overflow_cast-next-in-loop-i : goal.overflow_cast-next-in-loop-i
 overflow_cast-next-in-loop-i c =
     let more = count_more c.args.width c.loop-i.i c.args.products.now c.at-product.result c.at-product.ensures in
-    let le = count_within c.args.width (c.loop-i.i + 1) c.args.products.now in
-    search (rules, own c, more, le, c.requires)
+    search (rules, own c, more, count_within c.args.width (c.loop-i.i + 1) c.args.products.now, c.requires)
 
 pub overflow_add-next : goal.overflow_add-next
 overflow_add-next c =
     let more = count_more c.args.width c.loop-i.i c.args.products.now c.at-product.result c.at-product.ensures in
-    let le = count_within c.args.width (c.loop-i.i + 1) c.args.products.now in
-    search (rules, own c, more, le, c.requires, c.loop-i.invariant.next)
+    search (rules, own c, more, count_within c.args.width (c.loop-i.i + 1) c.args.products.now, c.requires, c.loop-i.invariant.next)
 
 pub loop-i-preserved : goal.loop-i-preserved
 loop-i-preserved c =

@@ -9,14 +9,8 @@ rows_of-requires-clause-ordered c =
     let inside = All-permutation (IsPair _) _ _ c.in_ok-sorted.ensures.same c.requires.pairs in
     let pairs : All (IsPair (2 ^ 32)) c.in_ok-sorted.sorted =
     All-weaker (IsPair _) (IsPair (2 ^ 32))
-    (λ (e : Entry) p. record {
-      upward = p.upward;
-      within = omega (
-        arith,
-        p.within,
-        c.width.ensures.kept.narrow,
-      );
-    }) c.in_ok-sorted.sorted inside in
+    (λ (e : Entry) p. record { upward = p.upward; within = omega (arith, p.within, c.width.ensures.kept.narrow) })
+    c.in_ok-sorted.sorted inside in
     from_numbers c.in_ok-sorted.sorted pairs c.in_ok-sorted.ensures.ordered
 
 pub rows_of-requires-clause-pairs : goal.rows_of-requires-clause-pairs

@@ -12,9 +12,8 @@ pub add_pairs-requires-clause-small : goal.add_pairs-requires-clause-small
 add_pairs-requires-clause-small c =
     let v = c.loop-variable.variable in
     let w = c.args.long.now.width in
-    let some = ap weight_total (c.loop-variable.invariant.pair_runs v (omega arith)) in
     let none : size_of c.loop-variable.sums ≡ 0 = ap size_of c.loop-variable.invariant.zeros ∙ size-zeros w in
-    omega (arith, some, none, row-total v c.args.pairs.now, c.requires.small)
+    omega (arith, ap weight_total (c.loop-variable.invariant.pair_runs v (omega arith)), none, row-total v c.args.pairs.now, c.requires.small)
 
 pub at-own-requires : goal.at-own-requires
 at-own-requires c =
@@ -40,21 +39,18 @@ push_row-requires-clause-small c =
     let sums = c.loop-variable.sums in
     let in' : v < t.width = omega (arith, c.loop-variable-test.true, c.width-variable-end.ensures.width) in
     let own = own_list t v c.args.occurrences.now c.at-own.result.now in' c.requires.occurrences c.at-own.ensures in
-    let places = ap (λ ks. places_at t v ks) own ∙ place_run v t in
     let some = c.loop-variable.invariant.pair_runs v (omega arith) in
     let made = c.in_ok-start.ensures.sums ∙ ap (with_entries sums) some in
     let size : length sums ≡ t.width = ap length c.loop-variable.invariant.zeros ∙ length-replicate t.width (pos 0) in
     let none : size_of sums ≡ 0 = ap size_of c.loop-variable.invariant.zeros ∙ size-zeros t.width in
     let start = row-size v t.width sums c.args.pairs.now size c.requires.pairs in
-    let own_size = ap (λ ps. weight_total (flat_map pair_part ps)) places in
-    let most = places-total v t.width t.width t.terms (kept_of t c.width-variable-end.ensures.kept) in
-    omega (arith, none, ap size_of made, start, own_size, row-total v c.args.pairs.now, most, c.requires.small)
+    let own_size = ap (λ ps. weight_total (flat_map pair_part ps)) (ap (λ ks. places_at t v ks) own ∙ place_run v t) in
+    omega (arith, none, ap size_of made, start, own_size, row-total v c.args.pairs.now, places-total v t.width t.width t.terms (kept_of t c.width-variable-end.ensures.kept), c.requires.small)
 
 pub loop-variable-init : goal.loop-variable-init
 loop-variable-init c =
-    let t = c.args.long.now in
     record {
-      rows = rw c.requires.none (no_rows (node_count t) _);
+      rows = rw c.requires.none (no_rows (node_count c.args.long.now) _);
       zeros = c.requires.zeros;
       pairs = c.requires.ordered;
       pair_runs = λ v le. refl;

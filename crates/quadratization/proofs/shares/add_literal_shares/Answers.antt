@@ -1,4 +1,4 @@
-use Rattle.quadratization.proofs.Common.{nat_tests, ints, rules, arith, ◌≡◌, ◌<◌, ◌∷◌, [], ◌∙◌, ap, sym, subst, ℤ, to_z, of_z, unsigned_abs, map, length, w128, to_z-of_z, rest_all, rest_more, All-head, All-rest, All-same, Literal, Gain, literal_share}
+use Rattle.quadratization.proofs.Common.{nat_tests, ints, rules, arith, ◌≡◌, ◌<◌, ◌∙◌, ap, sym, subst, ℤ, to_z, of_z, map, length, w128, to_z-of_z, rest_all, rest_more, All-head, All-rest, All-same, Literal, literal_share}
 use Rattle.quadratization.proofs.GainedShares.{gain-none, gaining-first, gaining-more}
 use Rattle.quadratization.proofs.shares.add_literal_shares.Goals as goal
 
@@ -11,12 +11,10 @@ loop-literal-preserved c =
     let left = rest_more _ c.loop-literal.literal-iterator c.next.new.self c.next.result l c.in-Some.is c.next.ensures.steps in
     let share : to_z w128 (of_z w128 c.literal_share-share.result) ≡ (f l).1 =
     to_z-of_z w128 c.literal_share-share.result (search rules) ∙ c.literal_share-share.ensures in
-    let one : Gain (f l ∷ []) (unsigned_abs (f l).1) c.loop-literal.weights c.add_share.new.weights =
-    subst (λ (w : ℤ). Gain ((l.variable, w) ∷ []) (unsigned_abs w) c.loop-literal.weights c.add_share.new.weights) share c.add_share.ensures in
     record {
       gaining = gaining-more c.args.weights.now c.loop-literal.weights c.add_share.new.weights
           (map f c.loop-literal.literal-iterator) (map f c.next.new.self) (map f c.into_iter-literal-iterator.result) (f l)
-          (ap (map f) left) one c.loop-literal.invariant.gaining;
+          (ap (map f) left) (rw share at c.add_share.ensures) c.loop-literal.invariant.gaining;
       within = All-rest P _ _ _ left c.loop-literal.invariant.within;
     }
 

@@ -24,11 +24,5 @@ add_share-requires-clause-small c =
 
 pub loop-k-preserved : goal.loop-k-preserved
 loop-k-preserved c =
-    let d = c.args.degree in
-    let e = c.args.negated in
-    let n = c.args.first_node in
-    let k = c.loop-k.k in
-    let z : ℤ = to_z w128 (of_z w128 c.args.coefficient) in
-    let share : to_z w128 (of_z w128 c.node_share-share.result) ≡ (node_share d e z n k).1 =
-    to_z-of_z w128 c.node_share-share.result (search rules) ∙ c.node_share-share.ensures in
-    gain-node _ _ _ _ _ _ _ _ _ share c.loop-k.invariant c.add_share.ensures
+    gain-node c.args.degree c.args.negated _ c.args.first_node c.loop-k.k _ _ _ _
+    (to_z-of_z w128 c.node_share-share.result (search rules) ∙ c.node_share-share.ensures) c.loop-k.invariant c.add_share.ensures

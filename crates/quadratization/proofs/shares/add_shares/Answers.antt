@@ -1,4 +1,4 @@
-use Rattle.quadratization.proofs.Common.{elements, nat_tests, rules, ◌≡◌, ◌+◌, ◌∙◌, ap, refl, subst, sym, arith, take, ◌+ℤ◌, to_z, of_z, unsigned_abs, w128, to_z-of_z, take_all, get_or_from_slice_get, total_by, Term, Gain, complements, term_shares, long_constant, shares_total}
+use Rattle.quadratization.proofs.Common.{elements, nat_tests, rules, ◌≡◌, ◌+◌, ◌∙◌, ap, refl, sym, arith, take, ◌+ℤ◌, to_z, of_z, unsigned_abs, w128, to_z-of_z, take_all, get_or_from_slice_get, total_by, Term, complements, term_shares, long_constant, shares_total}
 use Rattle.quadratization.proofs.LongPlaces.{nodes_below}
 use Rattle.quadratization.proofs.GainedShares.{gain-none, long-fits, shares-fit, constant-term, constant-fits, coefficient-fits, set-fits, gain-term, complements-le}
 use Rattle.quadratization.proofs.shares.add_shares.Goals.{After-at-term, After-long_constant-constant}
@@ -23,10 +23,7 @@ constant_more c =
     let t = c.args.long.now in
     let i = c.loop-i.i in
     let u : Term = (c.at-term.result.literals, c.at-term.result.coefficient) in
-    let first : Term = (c.at.result.literals, c.at.result.coefficient) in
-    let at = c.at-term.ensures.term in
-    let terms = sym (get_or_from_slice_get t.terms i first u c.at.ensures.term)
-    ∙ get_or_from_slice_get t.terms i u u at in
+    let terms = read_again (goal.at.overflow_add-constant c).After-at-term in
     let negated = c.complements-negated.ensures ∙ ap (λ (v : Term). complements v.0) terms in
     let back = to_z-of_z w128 c.at-term.result.coefficient (search rules) in
     let own : to_z w128 (of_z w128 c.long_constant-constant.result) ≡ long_constant u =
@@ -35,7 +32,7 @@ constant_more c =
     ∙ ap (λ w. long_constant (c.at-term.result.literals, w)) back in
     let so_far : to_z w128 c.loop-i.constant-bits ≡ total_by long_constant (take i t.terms) =
     search (rules, c.loop-i.invariant.constant) in
-    (λ j. so_far j +ℤ own j) ∙ sym (constant-term t i u c.at-term.ensures.kept at)
+    (λ j. so_far j +ℤ own j) ∙ sym (constant-term t i u c.at-term.ensures.kept c.at-term.ensures.term)
 
 pub add_term_shares-requires-clause-nodes : goal.add_term_shares-requires-clause-nodes
 add_term_shares-requires-clause-nodes c =
@@ -52,8 +49,7 @@ add_term_shares-requires-clause-coefficient c =
 pub add_term_shares-requires-clause-small : goal.add_term_shares-requires-clause-small
 add_term_shares-requires-clause-small c =
     let at = (goal.at.add_term_shares-requires-clause-small c).After-at-term in
-    let term = c.at-term.ensures in
-    omega (arith, shares-fit, ap (λ n. shares_total (term_shares (here at) n)) term.node)
+    omega (arith, shares-fit, ap (λ n. shares_total (term_shares (here at) n)) c.at-term.ensures.node)
 
 pub long_constant-constant-requires-clause-negated : goal.long_constant-constant-requires-clause-negated
 long_constant-constant-requires-clause-negated c =
@@ -63,9 +59,8 @@ pub long_constant-constant-requires-clause-coefficient : goal.long_constant-cons
 long_constant-constant-requires-clause-coefficient c =
     let at = (goal.at.long_constant-constant-requires-clause-coefficient c).After-at-term in
     let term = c.at-term.ensures in
-    let back = to_z-of_z w128 c.at-term.result.coefficient (search rules) in
     let fits = coefficient-fits c.args.long.now c.loop-i.i (here at) term.kept term.term in
-    omega (arith, ap unsigned_abs back, fits, c.requires.small)
+    omega (arith, ap unsigned_abs (to_z-of_z w128 c.at-term.result.coefficient (search rules)), fits, c.requires.small)
 
 pub overflow_add-constant : goal.overflow_add-constant
 overflow_add-constant c =
@@ -85,8 +80,7 @@ loop-i-preserved c =
     record {
       gain =
           gain-term t i (here at) term.kept term.term c.args.weights.now old new c.loop-i.invariant.gain
-          (subst (λ n. Gain (term_shares (here at) n) (shares_total (term_shares (here at) n)) old new)
-          term.node c.add_term_shares.ensures);
+          (rw term.node at c.add_term_shares.ensures);
       constant =
           ap (λ w. to_z w128 (of_z w128 w)) (constant_more c)
           ∙ to_z-of_z w128 (total_by long_constant (take (i + 1) t.terms))

@@ -85,3 +85,7 @@ returns-then-whole-eq0-clause-small c = omega (arith, added (goal.at.returns-the
 
 pub returns-else-whole-eq0-clause-small : goal.returns-else-whole-eq0-clause-small
 returns-else-whole-eq0-clause-small c = omega (arith, added (goal.at.returns-else-whole-eq0-clause-small c).After-sum)
+
+pub at-requires : goal.at-requires
+at-requires c =
+    All-get_or (λ (k : Keyed). k.index < length c.args.additions.now) c.args.order.now c.args.place _ c.requires.within c.requires.indices

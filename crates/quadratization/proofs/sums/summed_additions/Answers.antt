@@ -1,4 +1,4 @@
-use Rattle.quadratization.proofs.Common.{◌≡◌, ◌∷◌, ◌++◌, [], ℤ, pos, to_z, of_z, map, ap, sym, ◌∙◌, arith, rules, w128, ints, to_z-of_z, map_push, get_or_from_slice_get, Product, product_term, set_at, summed_term, append-nil}
+use Rattle.quadratization.proofs.Common.{◌≡◌, ◌∷◌, ◌++◌, [], ℤ, pos, to_z, of_z, map, ap, sym, ◌∙◌, arith, rules, w128, ints, to_z-of_z, map_push, get_or_from_slice_get, Product, product_term, ◌<◌, length, All-get_or, Keyed, set_at, summed_term, append-nil}
 use Rattle.quadratization.proofs.sums.summed_additions.Goals as goal
 use Rattle.quadratization.proofs.sums.summed_additions.Goals.{in-Some+in_ok-copy_into+in_ok-push, in_default}
 use Rattle.quadratization.proofs.SortedAdditions.{given_next}
@@ -25,3 +25,10 @@ loop-i-preserved c =
           c.next_sum.ensures.sums made back c.loop-i.invariant.whole;
       small = omega (arith, ints, back, c.next_sum.ensures.small);
     }
+
+pub next_sum-requires-clause-small : goal.next_sum-requires-clause-small
+next_sum-requires-clause-small c = c.loop-i.invariant.small
+
+pub at-requires : goal.at-requires
+at-requires c =
+    All-get_or (λ (k : Keyed). k.index < length c.args.additions.now) c.args.order.now c.loop-i.i _ c.loop-i-test.true c.requires.indices

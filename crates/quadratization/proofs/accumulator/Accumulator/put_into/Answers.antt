@@ -35,8 +35,7 @@ left_is c =
 
 pub invariant_of-self-2 : goal.invariant_of-self-2
 invariant_of-self-2 c =
-    let narrow = touched_none (length c.self.inside.sums.items) c.self.invariant.narrow in
-    rw (c.clear.ensures.items, left_is c) narrow
+    rw (c.clear.ensures.items, left_is c) (touched_none (length c.self.inside.sums.items) c.self.invariant.narrow)
 
 pub returns-clause-put : goal.returns-clause-put
 returns-clause-put c =

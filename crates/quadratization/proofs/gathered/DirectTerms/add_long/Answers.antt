@@ -8,9 +8,8 @@ invariant_of-self c =
     let z : ℤ = to_z w128 (of_z w128 c.args.coefficient) in
     let is : z ≡ c.args.coefficient = to_z-of_z w128 c.args.coefficient (search rules) in
     let ls = c.args.literals.now in
-    let s = c.self.inside.sums in
     either c.push.result c.push.ensures.pushed c.push.ensures.unchanged
-    (fits-long s c.self.inside.long ls z c.push.new.self c.self.invariant c.requires.long
+    (fits-long c.self.inside.sums c.self.inside.long ls z c.push.new.self c.self.invariant c.requires.long
     (subst (λ (k : HeldContent). IsTermSet (length k.weights) ls) (sym same) c.requires.set)
     (omega (arith, c.requires.small, ap unsigned_abs is, ap (λ (k : HeldContent). k.total) same)))
     (λ e. rw e c.self.invariant)

@@ -22,8 +22,7 @@ invariant_of-result c =
     subst IsQuad (sym (sum_is_image _ _ within (sums c _ within c.requires.held.2))) (image-quad _ within)
 
 pub returns-clause-quad : goal.returns-clause-quad
-returns-clause-quad c t within held =
-    sum_is_image t _ within (sums c t within held)
+returns-clause-quad c t within held = sum_is_image t _ within (sums c t within held)
 
 pub returns-clause-new_nodes : goal.returns-clause-new_nodes
 returns-clause-new_nodes c t held x =

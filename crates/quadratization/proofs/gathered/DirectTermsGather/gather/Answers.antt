@@ -13,5 +13,4 @@ add-requires-clause-small c =
 
 pub returns-clause-takes : goal.returns-clause-takes
 returns-clause-takes c more room =
-    let back = to_z-of_z w128 c.args.coefficient (search rules) in
-    places_if_ok _ _ _ _ _ _ _ back room c.add.ensures.width c.add.ensures.total
+    places_if_ok _ _ _ _ _ _ _ (to_z-of_z w128 c.args.coefficient (search rules)) room c.add.ensures.width c.add.ensures.total

@@ -28,13 +28,6 @@ returns-clause-kept c =
     let later = c.from_variable-later.result.1 in
     let n = c.at-term.result.first_node in
     subst (IsPlaceOf _ c.args.variable)
-    (λ i. record {
-      literal = l;
-      later = later;
-      degree = sym c.len-degree.ensures i;
-      coefficient =
-          sym back i;
-      first_node = n;
-    })
+    (λ i. record { literal = l; later = later; degree = sym c.len-degree.ensures i; coefficient = sym back i; first_node = n })
     (place_kept _ c.args.index c.args.variable _ _ l later n c.at-term.ensures.kept
     c.at-term.ensures.term c.from_variable-later.ensures c.at-term.ensures.node)

@@ -18,7 +18,6 @@ loop-ls-preserved c =
     let ls = c.in-Some.ls.now in
     let a = c.in-Some.a in
     let t : Term = (ls, a) in
-    let left = c.loop-ls.ls-iterator in
     let rest = c.next.new.self in
     let now = c.loop-ls.products.terms in
     let row = pair_products n (pairs_with t us) in
@@ -39,7 +38,7 @@ loop-ls-preserved c =
       small =
           let size = ap terms_total pushed ∙ terms_total-append now row in
           let before = terms_total c.args.into.now.content.terms + terms_total now in
-          let few = all_small n (terms_total us) before _ left rest t step c.loop-ls.invariant.small in
+          let few = all_small n (terms_total us) before _ _ rest t step c.loop-ls.invariant.small in
           omega (arith, size, row-total n a ls us, few);
       sets = All-tail P t rest (subst (λ (ts : List Term). All P ts) step c.loop-ls.invariant.sets);
     }
