@@ -6,7 +6,7 @@ pub use Rattle.std.specs.List.{count_by, sum_by, range_with_len, slice_range, po
 pub use Rattle.std.proofs.lemmas.Bool.{cases_eq, cases_lt, ne_eqb}
 pub use Rattle.std.proofs.lemmas.List.FromFn.{length-map-range_with_len, get_or-map-range_with_len, map-range_with_len_more}
 pub use Rattle.std.proofs.lemmas.List.Sums.{sum_by-append, sum_by-cons, sum_by_more, sum_by-take-le, get_or-le-sum_by}
-pub use Rattle.std.proofs.lemmas.Nat.{div-add-mod', div-mul-add, mod-mul-add}
+pub use Rattle.std.proofs.lemmas.Nat.{div-add-mod'}
 pub use Rattle.std.proofs.Math.Nat.{div-lt_iff_lt-mul, mul_comm, min-le_left, min-le_right, div-mul-le_self, le-div_iff_mul-le}
 pub use Rattle.chimera_graph.specs.declared.chimera.Chimera.{Chimera}
 pub use Rattle.chimera_graph.specs.declared.place.Place.{Place}

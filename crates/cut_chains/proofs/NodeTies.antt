@@ -89,6 +89,5 @@ module _ (e : Embedding) (i : ℕ) (old chain parents : List ℕ)
     pub node_made : ties (strength_in new (first_of chain)) (drop 1 chain) parents ≡ node_ties e i
     node_made =
         (λ k. ties (strength_in new (first_of (next.chain_is k))) (drop 1 (next.chain_is k))
-        (next.parents_is k))
-        ∙ same_ties _ (cut_strength e i) (drop 1 (chain_of e.chains i))
+        (next.parents_is k)) ∙ same_ties _ (cut_strength e i) (drop 1 (chain_of e.chains i))
         (chain_of e.parents i) same_strength

@@ -2,9 +2,9 @@
 use Rattle.std.specs.Prelude.{◌≡◌, ℕ, ◌≤◌, ◌<◌, ◌⊎◌, List, ◌++◌}
 use Rattle.std.specs.List.{AllZip}
 use Rattle.bits_model.specs.declared.output.Entry.{Entry}
-use Rattle.ising_form.specs.Isings.{IsingContent}
+use Rattle.ising_form.specs.Isings.{IsingContent, IsIsing}
 use Rattle.chain_map.specs.Chains.{Joins, chain_of}
-use Rattle.chain_map.specs.Valid.{IsCrossing}
+use Rattle.chain_map.specs.Valid.{IsCrossing, IsValid}
 use Rattle.embedding_check.specs.Embeddings.{Embedding}
 use Rattle.embedding_check.specs.Distances.{AreParents}
 
@@ -31,6 +31,13 @@ abbrev pub AddsPlaces : Joins → List (List ℕ) → List Entry → (old new : 
 AddsPlaces joined chains row old new =
     (before : List Entry) → ArePlaces joined chains before old
     → ArePlaces joined chains (before ++ row) new
+
+-- valid chains of a form, with the parents of each and the places of the couplings
+pub record IsLaidOut (joined : Joins) (n : ℕ) (f : IsingContent) (chains up : List (List ℕ)) (pairs : List (ℕ × ℕ)) : Type 0 where
+  pub valid : IsValid joined n f chains
+  pub parents : AllZip (AreParents joined) chains up
+  pub places : ArePlaces joined chains f.couplings pairs
+  pub form : IsIsing f
 
 -- the given form and chains on the graph, with their parents and the places of the couplings
 pub record IsChecked (joined : Joins) (n : ℕ) (f : IsingContent) (map : List (List ℕ)) (e : Embedding) : Type 0 where

@@ -1,11 +1,8 @@
 //! The check of a map of chains.
 ghost use Rattle.std.specs.Prelude.{◌≡◌, ◌<◌, IfOk, IfErr};
-ghost use Rattle.std.specs.List.{AllZip};
-ghost use Rattle.ising_form.specs.Isings.{IsIsing};
 ghost use Rattle.chain_map.specs.Faults.{IfFault};
 ghost use Rattle.chain_map.specs.Valid.{IsValid};
-ghost use Rattle.embedding_check.specs.Checked.{IsChecked, ArePlaces};
-ghost use Rattle.embedding_check.specs.Distances.{AreParents};
+ghost use Rattle.embedding_check.specs.Checked.{IsChecked, IsLaidOut};
 ghost use Rattle.embedding_check.specs.Faults.{IsFault, IsApart};
 ghost use Rattle.embedding_check.specs.Search.{AreSorted};
 
@@ -54,13 +51,8 @@ fn parents_and_places<H: Hardware>(
 ) -> Result<(ChainList, PairList), CheckAnswer>
     requires apart { IsApart (λ q. q < H.qubits hardware.now) ising.now chains.now }
     requires sorted { AreSorted chains.now sorted.now }
-    ensures valid { IfOk result (λ _.
-        IsValid (H.joined hardware.now) (H.qubits hardware.now) ising.now chains.now) }
-    ensures parents { IfOk result (λ r.
-        AllZip (AreParents (H.joined hardware.now)) chains.now r.0) }
-    ensures places { IfOk result (λ r.
-        ArePlaces (H.joined hardware.now) chains.now ising.now.couplings r.1) }
-    ensures form { IfOk result (λ _. IsIsing ising.now) }
+    ensures laid { IfOk result (λ r. IsLaidOut (H.joined hardware.now) (H.qubits hardware.now)
+        ising.now chains.now r.0 r.1) }
     ensures fault { IfErr result (λ e. IfFault e
         (IsFault (H.joined hardware.now) (H.qubits hardware.now) ising.now chains.now)) }
 {
@@ -84,14 +76,9 @@ fn laid_out<H: Hardware>(
     ising: &Ising,
     map: &ChainMap,
 ) -> Result<Layout, CheckAnswer>
-    ensures valid { IfOk result (λ _.
-        IsValid (H.joined hardware.now) (H.qubits hardware.now) ising.now map.now) }
-    ensures chains { IfOk result (λ l. l.chains ≡ map.now) }
-    ensures parents { IfOk result (λ l.
-        AllZip (AreParents (H.joined hardware.now)) map.now l.parents) }
-    ensures places { IfOk result (λ l.
-        ArePlaces (H.joined hardware.now) map.now ising.now.couplings l.places) }
-    ensures form { IfOk result (λ _. IsIsing ising.now) }
+    ensures same { IfOk result (λ l. l.chains ≡ map.now) }
+    ensures laid { IfOk result (λ l. IsLaidOut (H.joined hardware.now) (H.qubits hardware.now)
+        ising.now l.chains l.parents l.places) }
     ensures fault { IfErr result (λ e. IfFault e
         (IsFault (H.joined hardware.now) (H.qubits hardware.now) ising.now map.now)) }
 {

@@ -129,11 +129,6 @@ marked_more marks ws i d h =
     ∙ filter_push (is_marked marks) (node_entries 0 (take i ws))
     (record { first = i; second = i; weight = get_or ws i d })
 
-pub filter-same : (p q : Entry → Bool) (xs : List Entry) → ((e : Entry) → p e ≡ q e)
-    → filter p xs ≡ filter q xs
-filter-same p q [] same = refl
-filter-same p q (x ∷ xs) same = (λ i. cond (same x i) (x ∷ filter-same p q xs same i) (filter-same p q xs same i))
-
 -- one node more is listed
 listed_push : (ns : List ℕ) (ws : List ℤ) (n : ℕ) (w : ℤ) → length ns ≡ length ws
     → listed_entries (ns ++ n ∷ []) (ws ++ w ∷ [])

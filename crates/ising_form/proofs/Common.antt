@@ -4,7 +4,7 @@ pub use Rattle.quad_form.proofs.Common.{node_entries, IsCoupler, QuadContent, Is
 pub use Rattle.bits_model.proofs.Common.{nat_tests, ints, to_z-of_z, sum_by-cons, sum_by-append, total_by, if_so, listed_entries, w128}
 pub use Rattle.std.specs.List.{AllByRecursion, filter, list_any, slice_index_or, sum_by}
 unfoldable pub use Rattle.std.specs.List.Sorted.{IsStrictlySortedBy}
-pub use Rattle.std.proofs.lemmas.List.{append-nil, length-take-le, drop_more, length-drop, length-set, get_or-set_other, take_all, take_more, take_more_set}
+pub use Rattle.std.proofs.lemmas.List.{append-nil, length-take-le, take-append-le, drop_more, drop_all, length-drop, length-set, get_or-set_other, take_all, take_more, take_more_set}
 pub use Rattle.std.proofs.lemmas.List.Elements.{recursion_from_All, All-from_recursion, All-get_or}
 pub use Rattle.bits_model.specs.Output.{bit_at, times_spin, spins_energy, entry_cmp, has_node, is_chained, weight_total, entry_size, IsWellFormed, IsPlaced, decoding_of, entry_energy, read_off, Written}
 pub use Rattle.quad_form.proofs.NodeEntries.{node_entries_more, nodes_ordered, couplers_up, all_placed, has_each_node, all_nonzero, all_upward}

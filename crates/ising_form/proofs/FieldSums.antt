@@ -68,15 +68,7 @@ size-sum n (w ∷ ws) = omega (arith, size-plus, node_total-cons, size-sum (suc 
 
 pub size-constant : (c : ℤ) (ws : List ℤ) (cs : List Entry) → unsigned_abs (spins_constant c ws cs)
     ≤ 4 * unsigned_abs c + (2 * node_total 0 ws + weight_total cs)
-size-constant c ws cs =
-    let nodes = total_by (λ (w : ℤ). w) ws in
-    let couplers = total_by (λ (e : Entry). e.weight) cs in
-    bound c nodes couplers (node_total 0 ws) (weight_total cs) (size-sum 0 ws)
-    (size-total_by (λ (e : Entry). e.weight) cs)
-  where
-    bound : (c a b : ℤ) (m n : ℕ) → unsigned_abs a ≤ m → unsigned_abs b ≤ n
-        → unsigned_abs (pos 4 *ℤ c +ℤ (pos 2 *ℤ a +ℤ b)) ≤ 4 * unsigned_abs c + (2 * m + n)
-    bound c a b m n p q = omega (arith, ints)
+size-constant c ws cs = omega (arith, ints, size-sum 0 ws, size-total_by (λ (e : Entry). e.weight) cs)
 
 -- ---- one more node
 

@@ -44,6 +44,7 @@ pub use Rattle.std.proofs.lemmas.List.Sums.{AllPass-from_list_all, list_all-from
 pub use Rattle.chain_map.proofs.Occurrences.{occurrences-sum}
 pub use Rattle.chain_map.proofs.Paths.{path_connected, is_in_at}
 pub use Rattle.chain_map.proofs.Rows.{default_free, front_none}
+pub use Rattle.embedding_check.proofs.Passing.{first_at}
 pub use Rattle.embedding_check.proofs.PlacedRows.{all_in_row, some_in_row}
 pub use Rattle.std.proofs.lemmas.Fn.{always_returns_same}
 pub use borrow.Author.Count.{below_more}

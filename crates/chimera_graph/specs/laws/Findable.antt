@@ -25,11 +25,9 @@ same_index graph p q row col side at =
 
 -- what is across the cell lies in the span of numbers there
 faced : (graph : Chimera) (p q : Place) (b : ℕ) → index_of graph q ≡ b → q.at < graph.shore
-    → q.row ≡ p.row → q.col ≡ p.col → q.side ≡ 1 - p.side
-    → IsFaced
+    → q.row ≡ p.row → q.col ≡ p.col → q.side ≡ 1 - p.side → IsFaced
     (let start = index_of graph (record { row = p.row; col = p.col; side = 1 - p.side; at = 0 }) in
-    record { start = start; end = start + graph.shore })
-    b
+    record { start = start; end = start + graph.shore }) b
 faced graph p q b number at row col side =
     let base : (((q.row * graph.cols + q.col) * 2 + q.side) * graph.shore) ≡ (((p.row * graph.cols + p.col) * 2 + (1 - p.side)) * graph.shore) =
     λ i. ((row i * graph.cols + col i) * 2 + side i) * graph.shore in
@@ -74,20 +72,17 @@ before_at : (graph : Chimera) (p q : Place) (b : ℕ) → index_of graph q ≡ b
     ≡ Some b
 before_at graph p q b number h =
     let down = same_index graph q (place_at p (p.row - 1) p.col) in
-    let on = same_index graph q (place_at p p.row (p.col - 1)) in
-    grind (arith, nat_tests)
+    let on = same_index graph q (place_at p p.row (p.col - 1)) in grind (arith, nat_tests)
 
 -- and a place after another
 after_at : (graph : Chimera) (p q : Place) (b : ℕ) → index_of graph q ≡ b → q.row < graph.rows
-    → q.col < graph.cols → IsNext p q
-    → (if p.side == 0
+    → q.col < graph.cols → IsNext p q → (if p.side == 0
     then (if p.row + 1 == graph.rows then None else Some (index_of graph (place_at p (p.row + 1) p.col)))
     else (if p.col + 1 == graph.cols then None else Some (index_of graph (place_at p p.row (p.col + 1)))))
     ≡ Some b
 after_at graph p q b number row_in col_in h =
     let down = same_index graph q (place_at p (p.row + 1) p.col) in
-    let on = same_index graph q (place_at p p.row (p.col + 1)) in
-    grind (arith, nat_tests)
+    let on = same_index graph q (place_at p p.row (p.col + 1)) in grind (arith, nat_tests)
 
 -- Each qubit that a is joined to is one that a faces, or the one before a or after it. So all
 -- qubits that are joined to one are found without looking at all others.

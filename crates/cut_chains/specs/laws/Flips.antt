@@ -5,7 +5,7 @@
 -- fields and placed couplings at flipped qubits, and the ties, of which just the broken one
 -- changes.
 use Rattle.std.specs.Prelude.{◌≡◌, ◌≢◌, ◌*◌, ◌<◌, ◌==◌, ◌+ℤ◌, ◌≤ℤ◌, ◌&&◌, ◌∷◌}
-use Rattle.chain_layer.proofs.Common.{coupling_energy, ℕ, ℤ, pos, neg_ℤ, unsigned_abs, Bool, true, false, not, cond, List, [], AllByRecursion, AllZip, range_with_len, arith, ap, sym, ◌∙◌, refl, inl, inr, ints, nat_tests, cases_eq, eq-eqb, or_left, or_right, or_parts, both_ways, and_cases, sum_by-cons, total_by, if_so, total_by-plus, Entry, times_spin, is_in, IsCoupler, couplings_at, coupling_entry, ties, pair_energy, range-le, range-zero, hit, marked_ends, are_same, is_whole, Once}
+use Rattle.chain_layer.proofs.Common.{zip_weaker, apart_qubits, coupling_energy, ℕ, ℤ, pos, neg_ℤ, unsigned_abs, Bool, true, false, not, cond, List, [], AllByRecursion, AllZip, range_with_len, arith, ap, sym, ◌∙◌, refl, inl, inr, ints, nat_tests, cases_eq, eq-eqb, or_left, or_right, and_cases, sum_by-cons, total_by, if_so, total_by-plus, Entry, times_spin, is_in, IsCoupler, couplings_at, coupling_entry, ties, pair_energy, range-le, range-zero, hit, marked_ends, are_same, is_whole, Once}
 use Rattle.cut_chains.specs.Sides.{side_weight}
 
 -- The spins with those of a side turned over. A side is a test of qubits. Bits are spins: 1 is up,
@@ -137,14 +137,9 @@ pub record IsCut (side s : ℕ → Bool) (c q p : ℕ) : Type 0 where
 -- among ties without the broken one, all are kept
 kept_of_cut : (side s : ℕ → Bool) (c : ℕ) (qs ps : List ℕ) → is_in qs c ≡ false
     → AllZip (IsCut side s c) qs ps → AreKept side qs ps
-kept_of_cut side s c [] [] out cuts = tt
-kept_of_cut side s c [] (p ∷ ps) out cuts = cuts
-kept_of_cut side s c (q ∷ qs) [] out cuts = cuts
-kept_of_cut side s c (q ∷ qs) (p ∷ ps) out cuts =
-    let parts = or_parts (q == c) (is_in qs c) out in (
-      cuts.0.same (λ e. both_ways (q == c) parts.0 (eq-eqb q c e)),
-      kept_of_cut side s c qs ps parts.1 cuts.1,
-    )
+kept_of_cut side s c qs ps out cuts =
+    zip_weaker (IsCut side s c) (λ q p. side q ≡ side p) qs ps
+    (λ q p in' cut. cut.same (λ e. apart_qubits q c qs out in' (sym e))) cuts
 
 -- the broken tie is mended, and all others stay: the energy of the ties falls by twice the strength
 -- of the broken one

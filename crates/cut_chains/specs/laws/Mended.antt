@@ -4,7 +4,7 @@
 -- The fields and placed couplings of that side give back at most twice its weight. The tie itself
 -- gives twice its strength, which is one more than the weight, and no other tie changes.
 use Rattle.std.specs.Prelude.{◌≡◌, ◌≢◌, ◌+◌, ◌*◌, ◌<◌, ◌==◌, ◌+ℤ◌, ◌≤ℤ◌, ◌&&◌, ◌∷◌}
-use Rattle.chain_layer.proofs.Common.{ℕ, ℤ, pos, unsigned_abs, Bool, true, false, not, List, [], length, drop, AllZip, range_with_len, arith, ap, sym, ◌∙◌, refl, inl, inr, ints, cases_eq, cases_lt, eq-eqb, ne_eqb, and_left, false_from_ne_true, length_all_zip, total_by, if_so, total_by-plus, Entry, is_in, chain_of, Embedding, IsEmbedding, IsTie, IsTree, parent_in, nodes_of, couplings_at, all_shares, ties, field_at, placed, range-same, hit, are_same, in_first, in_rest, node_at, whole_at, tied_energy, free_energy, chains_energy, chain_within, fields_spread, each_at, one_chain, rest_in, Once, AreOwn, own_parents, chain_once}
+use Rattle.chain_layer.proofs.Common.{zip_weaker, ℕ, ℤ, pos, unsigned_abs, Bool, true, false, not, List, [], length, drop, AllZip, range_with_len, arith, ap, sym, ◌∙◌, refl, inl, inr, ints, cases_eq, cases_lt, eq-eqb, ne_eqb, and_left, false_from_ne_true, length_all_zip, total_by, if_so, total_by-plus, Entry, is_in, chain_of, Embedding, IsEmbedding, IsTie, IsTree, parent_in, nodes_of, couplings_at, all_shares, ties, field_at, placed, range-same, hit, are_same, in_first, in_rest, node_at, whole_at, tied_energy, free_energy, chains_energy, chain_within, fields_spread, each_at, one_chain, rest_in, Once, AreOwn, own_parents, chain_once}
 use Rattle.chain_layer.proofs.Ordered.{couplers_placed}
 use Rattle.cut_chains.specs.Sides.{is_below, weight_of, side_weight, tie_strength, cut_strength}
 use Rattle.cut_chains.specs.laws.Trees.{IsRooted, same_side, tied_below, parent_above}
@@ -167,13 +167,9 @@ others_kept : (side : ℕ → Bool) (chain qs ps : List ℕ)
     → ((q : ℕ) → is_in chain q ≡ true → side q ≡ false)
     → ((q : ℕ) → is_in qs q ≡ true → is_in chain q ≡ true) → AllZip (IsTie chain) qs ps
     → AreKept side qs ps
-others_kept side chain [] [] none ins ties = tt
-others_kept side chain [] (p ∷ ps) none ins ties = ties
-others_kept side chain (q ∷ qs) [] none ins ties = ties
-others_kept side chain (q ∷ qs) (p ∷ ps) none ins ties = (
-  none q (ins q (in_first q qs)) ∙ sym (none p ties.0.inside),
-  others_kept side chain qs ps none (λ r in'. ins r (in_rest q r qs in')) ties.1,
-)
+others_kept side chain qs ps none ins ties =
+    zip_weaker (IsTie chain) (λ q p. side q ≡ side p) qs ps
+    (λ q p in' tie. none q (ins q in') ∙ sym (none p tie.inside)) ties
 
 -- the side of a chain has no qubit of another, since a qubit is in one chain at most
 not_on_other : (e : Embedding) → IsEmbedding e → (i j : ℕ) → i < length e.ising.fields

@@ -216,9 +216,6 @@ module _ (first : ℕ) (cs ps : List ℕ) (root : IsRooted first cs ps) where
 pub is_below_first : (first : ℕ) (cs ps : List ℕ) → IsRooted first cs ps → (r : ℕ)
     → (r ≡ first) ⊎ (is_in cs r ≡ true) → is_below (first ∷ cs) ps first r ≡ true
 is_below_first first cs ps root r (inl same) =
-    any_of_range (λ n. climbed cs ps n r == first) 0 0 (suc (length cs)) (omega arith) (omega arith)
-    (eq-eqb r first same)
+    is_below_by first cs ps root first r 0 (omega arith) same
 is_below_first first cs ps root r (inr in') =
-    any_of_range (λ n. climbed cs ps n r == first) (length cs) 0 (suc (length cs)) (omega arith)
-    (omega arith)
-    (eq-eqb (climbed cs ps (length cs) r) first (near_all first cs ps root r in'))
+    is_below_by first cs ps root first r (length cs) (omega arith) (near_all first cs ps root r in')

@@ -1,8 +1,9 @@
 -- The joins of the working graph are some of the graph's, and go both ways. Nothing here has to be
 -- believed.
-use Rattle.std.specs.Prelude.{◌≡◌, ℕ, ◌==◌, ◌<◌, Bool, true, false, not, ◌&&◌, ◌||◌}
+use Rattle.std.specs.Prelude.{◌≡◌, ℕ, ◌==◌, ◌<◌, Bool, true, false, not, ◌&&◌}
 use Rattle.std.specs.List.{list_any}
-use Rattle.std.proofs.Common.{◌∙◌, refl}
+use Rattle.std.proofs.Common.{refl, arith}
+use Rattle.std.proofs.Math.Bool.{or_comm}
 use Rattle.chimera_graph.specs.Graph.{qubits_of, place_of}
 use Rattle.chimera_graph.specs.Places.{are_joined}
 use Rattle.chimera_graph.specs.Spans.{CanBeJoined}
@@ -13,21 +14,8 @@ use Rattle.working_graph.specs.declared.parts.DeadPart.{DeadPart}
 use Rattle.working_graph.specs.declared.parts.DeadPart.TheVariants.{Qubit, Coupler}
 use Rattle.working_graph.specs.Working.{WorkingGraph, exists_in, is_coupler, joined_in}
 
-swapped : (j e f c : Bool) → (j && e && f && c) ≡ (j && f && e && c)
-swapped true true true c = λ i. c
-swapped true true false c = λ i. false
-swapped true false true c = λ i. false
-swapped true false false c = λ i. false
-swapped false e f c = λ i. false
-
 turned : (j k e f c d : Bool) → j ≡ k → c ≡ d → (j && e && f && not c) ≡ (k && f && e && not d)
-turned j k e f c d same other = swapped j e f (not c) ∙ (λ i. same i && f && e && not (other i))
-
-or_comm : (a b : Bool) → (a || b) ≡ (b || a)
-or_comm true true = refl
-or_comm true false = refl
-or_comm false true = refl
-or_comm false false = refl
+turned j k e f c d same other = grind arith
 
 coupler_comm : (a b : ℕ) (part : DeadPart) → is_coupler a b part ≡ is_coupler b a part
 coupler_comm a b (Qubit c) = refl

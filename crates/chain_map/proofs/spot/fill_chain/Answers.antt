@@ -16,7 +16,6 @@ returns c =
     let graph = c.args.graph.now in
     let spot = c.spot_of-spot.result in
     let len = path_len graph spot.cell spot.at c.spot_of-spot.ensures.cell in
-    c.loop-steps.invariant
-    ∙ take_all c.loop-steps.steps (path_of graph spot.cell spot.at)
+    c.loop-steps.invariant ∙ take_all c.loop-steps.steps (path_of graph spot.cell spot.at)
     (omega (arith, len, c.loop-steps-test.false, c.diagonal_of-steps-end.ensures))
     ∙ ap (λ (s : Spot). path_of graph s.cell s.at) c.spot_of-spot.ensures.spot

@@ -41,11 +41,12 @@ invariant_of-target c =
     subst IsIsing (sym (image_is c))
     (cut_is_ising c.args.source.now c.ising.ensures.kept c.requires.total)
 
-pub returns-clause-image : goal.returns-clause-image
-returns-clause-image c = image_is c
-
-pub returns-clause-cost : goal.returns-clause-cost
-returns-clause-cost c =
+pub returns : goal.returns
+returns c =
+    let kept = c.ising.ensures.kept in
     let made = c.in_ok-gathered.ensures in
-    c.cost_from-cost.ensures
-    ∙ left_cost c.args.source.now c.ising.ensures.kept _ _ made.made made.count
+    record {
+      image = image_is c;
+      cost = c.cost_from-cost.ensures ∙ left_cost c.args.source.now kept _ _ made.made made.count;
+      kept = kept;
+    }

@@ -5,14 +5,19 @@ use Rattle.cut_chains.proofs.orders.reach.Goals as goal
 pub bounds-seen-chain : goal.bounds-seen-chain
 bounds-seen-chain c = c.requires.tree.inside.0
 
-pub climb-requires-clause-from : goal.climb-requires-clause-from
-climb-requires-clause-from c =
+pub climb-requires : goal.climb-requires
+climb-requires c =
     let chain = c.args.chain.now in
     let cs = drop 1 chain in
     let whole = take_all (length chain - 1) cs (omega (arith, length-drop 1 chain)) in
     let inside = All-from_recursion (λ q. q < length c.args.seen.now) cs c.requires.tree.inside.1 in
-    rw (whole, (c.loop-qubit.invariant.reaching c.requires.tree).sized)
-    (inside c.loop-qubit.qubit-index 0 (omega (arith, ap length whole)))
+    let sized = (c.loop-qubit.invariant.reaching c.requires.tree).sized in
+    record {
+      empty = c.loop-qubit.invariant.empty;
+      from = rw (whole, sized) (inside c.loop-qubit.qubit-index 0 (omega (arith, ap length whole)));
+      sized = rw sized c.requires.sized;
+      within = rw sized c.requires.within;
+    }
 
 pub loop-qubit-preserved : goal.loop-qubit-preserved
 loop-qubit-preserved c =
@@ -34,21 +39,20 @@ loop-qubit-preserved c =
           (ap (is_in cs) same ∙ is_in_at cs i (get_or cs i 0) within refl) c.in_ok-climb.ensures.climbed);
     }
 
-pub returns-clause-ordered : goal.returns-clause-ordered
-returns-clause-ordered c t =
+pub returns : goal.returns
+returns c =
     let chain = c.args.chain.now in
+    let first = first_of chain in
     let cs = drop 1 chain in
-    let whole : take (length chain - 1) cs ≡ cs =
-    take_all (length chain - 1) cs (omega (arith, length-drop 1 chain)) in
-    let all = take_all c.loop-qubit.qubit-index cs (omega (arith, ap length whole)) in
-    let reaching = c.loop-qubit.invariant.reaching t in
-    reach_end c.args.up.now c.args.seen.now (first_of chain) cs t c.loop-qubit.seen
-    c.loop-qubit.order.items (rw all at reaching)
-
-pub returns-clause-others : goal.returns-clause-others
-returns-clause-others c q within out =
-    let chain = c.args.chain.now in
-    let t = c.requires.tree in
-    reach_others c.args.up.now c.args.seen.now (first_of chain) (drop 1 chain) t _ _ _
-    (c.loop-qubit.invariant.reaching t) q within
-    (ap (λ qs. is_in qs q) (chain_parts chain c.requires.filled) ∙ out)
+    let reaching = c.loop-qubit.invariant.reaching in
+    record {
+      ordered = λ t.
+          let whole : take (length chain - 1) cs ≡ cs = take_all (length chain - 1) cs (omega (arith, length-drop 1 chain)) in
+          let all = take_all c.loop-qubit.qubit-index cs (omega (arith, ap length whole)) in
+          reach_end c.args.up.now c.args.seen.now first cs t c.loop-qubit.seen c.loop-qubit.order.items (rw all at reaching t);
+      empty = c.loop-qubit.invariant.empty;
+      sized = (reaching c.requires.tree).sized;
+      others = λ q within out.
+          reach_others c.args.up.now c.args.seen.now first cs c.requires.tree _ _ _ (reaching c.requires.tree) q within
+          (ap (λ qs. is_in qs q) (chain_parts chain c.requires.filled) ∙ out);
+    }

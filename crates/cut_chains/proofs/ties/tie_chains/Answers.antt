@@ -41,22 +41,19 @@ pub weigh_chain-requires-clause-small : goal.weigh_chain-requires-clause-small
 weigh_chain-requires-clause-small c =
     next_small _ _ _ _ _ (next_at (goal.at.weigh_chain-requires-clause-small c).After-list-parents)
 
-pub push_ties-requires-clause-matched : goal.push_ties-requires-clause-matched
-push_ties-requires-clause-matched c =
-    let next = next_at (goal.at.push_ties-requires-clause-matched c).After-list-parents in
-    tree_lengths c.list-qubits.result.now c.list-parents.result.now (next_tree _ _ _ _ _ next)
-
-pub push_ties-requires-clause-parts : goal.push_ties-requires-clause-parts
-push_ties-requires-clause-parts c =
-    let next = next_at (goal.at.push_ties-requires-clause-parts c).After-list-parents in
-    parts_small _ _ _ _ _ next c.weigh_chain.new.sums
-    (record { below = c.in_ok-weigh_chain.ensures.below; all = c.in_ok-weigh_chain.ensures.all })
-
-pub push_ties-requires-clause-small : goal.push_ties-requires-clause-small
-push_ties-requires-clause-small c =
-    let next = next_at (goal.at.push_ties-requires-clause-small c).After-list-parents in
-    all_small _ _ _ _ _ next c.weigh_chain.new.sums
-    (record { below = c.in_ok-weigh_chain.ensures.below; all = c.in_ok-weigh_chain.ensures.all })
+pub push_ties-requires : goal.push_ties-requires
+push_ties-requires c =
+    let next = next_at (goal.at.push_ties-requires c).After-list-parents in
+    let e = c.args.source.now in
+    let chain = chain_of e.chains c.loop-i.i in
+    let weighed = c.in_ok-weigh_chain.ensures in
+    record {
+      matched = tree_lengths c.list-qubits.result.now c.list-parents.result.now (next_tree _ _ _ _ _ next);
+      inside = rw (next.chain_is, weighed.sized, c.loop-i.invariant.sized)
+          (All-from_recursion _ chain (each_in (λ q. q < e.qubits) chain (λ q in'. chain_below e next.kept c.loop-i.i next.within q in')));
+      parts = parts_small _ _ _ _ _ next c.weigh_chain.new.sums (record { below = weighed.below; all = weighed.all });
+      small = all_small _ _ _ _ _ next c.weigh_chain.new.sums (record { below = weighed.below; all = weighed.all });
+    }
 
 pub loop-i-preserved : goal.loop-i-preserved
 loop-i-preserved c =

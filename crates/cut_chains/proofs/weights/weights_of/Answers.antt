@@ -16,7 +16,6 @@ pub returns : goal.returns
 returns c =
     let size = ap length c.deref_mut.ensures.value in
     changed c.in_ok-weights.weights.items c.add_couplings.new.weights c.in_ok-weights.weights.len
-    (omega (arith, size)) (omega arith)
-    ∙ all_weights c.args.source.now _ _ _ c.requires.fields
+    (omega (arith, size)) (omega arith) ∙ all_weights c.args.source.now _ _ _ c.requires.fields
     (c.deref_mut.ensures.value ∙ c.in_ok-weights.ensures) c.requires.placed
     c.add_couplings.new.weights c.add_couplings.ensures.length c.add_couplings.ensures.sums

@@ -21,15 +21,13 @@ inside g c =
           (λ u hu j hj. rw (← c.qubits-qubits.ensures) (c.in_ok-check_inside.ensures.within u hu j hj));
     }
 
-pub returns-clause-apart : goal.returns-clause-apart
-returns-clause-apart g c =
-    let inside = inside g (goal.at.returns-clause-apart g c).In_ok-check_inside in
-    IfOk-weaker c.check_once.result _ _ (λ _ once. record { inside = inside; once = once })
-    c.check_once.ensures.once
-
-pub returns-clause-fault : goal.returns-clause-fault
-returns-clause-fault g c =
-    let inside = inside g (goal.at.returns-clause-fault g c).In_ok-check_inside in
-    IfErr-weaker c.check_once.result _ _ (λ e h. if_fault e _ (IsFault _ _ _ _)
-    (λ x p. rw p.3 (inside, (p.0, p.1, p.2, refl))) h)
-    c.check_once.ensures.fault
+pub returns : goal.returns
+returns g c =
+    let inside = inside g (goal.at.returns g c).In_ok-check_inside in
+    record {
+      apart = IfOk-weaker c.check_once.result _ _ (λ _ once. record { inside = inside; once = once })
+          c.check_once.ensures.once;
+      fault = IfErr-weaker c.check_once.result _ _ (λ e h. if_fault e _ (IsFault _ _ _ _)
+          (λ x p. rw p.3 (inside, (p.0, p.1, p.2, refl))) h)
+          c.check_once.ensures.fault;
+    }

@@ -1,4 +1,4 @@
-use Rattle.embedding_check.proofs.Common.{◌<◌, length, sym, ap, ◌∙◌, err_from_is_err_and, IsingContent, IsLinked, IsReached, IsCoupled, IsPlaceOf, IsFault, NamesUncoupled}
+use Rattle.embedding_check.proofs.Common.{◌<◌, length, sym, ap, ◌∙◌, err_from_is_err_and, IsingContent, IsLinked, IsReached, IsCoupled, IsPlaceOf, IsFault, ArePlaces, NamesUncoupled}
 use Rattle.embedding_check.proofs.Faulty.{searchable, zip_all, all_of_places, if_fault}
 use Rattle.embedding_check.proofs.checking.parents_and_places.Given.{Over}
 use Rattle.embedding_check.proofs.checking.parents_and_places.Goals.{In_ok-parents}
@@ -32,18 +32,23 @@ returns-in_err-places-clause-fault g c =
     rw (p.1, p.2) (if_fault _ (NamesUncoupled (g.H.Hardware.joined c.args.hardware.now) c.args.ising.now.couplings c.args.chains.now) (IsFault _ _ _ _) (λ x p. rw p.4 (linked, (p.2, p.3)))
     (rw (← couplings) c.in_err-places.ensures.fault))
 
-pub returns-clause-valid : goal.returns-clause-valid
-returns-clause-valid g c =
+pub returns-clause-laid : goal.returns-clause-laid
+returns-clause-laid g c =
     let joined = g.H.Hardware.joined c.args.hardware.now in
-    let places = c.in_ok-places.places in
     let couplings = ap (λ (x : IsingContent). x.couplings) c.ising.view_is in
-    let linked = linked g (goal.at.returns-clause-valid g c).In_ok-parents in
+    let linked = linked g (goal.at.returns-clause-laid g c).In_ok-parents in
+    let places : ArePlaces joined c.args.chains.now c.args.ising.now.couplings c.in_ok-places.places = rw (← couplings) c.in_ok-places.ensures.places in
     record {
-      counted = linked.apart.inside.listed.listed.counted;
-      filled = linked.apart.inside.listed.filled;
-      within = linked.apart.inside.within;
-      once = linked.apart.once;
-      connected = linked.connected;
-      coupled = rw (← couplings) (zip_all (IsPlaceOf joined c.args.chains.now) (IsCoupled joined c.args.chains.now) _ places
-          (λ e place p. (place, p.crossing)) c.in_ok-places.ensures.places);
+      valid = record {
+        counted = linked.apart.inside.listed.listed.counted;
+        filled = linked.apart.inside.listed.filled;
+        within = linked.apart.inside.within;
+        once = linked.apart.once;
+        connected = linked.connected;
+        coupled = zip_all (IsPlaceOf joined c.args.chains.now) (IsCoupled joined c.args.chains.now) _ _
+            (λ e place p. (place, p.crossing)) places;
+      };
+      parents = c.in_ok-parents.ensures.parents;
+      places = places;
+      form = rw (← c.ising.view_is) c.ising.invariant;
     }

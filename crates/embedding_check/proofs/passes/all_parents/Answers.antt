@@ -1,34 +1,37 @@
-use Rattle.embedding_check.proofs.Common.{Disconnected, ◌≡◌, ◌+◌, ℕ, ◌<◌, List, [], ◌∷◌, length, take, get_or, ◌++◌, ◌∙◌, sym, subst, ap, arith, AllZip, take_all, all_zip_more, chain_of, AreParents, IsReachedAt, get_or_default}
+use Rattle.embedding_check.proofs.Common.{Disconnected, ◌≡◌, ◌+◌, ℕ, ◌<◌, ◌≤◌, List, [], ◌∷◌, length, take, get_or, ◌++◌, ◌∙◌, sym, subst, ap, arith, AllZip, take_all, all_zip_more, chain_of, AreParents, IsReachedAt, get_or_default}
 use Rattle.embedding_check.proofs.Passing.{chain_within, once_each, places_more, first_at}
 use Rattle.embedding_check.proofs.passes.all_parents.Goals as goal
 
-pub parents_of-requires-clause-once : goal.parents_of-requires-clause-once
-parents_of-requires-clause-once g c = λ q.
-    rw c.list-listed.ensures.listed (once_each c.args.chains.now c.requires.chains.once c.loop-node.node (omega arith) q)
+pub parents_of-requires : goal.parents_of-requires
+parents_of-requires g c =
+    let node = c.loop-node.node in
+    let below : node < length c.args.chains.now = omega arith in
+    record {
+      filled = rw c.list-listed.ensures.listed (c.requires.chains.filled node below);
+      within = chain_within (g.H.Hardware.qubits c.args.hardware.now) c.args.chains.now node
+          c.list-listed.result.now c.list-listed.ensures.listed below c.requires.chains.within;
+      once = λ q. rw c.list-listed.ensures.listed (once_each c.args.chains.now c.requires.chains.once node below q);
+      sorted = rw (c.list-listed.ensures.listed, c.list.ensures.listed) (c.requires.sorted.each node below);
+    }
 
-pub parents_of-requires-clause-within : goal.parents_of-requires-clause-within
-parents_of-requires-clause-within g c =
-    chain_within (g.H.Hardware.qubits c.args.hardware.now) c.args.chains.now c.loop-node.node
-    c.list-listed.result.now c.list-listed.ensures.listed (omega arith) c.requires.chains.within
-
-pub parents_of-requires-clause-sorted : goal.parents_of-requires-clause-sorted
-parents_of-requires-clause-sorted g c =
-    rw (c.list-listed.ensures.listed, c.list.ensures.listed)
-    (c.requires.sorted.each c.loop-node.node (omega arith))
-
-pub returns-in-Unreached-clause-fault : goal.returns-in-Unreached-clause-fault
-returns-in-Unreached-clause-fault g c =
+pub returns-in-Unreached : goal.returns-in-Unreached
+returns-in-Unreached g c =
     let joined = g.H.Hardware.joined c.args.hardware.now in
     let chains = c.args.chains.now in
     let node = c.loop-node.node in
     let k = c.in-Unreached.k in
     let same : c.list-listed.result.now ≡ chain_of chains node = c.list-listed.ensures.listed in
-    let bad = rw (c.in-Unreached.is, same) at c.in_ok-found.ensures in (
-      node,
-      k,
-      first_at chains (IsReachedAt joined chains) node k (omega arith) c.loop-node.invariant.reached bad,
-      ap (λ (xs : List ℕ). Disconnected node (get_or xs k 0)) same,
-    )
+    let bad = rw (c.in-Unreached.is, same) at c.in_ok-found.ensures in
+    record {
+      parents = tt;
+      connected = tt;
+      fault = (
+        node,
+        k,
+        first_at chains (IsReachedAt joined chains) node k (omega arith) c.loop-node.invariant.reached bad,
+        ap (λ (xs : List ℕ). Disconnected node (get_or xs k 0)) same,
+      );
+    }
 
 pub loop-node-preserved : goal.loop-node-preserved
 loop-node-preserved g c =
@@ -47,7 +50,11 @@ loop-node-preserved g c =
       reached = places_more chains (IsReachedAt joined chains) node c.loop-node.invariant.reached (λ j low. both.1 j 0 low);
     }
 
-pub returns-clause-parents : goal.returns-clause-parents
-returns-clause-parents g c =
-    let R = AreParents (g.H.Hardware.joined c.args.hardware.now) in
-    rw (← (take_all c.loop-node.node c.args.chains.now (omega arith))) c.loop-node.invariant.parents
+pub returns : goal.returns
+returns g c =
+    let all : length c.args.chains.now ≤ c.loop-node.node = omega arith in
+    record {
+      parents = rw (← (take_all c.loop-node.node c.args.chains.now all)) c.loop-node.invariant.parents;
+      connected = λ u h. c.loop-node.invariant.reached u (omega (arith, h, all));
+      fault = tt;
+    }

@@ -2,8 +2,7 @@ use Rattle.embedding_check.proofs.Common.{[], ◌∙◌, arith, take_more, take_
 use Rattle.embedding_check.proofs.passes.qubits_of.Goals as goal
 
 pub narrow-requires : goal.narrow-requires
-narrow-requires c =
-    rw c.chain.ensures (c.requires c.loop-node.node (omega arith))
+narrow-requires c = rw c.chain.ensures (c.requires c.loop-node.node (omega arith))
 
 pub loop-node-preserved : goal.loop-node-preserved
 loop-node-preserved c =

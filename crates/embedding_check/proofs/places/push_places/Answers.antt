@@ -1,27 +1,24 @@
-use Rattle.embedding_check.proofs.Common.{◌≡◌, ◌<◌, inl, inr, length, get_or, refl, arith, cases_lt, Entry, IsCoupler, IsPlaceOf, get_or_default}
+use Rattle.embedding_check.proofs.Common.{◌≡◌, ◌<◌, inl, inr, length, get_or, refl, arith, cases_lt, take_all, Entry, IsCoupler, IsPlaceOf, get_or_default}
 use Rattle.embedding_check.proofs.PlacedRows.{placed_next, no_entry}
 use Rattle.embedding_check.proofs.places.push_places.Goals as goal
 
-pub place_of-requires-clause-upward : goal.place_of-requires-clause-upward
-place_of-requires-clause-upward g c =
+pub place_of-requires : goal.place_of-requires
+place_of-requires g c =
     let row = c.args.row.now in
     let k = c.loop-k.k in
     let below : k < length row = omega arith in
     let coupler : IsCoupler (length c.args.chains.now) (get_or row k no_entry) = c.requires.nodes k no_entry below in
-    omega (arith, coupler.upward, c.first-first.ensures k no_entry below, c.second-second.ensures no_entry)
-
-pub place_of-requires-clause-node : goal.place_of-requires-clause-node
-place_of-requires-clause-node g c =
-    let row = c.args.row.now in
-    let k = c.loop-k.k in
-    let below : k < length row = omega arith in
-    let coupler : IsCoupler (length c.args.chains.now) (get_or row k no_entry) = c.requires.nodes k no_entry below in
-    omega (arith, coupler.within, c.second-second.ensures no_entry)
-
-pub place_of-requires-clause-noted : goal.place_of-requires-clause-noted
-place_of-requires-clause-noted g c = λ yes.
-    let below : c.loop-k.k < length c.args.row.now = omega arith in
-    rw (← c.first-first.ensures c.loop-k.k no_entry below) (c.requires.noted yes c.loop-k.k no_entry below)
+    let first = c.first-first.ensures k no_entry below in
+    let second = c.second-second.ensures no_entry in
+    record {
+      upward = omega (arith, coupler.upward, first, second);
+      node = omega (arith, coupler.within, second);
+      within = c.requires.within;
+      len = c.requires.len;
+      sorted = c.requires.sorted;
+      all = c.requires.all;
+      noted = λ yes. rw (← first) (c.requires.noted yes k no_entry below);
+    }
 
 pub loop-k-preserved : goal.loop-k-preserved
 loop-k-preserved g c =
@@ -67,3 +64,10 @@ returns-in-None-clause-fault g c =
       },
       refl,
     )
+
+pub returns : goal.returns
+returns g c = record {
+  places = λ before all.
+      rw (← (take_all c.loop-k.k c.args.row.now (omega arith))) (c.loop-k.invariant.placed before all);
+  fault = tt;
+}

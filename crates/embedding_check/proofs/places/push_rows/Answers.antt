@@ -3,17 +3,25 @@ use Rattle.embedding_check.proofs.Faulty.{if_fault, zip_all}
 use Rattle.embedding_check.proofs.PlacedRows.{all_in_row, some_in_row, uncoupled_in_row}
 use Rattle.embedding_check.proofs.places.push_rows.Goals as goal
 
-pub note_row-noting-requires-clause-nodes : goal.note_row-noting-requires-clause-nodes
-note_row-noting-requires-clause-nodes g c =
-    rw c.row-row.ensures (all_in_row (IsCoupler _) c.args.couplings.now c.loop-k.k (omega arith) c.requires.nodes)
+pub note_row-noting-requires : goal.note_row-noting-requires
+note_row-noting-requires g c = record {
+  nodes = rw c.row-row.ensures (all_in_row (IsCoupler _) c.args.couplings.now c.loop-k.k (omega arith) c.requires.nodes);
+  some = rw c.row-row.ensures (some_in_row c.args.couplings.now c.loop-k.k (omega arith));
+  within = c.requires.chains.within;
+  owners = c.requires.owners;
+  all = c.requires.all;
+  len = c.loop-k.invariant.table;
+}
 
-pub note_row-noting-requires-clause-some : goal.note_row-noting-requires-clause-some
-note_row-noting-requires-clause-some g c =
-    rw c.row-row.ensures (some_in_row c.args.couplings.now c.loop-k.k (omega arith))
-
-pub push_places-requires-clause-nodes : goal.push_places-requires-clause-nodes
-push_places-requires-clause-nodes g c =
-    rw c.row-row.ensures (all_in_row (IsCoupler _) c.args.couplings.now c.loop-k.k (omega arith) c.requires.nodes)
+pub push_places-requires : goal.push_places-requires
+push_places-requires g c = record {
+  nodes = rw c.row-row.ensures (all_in_row (IsCoupler _) c.args.couplings.now c.loop-k.k (omega arith) c.requires.nodes);
+  within = c.requires.chains.within;
+  len = c.requires.sorted.len;
+  sorted = c.requires.sorted.each;
+  all = c.note_row-noting.ensures.len;
+  noted = c.note_row-noting.ensures.noted;
+}
 
 pub loop-k-preserved : goal.loop-k-preserved
 loop-k-preserved g c =

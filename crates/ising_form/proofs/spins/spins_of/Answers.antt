@@ -1,4 +1,4 @@
-use Rattle.ising_form.proofs.Common.{nat_tests, ◌≡◌, ℕ, ◌<◌, pos, to_z, of_z, w128, rules, ints, to_z-of_z, ◌+ℤ◌, unsigned_abs, take, get_or, length, sym, ap, ◌∙◌, arith, All-get_or, Entry, weight_within, weights-append, QuadContent, IsQuad, IsCoupler, node_entries, spins_constant, spins_fields, raised, length-fields}
+use Rattle.ising_form.proofs.Common.{nat_tests, ℕ, ◌<◌, pos, to_z, of_z, w128, rules, ints, to_z-of_z, ◌+ℤ◌, unsigned_abs, take, get_or, length, sym, ap, ◌∙◌, arith, All-get_or, Entry, weight_within, weights-append, QuadContent, IsQuad, IsCoupler, node_entries, spins_constant, spins_fields, raised, length-fields}
 use Rattle.ising_form.proofs.CouplerSteps.{taken, next_taken, all_taken}
 use Rattle.ising_form.proofs.FieldSums.{node_total, size-fields, size-constant, constant_coupled, fields_coupled}
 use Rattle.ising_form.proofs.spins.spins_of.Goals as goal
@@ -14,18 +14,17 @@ add-requires c =
     let d : Entry = record { first = 0; second = 0; weight = pos 0 } in
     let i = taken q.couplers c.loop-coupler.coupler-iterator in
     let step = next_taken q.couplers _ _ c.in-Some.coupler d c.loop-coupler.invariant.here c.in-Some.ensures.steps in
-    let quad : IsQuad q = c.requires.quad in
-    let is = place q i quad step.below in
+    let is = place q i c.requires.quad step.below in
     let width = ap length c.loop-coupler.invariant.fields ∙ length-fields _ 0 q.diagonal in
-    let back : to_z w128 (of_z w128 c.args.constant) ≡ c.args.constant = to_z-of_z w128 c.args.constant (search rules) in
-    let sum = ap unsigned_abs (c.loop-coupler.invariant.constant ∙ ap (λ z. spins_constant z q.diagonal (take i q.couplers)) back) in
+    let back = ap unsigned_abs (to_z-of_z w128 c.args.constant (search rules)) in
+    let sum = ap unsigned_abs c.loop-coupler.invariant.constant in
     let sizes = ap (node_total 0) c.loop-coupler.invariant.fields in
     let own = ap (λ (e : Entry). unsigned_abs e.weight) step.item in
     let within = weight_within q.couplers i d step.below in
     let both = weights-append (node_entries 0 q.diagonal) q.couplers in record {
       first = omega (arith, is.upward, is.within, width, ap (λ (e : Entry). e.first) step.item);
       second = omega (arith, is.within, width, ap (λ (e : Entry). e.second) step.item);
-      constant = omega (arith, sum, size-constant q.constant q.diagonal (take i q.couplers), within, own, both, c.requires.small);
+      constant = omega (arith, sum, back, size-constant, within, own, both, c.requires.small);
       fields = omega (arith, sizes, size-fields q.diagonal (take i q.couplers), within, own, both, c.requires.small);
     }
 
@@ -38,8 +37,7 @@ loop-coupler-preserved c =
     let e = c.in-Some.coupler in
     let i = taken es c.loop-coupler.coupler-iterator in
     let step = next_taken es _ _ e d c.loop-coupler.invariant.here c.in-Some.ensures.steps in
-    let quad : IsQuad q = c.requires.quad in
-    let is = place q i quad step.below in
+    let is = place q i c.requires.quad step.below in
     let first : (get_or es i d).first < length q.diagonal = omega (arith, is.upward, is.within) in
     record {
       here = step.here;

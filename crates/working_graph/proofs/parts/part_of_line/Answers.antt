@@ -3,8 +3,8 @@ use Rattle.working_graph.proofs.PartRows.{first_bad, first_good, parts_none}
 use Rattle.working_graph.proofs.parts.part_of_line.Goals.{then-at-end-via-then-at-end, then-at-end-via-else-at-end+then-text-at-eq99}
 use Rattle.working_graph.proofs.parts.part_of_line.Goals as goal
 
-pub returns-then-at-end-clause-read : goal.returns-then-at-end-clause-read
-returns-then-at-end-clause-read c =
+pub returns-then-at-end : goal.returns-then-at-end
+returns-then-at-end c =
     let text = c.args.text.now in
     let start = c.args.start in
     let end = c.args.end in
@@ -17,27 +17,27 @@ returns-then-at-end-clause-read c =
           line_comment text start end _ c.args.line c.requires.ordered c.requires.within first (omega arith)
           w.if-text-at-eq99.true
     ] in
-    parts_none c.args.graph.now _ none
+    record { read = parts_none c.args.graph.now _ none; kept = tt }
 
-pub returns-in_err-qubit-clause-read : goal.returns-in_err-qubit-clause-read
-returns-in_err-qubit-clause-read c =
+pub returns-in_err-qubit : goal.returns-in_err-qubit
+returns-in_err-qubit c =
     let t = line_tokens _ _ _ _ _ c.args.line c.requires.ordered c.requires.within
     c.blank_len.ensures.first (omega arith) c.if-text-at-eq99.false refl in
     let p = err_from_is_err_and c.from_residual.result c.from_residual.ensures.1 in
-    rw (p.1, p.2) (first_bad _ _ _ _ _ _ t.2 c.in_err-qubit.ensures.value)
+    rw (p.1, p.2) (record { read = first_bad _ _ _ _ _ _ t.2 c.in_err-qubit.ensures.value; kept = tt })
 
-pub returns-in_err-rest_of_line-clause-read : goal.returns-in_err-rest_of_line-clause-read
-returns-in_err-rest_of_line-clause-read c =
+pub returns-in_err-rest_of_line : goal.returns-in_err-rest_of_line
+returns-in_err-rest_of_line c =
     let t = line_tokens _ _ _ _ _ c.args.line c.requires.ordered c.requires.within
     c.blank_len.ensures.first (omega arith) c.if-text-at-eq99.false c.in_ok-qubit.ensures.len in
     let residual = c.from_residual-in_err-rest_of_line in
     let p = err_from_is_err_and residual.result residual.ensures.1 in
     let read = first_good _ _ _ _ _ _ t.2 c.in_ok-qubit.ensures.value in
-    rw (p.1, p.2, read, ← c.in_err-rest_of_line.ensures.read) refl
+    rw (p.1, p.2) (record { read = rw (read, ← c.in_err-rest_of_line.ensures.read) refl; kept = tt })
 
-pub returns-clause-read : goal.returns-clause-read
-returns-clause-read c =
+pub returns : goal.returns
+returns c =
     let t = line_tokens _ _ _ _ _ c.args.line c.requires.ordered c.requires.within
     c.blank_len.ensures.first (omega arith) c.if-text-at-eq99.false c.in_ok-qubit.ensures.len in
     let read = first_good _ _ _ _ _ _ t.2 c.in_ok-qubit.ensures.value in
-    rw (read, ← c.in_ok-rest_of_line.ensures.read) refl
+    record { read = rw (read, ← c.in_ok-rest_of_line.ensures.read) refl; kept = c.in_ok-rest_of_line.ensures.kept }
