@@ -1,5 +1,5 @@
 -- A text grows by the rows of an answer.
-use Rattle.answer_text.proofs.Common.{nat_tests, ◌≡◌, ℕ, ℤ, codes, Option, ◌+◌, ◌<◌, ◌≤◌, Bool, List, [], ◌∷◌, ◌++◌, length, drop, get_or, Some, sym, ap, ◌∙◌, arith, append-nil, append_assoc, slice_get, min, zip, get_or-map, drop_all, drop_more, length-map, get_or_from_slice_get, slice_get_within, get_or-zip, length-zip, Row, row_text, rows_text, signed_decimal, flat_map-append, assignment_row, name_row, name_rows, named_rows, optimum_rows}
+use Rattle.answer_text.proofs.Common.{nat_tests, ◌≡◌, ℕ, ℤ, codes, Option, ◌+◌, ◌<◌, ◌≤◌, Bool, List, [], ◌∷◌, ◌++◌, length, drop, get_or, Some, ap, ◌∙◌, arith, append-nil, append_assoc, slice_get, min, zip, get_or-map, drop_all, drop_more, length-map, get_or_from_slice_get, slice_get_within, get_or-zip, length-zip, Row, row_text, rows_text, signed_decimal, flat_map-append, assignment_row, name_row, name_rows, named_rows, optimum_rows}
 use Rattle.base.specs.declared.costs.Cost.TheVariants.{Whole}
 
 -- the row of a name and its bit
@@ -54,7 +54,5 @@ optimum_added old first second third x names value one two three =
     let all : rows_text (name_rows names x ++ (cost ∷ [])) ≡ named ++ row_text cost =
     flat_map-append row_text (name_rows names x) (cost ∷ [])
     ∙ ap (λ (l : List ℕ). named ++ l) (append-nil (row_text cost)) in
-    three ∙ ap (λ (l : List ℕ). l ++ row_text cost)
-    (two ∙ ap (λ (l : List ℕ). l ++ named) one ∙ append_assoc old head named)
-    ∙ append_assoc old (head ++ named) (row_text cost) ∙ ap (λ (l : List ℕ). old ++ l)
-    (append_assoc head named (row_text cost) ∙ ap (λ (l : List ℕ). head ++ l) (sym all))
+    rw (three, two, one, all)
+    (append_assoc (old ++ head) named (row_text cost) ∙ append_assoc old head (named ++ row_text cost))

@@ -68,8 +68,7 @@ decoding_text x names cost energy =
 
 -- the state that an assignment was taken to, the cost of the assignment, and the energy of the state
 abbrev pub extension_text : List Bool → Cost → ℤ → List ℕ
-extension_text y cost energy =
-    rows_text (state_row y ∷ cost_row cost ∷ energy_row energy ∷ [])
+extension_text y cost energy = rows_text (state_row y ∷ cost_row cost ∷ energy_row energy ∷ [])
 
 -- a least state, its energy, and what it tells of the assignment that it decodes to, of this cost
 abbrev pub solution_text : List Bool → ℤ → List Bool → Option (List (List ℕ)) → Cost → List ℕ

@@ -2,7 +2,7 @@
 ghost use Rattle.std.specs.Prelude.{◌≡◌, IfOk};
 ghost use Rattle.answer_text.specs.Answers.{decoding_text, extension_text, proof_text, solution_text};
 
-use crate::rows::{push_bits_row, push_cost, push_energy, push_names, push_optimum};
+use crate::rows::{push_bits_row, push_cost, push_names, push_number_row, push_optimum};
 use base::{Cost, NoMemory};
 use poly_reader::Names;
 use std::alloc::Global;
@@ -22,7 +22,7 @@ pub fn written_decoding(
     push_bits_row(&mut text, b"assignment", x)?;
     push_names(&mut text, names, x)?;
     push_cost(&mut text, cost)?;
-    push_energy(&mut text, energy)?;
+    push_number_row(&mut text, b"energy", energy)?;
     Ok(text)
 }
 
@@ -39,7 +39,7 @@ pub fn written_extension(
     let mut text = Vec::new(alloc);
     push_bits_row(&mut text, b"state", y)?;
     push_cost(&mut text, cost)?;
-    push_energy(&mut text, energy)?;
+    push_number_row(&mut text, b"energy", energy)?;
     Ok(text)
 }
 
@@ -58,7 +58,7 @@ pub fn written_solution(
 {
     let mut text = Vec::new(alloc);
     push_bits_row(&mut text, b"state", y)?;
-    push_energy(&mut text, energy)?;
+    push_number_row(&mut text, b"energy", energy)?;
     push_optimum(&mut text, x, names, cost)?;
     Ok(text)
 }
@@ -75,7 +75,7 @@ pub fn written_proof(
     ensures { IfOk result (λ text. text.items ≡ proof_text energy x.now names.now cost) }
 {
     let mut text = Vec::new(alloc);
-    push_energy(&mut text, energy)?;
+    push_number_row(&mut text, b"energy", energy)?;
     push_optimum(&mut text, x, names, cost)?;
     Ok(text)
 }

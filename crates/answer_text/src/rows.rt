@@ -1,8 +1,8 @@
 //! The rows of an answer, each appended by a function of its own.
-ghost use Rattle.std.specs.Prelude.{◌≡◌, ◌++◌, ◌∷◌, [], codes, OnOk};
+ghost use Rattle.std.specs.Prelude.{◌≡◌, ◌++◌, ◌∷◌, [], OnOk};
 ghost use Rattle.std.specs.Fmt.{signed_decimal};
 ghost use Rattle.model_text.specs.Rows.{row_text, rows_text};
-ghost use Rattle.answer_text.specs.Answers.{bits_word, cost_row, digit_of, energy_row, name_row, name_rows, named_rows, optimum_rows};
+ghost use Rattle.answer_text.specs.Answers.{bits_word, cost_row, digit_of, name_row, name_rows, named_rows, optimum_rows};
 
 use base::{Cost, NoMemory};
 use poly_reader::Names;
@@ -44,9 +44,7 @@ fn push_name(text: &mut Vec<u8>, name: &str, bit: bool) -> Result<(), NoMemory>
 {
     text.extend_from_slice(b"name ")?;
     text.extend_from_slice(name.as_bytes())?;
-    text.push(b' ')?;
-    text.push(digit_of(bit))?;
-    text.push(b'\n')?;
+    text.extend_from_slice(&[b' ', digit_of(bit), b'\n'])?;
     Ok(())
 }
 
@@ -77,13 +75,14 @@ pub(crate) fn push_names(
     }
 }
 
-/// The cost of an optimum.
-fn push_value(text: &mut Vec<u8>, value: i128) -> Result<(), NoMemory>
-    ensures { OnOk result (text.new.items
-        ≡ text.old.items ++ row_text (codes "optimum" ∷ signed_decimal value ∷ [])) }
+/// A number, after a word.
+pub(crate) fn push_number_row(text: &mut Vec<u8>, word: &[u8], number: i128) -> Result<(), NoMemory>
+    ensures { let row = word.now ∷ signed_decimal number ∷ [] in
+        OnOk result (text.new.items ≡ text.old.items ++ row_text row) }
 {
-    text.extend_from_slice(b"optimum ")?;
-    push_number(text, value)?;
+    text.extend_from_slice(word)?;
+    text.push(b' ')?;
+    push_number(text, number)?;
     text.push(b'\n')?;
     Ok(())
 }
@@ -92,13 +91,13 @@ fn push_value(text: &mut Vec<u8>, value: i128) -> Result<(), NoMemory>
 pub(crate) fn push_cost(text: &mut Vec<u8>, cost: Cost) -> Result<(), NoMemory>
     ensures { OnOk result (text.new.items ≡ text.old.items ++ row_text (cost_row cost)) }
 {
-    text.extend_from_slice(b"cost ")?;
     match cost {
-        Cost::Whole(value) => push_number(text, value)?,
-        Cost::Infinite => text.extend_from_slice(b"infinite")?,
+        Cost::Whole(value) => push_number_row(text, b"cost", value),
+        Cost::Infinite => {
+            text.extend_from_slice(b"cost infinite\n")?;
+            Ok(())
+        }
     }
-    text.push(b'\n')?;
-    Ok(())
 }
 
 /// An assignment of whole cost as an optimum, with the names of its variables where they have any, or
@@ -116,22 +115,11 @@ pub(crate) fn push_optimum(
         Cost::Whole(value) => {
             push_bits_row(text, b"assignment", x)?;
             push_names(text, names, x)?;
-            push_value(text, value)?;
-            Ok(())
+            push_number_row(text, b"optimum", value)
         }
         Cost::Infinite => {
             text.extend_from_slice(b"infeasible\n")?;
             Ok(())
         }
     }
-}
-
-/// An energy.
-pub(crate) fn push_energy(text: &mut Vec<u8>, energy: i128) -> Result<(), NoMemory>
-    ensures { OnOk result (text.new.items ≡ text.old.items ++ row_text (energy_row energy)) }
-{
-    text.extend_from_slice(b"energy ")?;
-    push_number(text, energy)?;
-    text.push(b'\n')?;
-    Ok(())
 }

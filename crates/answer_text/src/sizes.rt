@@ -1,14 +1,13 @@
 //! The size of a model: its summary, its variables, and the levels of its weights.
-ghost use Rattle.std.specs.Prelude.{◌≡◌, ◌++◌, ◌<◌, ◌^◌, fold, max, pos, IfOk, OnOk};
-ghost use Rattle.model_text.specs.Rows.{row_text, rows_text};
-ghost use Rattle.model_text.specs.Summary.{summary_row};
+ghost use Rattle.std.specs.Prelude.{◌≡◌, ◌++◌, ◌<◌, ◌^◌, fold, max, IfOk, OnOk};
+ghost use Rattle.model_text.specs.Rows.{rows_text};
 ghost use Rattle.answer_text.specs.Sizes.{least_of, levels_with, size_rows, size_text, sizes};
 
+use crate::rows::push_number_row;
 use base::NoMemory;
 use bits_model::{EntryList, OutputModel};
 use model_text::written_summary;
 use std::alloc::Global;
-use whole_text::push_number;
 
 /// The least of some sizes, where there are any, and the greatest.
 #[derive(Clone, Copy)]
@@ -50,19 +49,6 @@ fn levels_of(entries: &EntryList) -> Levels
     levels
 }
 
-/// A number, after its name.
-fn push_size(text: &mut Vec<u8>, name: &[u8], size: u128) -> Result<(), NoMemory>
-    requires { size < 2 ^ 127 }
-    ensures { OnOk result
-        (text.new.items ≡ text.old.items ++ row_text (summary_row name.now (pos size))) }
-{
-    text.extend_from_slice(name)?;
-    text.push(b' ')?;
-    push_number(text, size as i128)?;
-    text.push(b'\n')?;
-    Ok(())
-}
-
 /// The rows of these numbers.
 fn push_sizes(
     text: &mut Vec<u8>,
@@ -75,9 +61,9 @@ fn push_sizes(
     ensures { OnOk result (text.new.items
         ≡ text.old.items ++ rows_text (size_rows variables least greatest)) }
 {
-    push_size(text, b"variables", u128::from(variables))?;
-    push_size(text, b"least", least)?;
-    push_size(text, b"greatest", greatest)
+    push_number_row(text, b"variables", i128::from(variables))?;
+    push_number_row(text, b"least", least as i128)?;
+    push_number_row(text, b"greatest", greatest as i128)
 }
 
 /// The size of a model: its summary, how many variables its source has, and the least and the

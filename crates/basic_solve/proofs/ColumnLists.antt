@@ -1,5 +1,5 @@
 -- Entries in the order of their second nodes, as columns of these.
-use Rattle.basic_solve.proofs.Common.{nat_tests, ints, inl, inr, ◌≡◌, ◌≢◌, ℕ, zero, suc, ◌+◌, ◌<◌, ◌≤◌, ◌==◌, ◌||◌, ℤ, pos, ◌+ℤ◌, Bool, List, [], ◌∷◌, ◌++◌, length, get_or, set, take, map, replicate, refl, sym, arith, ap, ◌∙◌, subst, cases_eq, append_assoc, append-nil, All, AllByRecursion, recursion_from_All, sum_by, sum_by-cons, list_any, length-append, length-replicate, length-set, take_more, get_or_append_left, get_or-append_seam, total_by, Entry, IsPlaced, entry_energy, is_in, couples, AreOf, AreEntriesOf, AreLowerNeighbours, AreHandedOn, sum_by_push, sum_by-drop_more}
+use Rattle.basic_solve.proofs.Common.{nat_tests, ints, inl, inr, ◌≡◌, ◌≢◌, ℕ, zero, suc, ◌+◌, ◌<◌, ◌≤◌, ◌==◌, ◌||◌, ℤ, pos, ◌+ℤ◌, Bool, List, [], ◌∷◌, ◌++◌, length, get_or, set, take, map, replicate, refl, sym, arith, ap, ◌∙◌, subst, cases_eq, append_assoc, append-nil, All, AllByRecursion, recursion_from_All, sum_by, sum_by-cons, list_any, length-append, length-replicate, length-set, take_more, get_or_append_left, get_or-append_seam, total_by, Entry, IsPlaced, entry_energy, is_in, couples, AreOf, AreEntriesOf, AreLowerNeighbours, AreHandedOn, sum_by_push, sum_by-drop_more, column, columns, lesser_nodes, turned, with_lesser, AreColumns, AreLeft, IsMadeOf}
 use Rattle.std.specs.Prelude.{nat_lt, ◌&&◌, ◌*◌, ◌-◌, ◌^◌, unsigned_abs}
 use Rattle.base.specs.declared.costs.Cost.TheVariants.{Whole}
 use Rattle.std.specs.List.Sorted.{IsNonDecreasingBy, IsPermutation}
@@ -10,7 +10,6 @@ use Rattle.base.proofs.Totals.{total_by-IsPermutation, total_by_is}
 use Rattle.bits_model.specs.PairNumbers.{pair_number}
 use Rattle.basic_solve.proofs.Common.{count_by, range_with_len, drop, form_of, weight_total, Written, IsFirstLeast, IsFirstWider, after, coupled, names_both, width}
 use Rattle.basic_solve.specs.Widths.{IsWithinWidth}
-use Rattle.basic_solve.specs.Columns.{column, columns, lesser_nodes, turned, with_lesser, AreColumns, AreLeft, IsMadeOf}
 use Rattle.basic_solve.proofs.Passing.{by_last}
 use Rattle.basic_solve.proofs.Eliminating.{all_push}
 

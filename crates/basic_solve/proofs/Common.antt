@@ -32,3 +32,4 @@ pub use Rattle.std.proofs.lemmas.Nat.Bits.{bit_at_set_same, bit_at_set_other}
 pub use Rattle.std.proofs.lemmas.List.Folds.{list_any-append, list_any_at, sum_by-replicate}
 pub use Rattle.std.proofs.lemmas.List.FromFn.{length-map-range_with_len, get_or-map-range_with_len}
 pub use Rattle.form_steps.proofs.Growth.{no_less, one_le_pow}
+pub use Rattle.basic_solve.specs.Columns.{column, columns, lesser_nodes, turned, with_lesser, AreColumns, AreLeft, IsMadeOf}

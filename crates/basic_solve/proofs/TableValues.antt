@@ -1,5 +1,5 @@
 -- What the tables of elimination hold.
-use Rattle.basic_solve.proofs.Common.{elements, nat_tests, ◌≡◌, ℕ, zero, suc, ◌+◌, ◌*◌, ◌^◌, ◌<◌, ◌≤◌, ℤ, pos, ◌+ℤ◌, Bool, true, false, cond, List, [], ◌∷◌, ◌++◌, length, map, get_or, set, ◌-◌, refl, arith, ap, ◌∙◌, ints, pow-succ', length-append, length-map, get_or_append_left, get_or-map, get_or-append_right, get_or-append_seam, if_so, bit_at, index_of, doubled, stepped, sum_where, places, is_part, All}
+use Rattle.basic_solve.proofs.Common.{nat_tests, ◌≡◌, ℕ, zero, suc, ◌+◌, ◌*◌, ◌^◌, ◌<◌, ℤ, pos, ◌+ℤ◌, Bool, true, false, cond, List, [], ◌∷◌, ◌++◌, length, map, get_or, set, ◌-◌, refl, arith, ap, ◌∙◌, ints, pow-succ', length-append, length-map, get_or_append_left, get_or-map, get_or-append_right, get_or-append_seam, if_so, bit_at, index_of, doubled, stepped, sum_where, places, is_part, All}
 
 -- ---- tables by doubling
 
@@ -8,23 +8,27 @@ index_more : (p s t i : ℕ) → (p + s * t) + (s + s) * i ≡ p + s * (t + 2 * 
 index_more p s t i = omega arith
 
 digit-le : (p s : ℕ) (b : Bool) → p < s → p + s * cond b 1 0 < s + s
-digit-le p s b h = grind (arith, nat_tests)
+digit-le p s true h = omega (arith, h)
+digit-le p s false h = omega (arith, h)
 
 module _ {A : Type 0} (plus : A → A → A) where
   length-one_doubled : (values : List A) (step : A) (s : ℕ) → length values ≡ s
       → length (values ++ map (λ v. plus v step) values) ≡ s + s
-  length-one_doubled values step s w = grind (arith, nat_tests, length-append, length-map)
+  length-one_doubled values step s w =
+      omega (arith, w, length-append values (map (λ v. plus v step) values), length-map values (λ v. plus v step))
 
   -- the place of a digit in a table that was doubled once
   one_doubled : (values : List A) (step d : A) (p s : ℕ) (b : Bool) → length values ≡ s → p < s
       → get_or (values ++ map (λ v. plus v step) values) (p + s * cond b 1 0) d
       ≡ cond b (plus (get_or values p d) step) (get_or values p d)
-  one_doubled values step d p s false w h = grind (arith, nat_tests, get_or_append_left)
+  one_doubled values step d p s false w h =
+      ap (λ i. get_or (values ++ map (λ v. plus v step) values) i d) (omega arith)
+      ∙ get_or_append_left values _ d p (omega (arith, w, h))
   one_doubled values step d p s true w h =
-      let past : length values ≤ p + s * 1 = omega arith in
-      let same : (p + s * 1) - length values ≡ p = omega arith in
-      let within : p < length values = omega arith in
-      grind (arith, nat_tests, get_or-append_right, get_or-map)
+      let more = map (λ v. plus v step) values in
+      get_or-append_right values more (p + s * 1) d (omega (arith, w))
+      ∙ ap (λ i. get_or more i d) (omega (arith, w))
+      ∙ get_or-map (λ v. plus v step) values p d d (omega (arith, w, h))
 
   -- each place of a table that was doubled by the steps of some nodes
   pub doubled_at : (y : List Bool) (nodes : List ℕ) (values steps : List A) (d : A) (p s : ℕ)
@@ -52,12 +56,21 @@ module _ {A : Type 0} (plus : A → A → A) where
 
 -- ---- sums of steps
 
+one_more : (b : Bool) (v step : ℤ) → cond b (v +ℤ step) v ≡ v +ℤ if_so b step
+one_more true v step = refl
+one_more false v step = omega (arith, ints)
+
+if_so-more : (b : Bool) (v by : ℤ) → if_so b (v +ℤ by) ≡ if_so b v +ℤ if_so b by
+if_so-more true v by = refl
+if_so-more false v by = refl
+
 pub stepped-sum : (y : List Bool) (v : ℤ) (nodes : List ℕ) (steps : List ℤ)
     → length steps ≡ length nodes → stepped ◌+ℤ◌ y v nodes steps ≡ v +ℤ sum_where y nodes steps
 stepped-sum y v [] steps l = omega (arith, ints)
 stepped-sum y v (u ∷ us) [] l = absurd (omega arith)
 stepped-sum y v (u ∷ us) (step ∷ steps) l =
-    grind (arith, nat_tests, ints, stepped-sum y (cond (bit_at y u) (v +ℤ step) v) us steps (omega arith))
+    let rest = stepped-sum y (cond (bit_at y u) (v +ℤ step) v) us steps (omega (arith, l)) in
+    omega (arith, ints, rest, one_more (bit_at y u) v step)
 
 -- one step that grows
 pub sum_where-set : (y : List Bool) (nodes : List ℕ) (steps : List ℤ) (at : ℕ) (by : ℤ)
@@ -66,7 +79,8 @@ pub sum_where-set : (y : List Bool) (nodes : List ℕ) (steps : List ℤ) (at : 
     ≡ sum_where y nodes steps +ℤ if_so (bit_at y (get_or nodes at 0)) by
 sum_where-set y [] steps at by h l = absurd (omega arith)
 sum_where-set y (u ∷ us) [] at by h l = absurd (omega arith)
-sum_where-set y (u ∷ us) (step ∷ steps) zero by h l = grind (arith, nat_tests, ints, elements)
+sum_where-set y (u ∷ us) (step ∷ steps) zero by h l =
+    omega (arith, ints, if_so-more (bit_at y u) step by)
 sum_where-set y (u ∷ us) (step ∷ steps) (suc at) by h l =
     omega (arith, ints, sum_where-set y us steps at by (omega arith) (omega arith))
 
@@ -80,7 +94,8 @@ index_of-lt y (u ∷ us) = grind (arith, nat_tests, index_of-lt y us, pow-succ' 
 pub index_of-last : (y : List Bool) (nodes : List ℕ) (v : ℕ) → index_of y (nodes ++ v ∷ [])
     ≡ index_of y nodes + 2 ^ length nodes * cond (bit_at y v) 1 0
 index_of-last y [] v = omega arith
-index_of-last y (u ∷ us) v = grind (arith, nat_tests, index_of-last y us v)
+index_of-last y (u ∷ us) v =
+    omega (arith, index_of-last y us v, ap (λ n. n * cond (bit_at y v) 1 0) (pow-succ' 2 (length us)))
 
 pub bit_at-front : (y z : List Bool) (u : ℕ) → u < length y → bit_at (y ++ z) u ≡ bit_at y u
 bit_at-front y z u h = get_or_append_left y z false u h

@@ -40,8 +40,7 @@ value_at nodes values y = slice_index_or values (index_of y nodes) (pos 0)
 -- a table, and for each step the table so far once more with the step added
 abbrev pub doubled : {A : Type 0} → (A → A → A) → List A → List A → List A
 doubled plus values [] = values
-doubled plus values (step ∷ steps) =
-    doubled plus (values ++ map (λ v. plus v step) values) steps
+doubled plus values (step ∷ steps) = doubled plus (values ++ map (λ v. plus v step) values) steps
 
 -- a number, and the steps of those nodes added whose bit is 1
 abbrev pub stepped : {A : Type 0} → (A → A → A) → List Bool → A → List ℕ → List A → A
@@ -180,6 +179,16 @@ own_energy kind entries tables y bit =
 -- the sizes of what a node adds
 abbrev pub own_size : List Entry → List TableOver → ℕ
 own_size entries tables = 3 * weight_total entries + sum_by (λ t. most t.values) tables
+
+-- the node v has these entries, over few nodes, and was passed these tables: what it adds is small
+pub record IsReady (v : ℕ) (nodes : List ℕ) (entries : List Entry) (tables : List TableOver)
+    (room : ℕ) : Type 0 where
+  pub own : AreOf v entries
+  pub members : LeadTo nodes entries
+  pub passed : All (IsPassedTo v nodes) tables
+  pub few : length nodes ≤ 16
+  pub light : weight_total entries ≤ 2 ^ 124
+  pub small : own_size entries tables ≤ room
 
 -- the numbers that the node v adds with this bit, one for each choice of its neighbours' bits
 pub record IsTableOfBit (kind : Kind) (v : ℕ) (bit : Bool) (nodes : List ℕ) (entries : List Entry)

@@ -1,12 +1,12 @@
 //! Elimination of nodes, one after another.
-ghost use Rattle.std.specs.Prelude.{◌≡◌, ◌≤◌, ◌^◌, ◌*◌, ◌+◌, ◌+ℤ◌, ℕ, List, Bool, true, false, [], All, IfOk, OnOk, length, map, pos, replicate, unsigned_abs};
+ghost use Rattle.std.specs.Prelude.{◌≡◌, ◌≤◌, ◌^◌, ◌*◌, ◌+◌, ◌+ℤ◌, ℕ, List, Bool, true, false, [], IfOk, OnOk, length, map, pos, replicate, unsigned_abs};
 ghost use Rattle.std.specs.List.{sum_by};
 ghost use Rattle.base.specs.Sums.{total_by, if_so};
 ghost use Rattle.base.specs.Costs.{energy};
 ghost use Rattle.bits_model.specs.Output.{bit_at, form_of, weight_total};
 ghost use Rattle.bits_model.specs.Walks.{is_in};
 ghost use Rattle.basic_solve.specs.Bits.{all_bits};
-ghost use Rattle.basic_solve.specs.Tables.{sum_where, step_at, AreChoices, AreEntriesOf, AreOf, IsPassedTo, IsSettled, IsTableOfBit, LeadTo, own_size};
+ghost use Rattle.basic_solve.specs.Tables.{sum_where, step_at, AreChoices, AreEntriesOf, IsReady, IsSettled, IsTableOfBit, LeadTo};
 ghost use Rattle.basic_solve.specs.Widths.{AreNeighbourhoods};
 
 use crate::buckets::Buckets;
@@ -81,12 +81,7 @@ fn write_table<T: Number>(
     entries: &[Entry],
     tables: &[Table<'_, T>],
 ) -> Result<(), NoMemory>
-    requires own { AreOf node entries.now }
-    requires members { LeadTo nodes.now entries.now }
-    requires passed { All (IsPassedTo node nodes.now) tables.now }
-    requires few { length nodes.now ≤ 16 }
-    requires light { weight_total entries.now ≤ 2 ^ 124 }
-    requires small { own_size entries.now tables.now ≤ T.room }
+    requires { IsReady node nodes.now entries.now tables.now T.room }
     ensures { OnOk result (IsTableOfBit kind node bit nodes.now entries.now tables.now
         (map T.value values.new.items)) }
 {
@@ -112,12 +107,7 @@ fn settle<T: Number>(
     entries: &[Entry],
     tables: &[Table<'_, T>],
 ) -> Result<(), NoMemory>
-    requires own { AreOf node entries.now }
-    requires members { LeadTo nodes.now entries.now }
-    requires passed { All (IsPassedTo node nodes.now) tables.now }
-    requires few { length nodes.now ≤ 16 }
-    requires light { weight_total entries.now ≤ 2 ^ 124 }
-    requires small { own_size entries.now tables.now ≤ T.room }
+    requires { IsReady node nodes.now entries.now tables.now T.room }
     ensures { OnOk result (IsSettled kind node nodes.now entries.now tables.now
         (map T.value values.new.items) (all_bits bytes.new.items)) }
 {
@@ -225,8 +215,8 @@ pub(crate) fn all_choices<T: Number>(
         sets.now (map all_bits choices)) }
 {
     let nodes = model.nodes as usize;
-    let mut held = model.left();
     let mut waiting: Buckets<Table<'_, T>> = Buckets::empty(alloc, nodes)?;
+    let mut held = model.left();
     let mut scratch = Scratch::empty(alloc);
     let mut choices = Lists::empty(alloc);
     choose_all(

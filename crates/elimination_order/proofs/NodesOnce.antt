@@ -1,5 +1,5 @@
 -- An order that was read names each node once.
-use Rattle.elimination_order.proofs.Common.{nat_tests, ◌≡◌, ℕ, ◌<◌, Bool, true, false, ◌||◌, eqb, refl, ap, subst, ◌∙◌, arith, List, [], ◌∷◌, ◌++◌, length, reverse, append_assoc, append-nil, Ok, Err, is_ok, ◌==◌, if◌then◌else◌, Result, AllByRecursion, IsDistinct, list_any, nat_eq_equiv, eqb-true, false≢true, All-from_recursion, IsDistinct-push, IsDistinct-from_apart, IsDistinct-IsPermutation, length-reverse, IsPermutation-reverse, All-permutation, is_in, TextFault, Word, ◌>>=◌, end_line, fault, AreNodes, all_named, new_node, nodes_at, order_of, all_append}
+use Rattle.elimination_order.proofs.Common.{nat_tests, ◌≡◌, ℕ, ◌<◌, Bool, true, false, ◌||◌, eqb, refl, ap, subst, ◌∙◌, arith, List, [], ◌∷◌, ◌++◌, length, reverse, append_assoc, append-nil, Ok, Err, is_ok, ◌==◌, if◌then◌else◌, Result, AllByRecursion, IsDistinct, list_any, nat_eq_equiv, eqb-true, false≢true, All-from_recursion, IsDistinct-push, IsDistinct-from_apart, IsDistinct-IsPermutation, length-reverse, IsPermutation-reverse, All-permutation, is_in, TextFault, Word, ◌>>=◌, end_line, fault, AreNodes, new_node, nodes_at, order_of, all_append}
 use Rattle.whole_text.specs.declared.faults.TextKind.TheVariants as kinds
 
 test_passed : {A : Type 0} (b : Bool) (x y : A) (f : TextFault) → (if b then Ok x else Err f) ≡ Ok y

@@ -1,6 +1,6 @@
 -- What the proofs of this crate stand on, of std and of the crates below.
 pub use Rattle.std.proofs.Common.{◌≡◌, ◌≢◌, Bool, true, false, List, [], ◌∷◌, ◌++◌, ℤ, pos, ◌+ℤ◌, ◌-ℤ◌, ◌*ℤ◌, ◌≤ℤ◌, Option, Some, None, refl, sym, ap, subst, ◌∙◌, arith, All, neg_ℤ, ℕ, fold, suc, ◌+◌, ◌*◌, ◌<◌, ◌≤◌, ◌^◌, length, map, unsigned_abs, Result, Ok, Err, append-nil, append_assoc, ◌==◌, zero, take, rules, to_z, of_z, tests, OnOk, MatchOption, option_map, vec_len}
-pub use Rattle.normal_form.proofs.Common.{map-append, if◌then◌else◌, max, AreFew, complements-cons, contributions-grow, contributions-sets, behind, Literal, Ordering, Product}
+pub use Rattle.normal_form.proofs.Common.{map-append, if◌then◌else◌, max, AreFew, complements-cons, contributions-grow, contributions-sets, Literal, Ordering, Product}
 pub use Rattle.bits_model.specs.declared.output.Entry.{Entry}
 pub use Rattle.bits_model.specs.declared.output.Kind.{Kind}
 pub use Rattle.bits_model.proofs.Common.{get_or_default, slice_set, get_or, replicate, w128, w64}

@@ -1,7 +1,7 @@
 -- The terms of a model and of a certificate, one after another, and that they fit a table.
 --
 -- Lines that are added to sums, or to gathered terms beside them.
-use Rattle.posiform_check.proofs.Common.{◌≡◌, fold, ℕ, ◌*◌, ◌<◌, ◌≤◌, ◌^◌, false, List, [], ◌∷◌, length, map, unsigned_abs, None, refl, ap, subst, arith, All, max, flat_map, sum_by, AllByRecursion, nat_tests, sum_by-cons, All-from_recursion, recursion_from_All, Entry, Kind, is_node, weight_total, IsPlaced, Literal, Term, terms_total, IsTermSet, TableContent, AreAdditions, with_more, terms_total-append, terms_total-cons, OfSet, IsTermSet-none, IsTermSet-one, IsTermSet-two, AreFew, complements-cons, contributions-grow, contributions-sets, complements, contributions, additions_first, both_made, Line, IsLine, IsCertificate, AreOfNodes, certificate_fault, most_literals, CertificateContent, line_terms, certificate_terms, bit, node_set, pair_set, entry_constant, entry_sets, cases_lt, flat_map-map, all_append, ◌++◌, ◌∙◌, behind, behind-nothing}
+use Rattle.posiform_check.proofs.Common.{◌≡◌, fold, ℕ, ◌*◌, ◌<◌, ◌≤◌, ◌^◌, false, List, [], ◌∷◌, length, map, unsigned_abs, None, refl, ap, subst, arith, All, max, flat_map, sum_by, AllByRecursion, nat_tests, sum_by-cons, All-from_recursion, recursion_from_All, Entry, Kind, is_node, weight_total, IsPlaced, Literal, Term, terms_total, IsTermSet, TableContent, AreAdditions, with_more, terms_total-append, terms_total-cons, OfSet, IsTermSet-none, IsTermSet-one, IsTermSet-two, AreFew, complements-cons, contributions-grow, contributions-sets, complements, contributions, additions_first, both_made, Line, IsLine, IsCertificate, AreOfNodes, certificate_fault, most_literals, CertificateContent, line_terms, certificate_terms, bit, node_set, pair_set, entry_constant, entry_sets, cases_lt, flat_map-map, all_append, ◌++◌}
 
 -- ---- items, one after another
 
@@ -152,10 +152,6 @@ additions_without t us vs h = record {
       (both_ends P t.terms us vs (recursion_from_All P (t.terms ++ (us ++ vs)) h.sets));
   small = omega (arith, h.small, terms_total-append);
 }
-
--- terms behind an empty list are the terms
-pub behind_empty : (list : List Literal) (ts : List Term) → list ≡ [] → behind list ts ≡ ts
-behind_empty list ts empty = ap (λ ls. behind ls ts) empty ∙ behind-nothing ts
 
 -- ---- all lines
 

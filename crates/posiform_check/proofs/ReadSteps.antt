@@ -1,6 +1,5 @@
 -- Literals and lines, one after another: one more is read, it fails, or there are no more.
 use Rattle.posiform_check.proofs.Common.{nat_tests, ◌≡◌, ℕ, ℤ, ◌+ℤ◌, true, false, List, [], ◌∷◌, ◌++◌, fold, Result, Ok, Err, refl, ap, append-nil, append_assoc, ◌==◌, arith, Option, MatchOption, flat_map, ints, total_by, TextFault, TextAnswer, WordRef, word_of, Word, ◌>>=◌, Fails, Literal, by_line, each, left, on_line, past_line, Line, CertificateContent, written, literal_at, line_at, bound_of, kept_line, content_of, reading_of_words, literals_read, line_read, with_line, blank, lines_put, row_of, by_line-first}
-use Rattle.whole_text.specs.declared.faults.TextAnswer.TheVariants as answers
 
 -- ---- literals
 

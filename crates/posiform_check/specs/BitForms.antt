@@ -35,8 +35,7 @@ pair_set n m = bit n ∷ bit m ∷ []
 
 -- weight times both bits, which are one for a node
 abbrev pub bit_sets : Entry → List Term
-bit_sets e =
-    (if is_node e then node_set e.first else pair_set e.first e.second, e.weight) ∷ []
+bit_sets e = (if is_node e then node_set e.first else pair_set e.first e.second, e.weight) ∷ []
 
 -- a spin is twice its bit, less 1: so a field h is -h and 2h on the node, and a coupling J is J,
 -- -2J on each of its nodes and 4J on the pair

@@ -31,5 +31,4 @@ sum_term s = (pair_set s.first s.second, s.sum)
 
 -- a constant, the coefficients of all nodes, and what is listed for pairs
 abbrev pub sums_terms : ℤ → List ℤ → List PairTerm → List Term
-sums_terms constant nodes pairs =
-    ([], constant) ∷ (node_terms 0 nodes ++ map pair_term pairs)
+sums_terms constant nodes pairs = ([], constant) ∷ (node_terms 0 nodes ++ map pair_term pairs)

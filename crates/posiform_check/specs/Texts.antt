@@ -24,8 +24,7 @@ use Rattle.posiform_check.specs.BitForms.{CertificateContent, certificate_terms}
 -- a node below the model's nodes
 abbrev pub node_below : ℕ → ℕ → Option ℕ → Result ℕ TextFault
 node_below nodes line None = Err (fault kinds.Range line)
-node_below nodes line (Some n) =
-    if nat_lt n nodes then Ok n else Err (fault kinds.Range line)
+node_below nodes line (Some n) = if nat_lt n nodes then Ok n else Err (fault kinds.Range line)
 
 -- the node of digits
 unfoldable pub node_at : ℕ → ℕ → List ℕ → Result ℕ TextFault

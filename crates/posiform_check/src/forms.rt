@@ -115,8 +115,9 @@ fn add_coupling(
     requires small { unsigned_abs weight ≤ 2 ^ 121 }
     ensures { OnOk result (terms.new ≡ with_more terms.old (coupling_sets first second weight)) }
 {
-    add_node(terms, first, twice_less(weight))?;
-    add_node(terms, second, twice_less(weight))?;
+    let less = twice_less(weight);
+    add_node(terms, first, less)?;
+    add_node(terms, second, less)?;
     add_pair(terms, first, second, four_times(weight))
 }
 

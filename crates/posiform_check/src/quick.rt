@@ -67,8 +67,7 @@ fn take_coupling(sums: &mut SetSums, entry: Entry) -> Result<(), Unsettled>
         u64::from(first),
         u64::from(second),
         sum(twice_less, twice_less)?,
-    )?;
-    Ok(())
+    )
 }
 
 /// Takes away a field of a spin.
@@ -78,8 +77,7 @@ fn take_field(sums: &mut SetSums, node: u32, field: i128) -> Result<(), Unsettle
 {
     let less = opposite(field)?;
     sums.add_constant(field)?;
-    sums.add_node(u64::from(node), sum(less, less)?)?;
-    Ok(())
+    sums.add_node(u64::from(node), sum(less, less)?)
 }
 
 /// Takes away an entry of this kind.

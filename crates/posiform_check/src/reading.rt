@@ -11,7 +11,7 @@ use crate::lines::LineList;
 use crate::listed::{added, keep_line, line, plus};
 use literal_lists::Literal;
 use std::alloc::Global;
-use whole_text::{Lexer, Style, TextAnswer, TokenText, Words};
+use whole_text::{Style, TextAnswer, TokenText, Words, cut_words};
 
 /// Puts all lines into a list that is empty, and answers with their bound.
 fn read_lines<'a>(
@@ -71,7 +71,5 @@ pub fn read_certificate(alloc: Global, text: &[u8], nodes: u32) -> Result<Certif
     ensures read { Gives (λ c. c) result (reading nodes text.now) }
     ensures nodes { IfOk result (AreOfNodes nodes) }
 {
-    let mut lexer = Lexer::new(alloc, Style::Plain);
-    lexer.feed(text)?;
-    read_certificate_tokens(alloc, &lexer.finish()?, nodes)
+    read_certificate_tokens(alloc, &cut_words(alloc, text, Style::Plain)?, nodes)
 }

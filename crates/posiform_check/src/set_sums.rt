@@ -189,23 +189,22 @@ impl SetSums {
         let (one, other) = (first.variable, second.variable);
         let less = opposite(coefficient)?;
         match (first.negated, second.negated) {
-            (false, false) => self.add_pair(one, other, coefficient)?,
+            (false, false) => self.add_pair(one, other, coefficient),
             (false, true) => {
                 self.add_node(one, coefficient)?;
-                self.add_pair(one, other, less)?;
+                self.add_pair(one, other, less)
             }
             (true, false) => {
                 self.add_node(other, coefficient)?;
-                self.add_pair(one, other, less)?;
+                self.add_pair(one, other, less)
             }
             (true, true) => {
                 self.add_constant(coefficient)?;
                 self.add_node(other, less)?;
                 self.add_node(one, less)?;
-                self.add_pair(one, other, coefficient)?;
+                self.add_pair(one, other, coefficient)
             }
         }
-        Ok(())
     }
 
     /// Whether all coefficients are 0.

@@ -1,5 +1,4 @@
-use Rattle.basic_solve.proofs.Common.{◌≡◌, ◌++◌, map}
-use Rattle.basic_solve.specs.Columns.{turned}
+use Rattle.basic_solve.proofs.Common.{◌≡◌, ◌++◌, map, turned}
 use Rattle.basic_solve.proofs.columns.pairs_of.Given as goal
 
 -- the entries so far, and then those that are left, are all of them

@@ -1,6 +1,4 @@
-use Rattle.basic_solve.proofs.Common.{arith, ap, sym, ◌≡◌, ◌∙◌, ◌-◌, append-nil, get_or, length-map, map}
-use Rattle.std.proofs.lemmas.List.{get_or-map}
-use Rattle.basic_solve.specs.Columns.{turned}
+use Rattle.basic_solve.proofs.Common.{arith, ap, sym, ◌≡◌, ◌∙◌, ◌-◌, append-nil, get_or, length-map, map, get_or-map, turned}
 use Rattle.basic_solve.proofs.ColumnLists.{no_entry, none_before, none_left, step_down}
 use Rattle.basic_solve.proofs.columns.write_column.Goals.{After-at-pair}
 use Rattle.basic_solve.proofs.columns.write_column.Goals as goal

@@ -1,5 +1,4 @@
-use Rattle.basic_solve.proofs.Common.{◌≡◌, ◌++◌, ◌<◌, ◌≤◌, ℕ, map, take}
-use Rattle.basic_solve.specs.Columns.{column, turned}
+use Rattle.basic_solve.proofs.Common.{◌≡◌, ◌++◌, ◌<◌, ◌≤◌, ℕ, map, take, column, turned}
 use Rattle.basic_solve.proofs.columns.write_column.Given as goal
 
 -- the column is what is written, and what it has before the start; other columns are before it

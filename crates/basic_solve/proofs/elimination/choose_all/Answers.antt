@@ -24,30 +24,17 @@ node g c =
     _ (ap (λ w. w.kind) c.model.view_is)
     (subst (λ w. All (IsPlaced w.nodes) w.entries) c.model.view_is c.model.invariant.placed)
 
-pub settle-requires-clause-own : goal.settle-requires-clause-own
-settle-requires-clause-own g c =
-    (node g (goal.at.settle-requires-clause-own g c).After-deref-in-loop-step).node.entries
-
-pub settle-requires-clause-members : goal.settle-requires-clause-members
-settle-requires-clause-members g c =
-    (node g (goal.at.settle-requires-clause-members g c).After-deref-in-loop-step).node.leads
-
-pub settle-requires-clause-passed : goal.settle-requires-clause-passed
-settle-requires-clause-passed g c =
-    (node g (goal.at.settle-requires-clause-passed g c).After-deref-in-loop-step).node.passed
-
-pub settle-requires-clause-few : goal.settle-requires-clause-few
-settle-requires-clause-few g c =
-    (node g (goal.at.settle-requires-clause-few g c).After-deref-in-loop-step).few
-
-pub settle-requires-clause-light : goal.settle-requires-clause-light
-settle-requires-clause-light g c =
-    let small = (node g (goal.at.settle-requires-clause-light g c).After-deref-in-loop-step).small in
-    omega (arith, small, c.model.invariant.light, ap (λ w. weight_total w.entries) c.model.view_is)
-
-pub settle-requires-clause-small : goal.settle-requires-clause-small
-settle-requires-clause-small g c =
-    omega (arith, (node g (goal.at.settle-requires-clause-small g c).After-deref-in-loop-step).small, c.requires.small)
+pub settle-requires : goal.settle-requires
+settle-requires g c =
+    let at = node g (goal.at.settle-requires g c).After-deref-in-loop-step in
+    record {
+      own = at.node.entries;
+      members = at.node.leads;
+      passed = at.node.passed;
+      few = at.few;
+      light = omega (arith, at.small, c.model.invariant.light, ap (λ w. weight_total w.entries) c.model.view_is);
+      small = omega (arith, at.small, c.requires.small);
+    }
 
 pub pass_table-requires : goal.pass_table-requires
 pass_table-requires g c =

@@ -31,3 +31,12 @@ returns g c =
           let least = c.take_lesser.ensures x (omega (arith, l, count, ap length mine)) in
           cc (items, least, mine, c.deref-3.ensures.value);
     }
+
+-- both tables have as many numbers
+pub write_choices-requires : goal.write_choices-requires
+write_choices-requires g c =
+    omega (arith, ap length c.deref.ensures.value, ap length c.deref-2.ensures.value, c.in_ok-write_table.ensures.count, c.in_ok-write_table-2.ensures.count, length-map c.write_table.new.values.items g.T.Number.value, length-map c.write_table-2.new.values.items g.T.Number.value)
+
+pub take_lesser-requires : goal.take_lesser-requires
+take_lesser-requires g c =
+    omega (arith, ap length c.deref_mut.ensures.value, ap length c.deref-3.ensures.value, c.in_ok-write_table.ensures.count, c.in_ok-write_table-2.ensures.count, length-map c.write_table.new.values.items g.T.Number.value, length-map c.write_table-2.new.values.items g.T.Number.value)

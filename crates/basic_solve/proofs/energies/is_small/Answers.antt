@@ -1,5 +1,4 @@
-use Rattle.basic_solve.proofs.Common.{ints, nat_tests, ◌≡◌, ◌+◌, ap, sym, subst, arith, drop, drop_all, length-map, map, weight_total}
-use Rattle.basic_solve.specs.Columns.{turned}
+use Rattle.basic_solve.proofs.Common.{ints, nat_tests, ◌≡◌, ◌+◌, ap, sym, subst, arith, drop, drop_all, length-map, map, weight_total, turned}
 use Rattle.basic_solve.proofs.ColumnLists.{weight_left}
 use Rattle.basic_solve.proofs.energies.is_small.Goals.{After-unsigned_abs-sum}
 use Rattle.basic_solve.proofs.energies.is_small.Goals as goal

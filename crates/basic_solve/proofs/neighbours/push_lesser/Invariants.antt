@@ -1,5 +1,4 @@
-use Rattle.basic_solve.proofs.Common.{◌≡◌, ◌++◌, drop}
-use Rattle.basic_solve.specs.Columns.{lesser_nodes}
+use Rattle.basic_solve.proofs.Common.{◌≡◌, ◌++◌, drop, lesser_nodes}
 use Rattle.basic_solve.proofs.neighbours.push_lesser.Given as goal
 
 -- the lesser nodes so far, and those of the entries that are left

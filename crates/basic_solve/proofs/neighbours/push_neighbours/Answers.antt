@@ -1,5 +1,4 @@
-use Rattle.basic_solve.proofs.Common.{is_in, true, get_or, ◌≡◌, ◌∙◌, ◌-◌, ap, sym, subst, length, arith, All, IsPlaced}
-use Rattle.basic_solve.specs.Columns.{with_lesser}
+use Rattle.basic_solve.proofs.Common.{is_in, true, get_or, ◌≡◌, ◌∙◌, ◌-◌, ap, sym, subst, length, arith, All, IsPlaced, with_lesser}
 use Rattle.basic_solve.proofs.ColumnLists.{handed_with, length-handed, length-with_lesser}
 use Rattle.basic_solve.proofs.Passing.{member_at}
 use Rattle.basic_solve.proofs.Neighbourhoods.{NextSet, so_far_at_first, next_set, neighbourhoods_of, within_width}

@@ -1,5 +1,4 @@
-use Rattle.basic_solve.proofs.Common.{◌≡◌, ◌++◌, ◌∷◌, [], ◌∙◌, ap, sym, arith, length, length-append}
-use Rattle.basic_solve.specs.Columns.{lesser_nodes, with_lesser}
+use Rattle.basic_solve.proofs.Common.{◌≡◌, ◌++◌, ◌∷◌, [], ◌∙◌, ap, sym, arith, length, length-append, lesser_nodes, with_lesser}
 use Rattle.basic_solve.proofs.ColumnLists.{with_lesser-push}
 use Rattle.basic_solve.proofs.neighbours.take_lesser.Goals as goal
 

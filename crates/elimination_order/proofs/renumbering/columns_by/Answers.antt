@@ -1,4 +1,4 @@
-use Rattle.elimination_order.proofs.Common.{◌≡◌, ◌≤◌, ◌^◌, ◌∙◌, All, ap, sym, subst, map, arith, IsPermutation, IfOk-weaker, Written, IsPlaced, weight_total, AreNumbers, IsRenumbered, renumbered}
+use Rattle.elimination_order.proofs.Common.{◌≡◌, ◌∙◌, All, ap, sym, subst, map, arith, IsPermutation, IfOk-weaker, Written, IsPlaced, weight_total, AreNumbers, IsRenumbered, renumbered}
 use Rattle.basic_solve.specs.Columns.{IsMadeOf, turned}
 use Rattle.elimination_order.proofs.Kept.{placed_kept, sizes_kept, turned_back}
 use Rattle.elimination_order.proofs.renumbering.columns_by.Goals.{In_ok-pairs}

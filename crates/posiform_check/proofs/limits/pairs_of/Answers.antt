@@ -20,5 +20,4 @@ loop-line-preserved c = record {
 }
 
 pub returns : goal.returns
-returns c =
-    answered_end _ _ _ _ c.in-None.ensures.steps.0 c.loop-line.invariant.counted
+returns c = answered_end _ _ _ _ c.in-None.ensures.steps.0 c.loop-line.invariant.counted

@@ -37,5 +37,4 @@ loop-word-preserved c =
     }
 
 pub returns-clause-read : goal.returns-clause-read
-returns-clause-read c =
-    sym c.loop-word.invariant.read ∙ literals_end _ _ _ _ c.in_default.ensures.0
+returns-clause-read c = sym c.loop-word.invariant.read ∙ literals_end _ _ _ _ c.in_default.ensures.0

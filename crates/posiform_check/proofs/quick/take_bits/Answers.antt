@@ -7,10 +7,8 @@ returns-then-first-second c =
     let node : is_node c.args.entry ≡ true = search rules in
     let less : to_z w128 (of_z w128 c.in_ok-less.less) +ℤ c.args.entry.weight ≡ pos 0 =
     search rules in
-    rw node (
-    on_ok_weaker c.add_node.result (take_back _ _ _ _ _ less)
-    (rw c.from.ensures at c.add_node.ensures)
-    )
+    rw node (on_ok_weaker c.add_node.result (take_back _ _ _ _ _ less)
+    (rw c.from.ensures at c.add_node.ensures))
 
 pub returns-else-first-second : goal.returns-else-first-second
 returns-else-first-second c =
@@ -18,7 +16,5 @@ returns-else-first-second c =
     let less : to_z w128 (of_z w128 c.in_ok-less.less) +ℤ c.args.entry.weight ≡ pos 0 =
     search rules in
     let second = c.from-else-first-second-2.ensures in
-    rw pair (
-    on_ok_weaker c.add_pair.result (take_back _ _ _ _ _ less)
-    (rw (c.from-else-first-second.ensures, second) at c.add_pair.ensures)
-    )
+    rw pair (on_ok_weaker c.add_pair.result (take_back _ _ _ _ _ less)
+    (rw (c.from-else-first-second.ensures, second) at c.add_pair.ensures))

@@ -1,4 +1,4 @@
-use Rattle.posiform_check.proofs.Common.{rules, ◌≡◌, [], pos, neg_ℤ, ◌*ℤ◌, arith, to_z, of_z, w128, ints, node_set, pair_set}
+use Rattle.posiform_check.proofs.Common.{rules, on_ok_weaker, ◌≡◌, [], pos, neg_ℤ, ◌*ℤ◌, arith, to_z, of_z, w128, ints, node_set, pair_set}
 use Rattle.posiform_check.proofs.Sums.{take_back}
 use Rattle.posiform_check.proofs.quick.take_coupling.Goals as goal
 
@@ -23,6 +23,6 @@ returns c =
     (omega (arith, ints, c.in_ok-twice.ensures)) (rw c.from-2.ensures at c.in_ok-add_node-2.ensures) in
     let f = take_back c.add_node-2.new.self c.add_pair.new.self (pair_set e.first e.second)
     (pos 4 *ℤ w) (to_z w128 (of_z w128 c.in_ok-sum.field-0))
-    (omega (arith, ints, c.in_ok-less.ensures, c.in_ok-twice_less.ensures, c.in_ok-sum.ensures))
-    (rw (c.from-3.ensures, c.from-4.ensures) at c.in_ok-add_pair.ensures) in
-    λ set. omega (arith, ints, a set, b set, d set, f set)
+    (omega (arith, ints, c.in_ok-less.ensures, c.in_ok-twice_less.ensures, c.in_ok-sum.ensures)) in
+    on_ok_weaker c.add_pair.result (λ more set. omega (arith, ints, a set, b set, d set, f more set))
+    (rw (c.from-3.ensures, c.from-4.ensures) at c.add_pair.ensures)

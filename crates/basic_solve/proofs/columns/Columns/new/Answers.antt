@@ -1,6 +1,5 @@
-use Rattle.basic_solve.proofs.Common.{refl, arith}
+use Rattle.basic_solve.proofs.Common.{refl, arith, turned}
 use Rattle.std.proofs.lemmas.List.Sorted.{IsPermutation-map}
-use Rattle.basic_solve.specs.Columns.{turned}
 use Rattle.basic_solve.proofs.ColumnLists.{turned-columns}
 use Rattle.basic_solve.proofs.columns.Columns.new.Goals as goal
 

@@ -1,5 +1,4 @@
-use Rattle.basic_solve.proofs.Common.{◌≡◌, ◌++◌, ◌∷◌, [], ◌-◌, suc, ◌∙◌, ap, sym, arith, length, map, take}
-use Rattle.basic_solve.specs.Columns.{columns, turned}
+use Rattle.basic_solve.proofs.Common.{◌≡◌, ◌++◌, ◌∷◌, [], ◌-◌, suc, ◌∙◌, ap, sym, arith, length, map, take, columns, turned}
 use Rattle.basic_solve.proofs.ColumnLists.{columns-same, length-columns}
 use Rattle.basic_solve.proofs.columns.ColumnsLeft.take_last.Goals as goal
 
