@@ -1,6 +1,6 @@
 -- What the proofs of this crate stand on, of std and of the crates below.
 pub use Rattle.std.proofs.Common.{◌≡◌, ◌≤◌, ℕ, Bool, List, map, take, sym, ap, ◌∙◌, zero, suc, ◌+◌, ◌-◌, true, false, cond, leb, [], ◌∷◌, length, None, pos, int_lt, refl, arith, ◌<◌, ◌⊎◌, inl, inr, ◌*◌, ◌^◌, ℤ, ◌+ℤ◌, ◌*ℤ◌, ◌≤ℤ◌, ◌++◌, if◌then◌else◌, subst, All, negsuc, ◌<ℤ◌, rules, to_z, of_z}
-pub use Rattle.quadratization.proofs.Common.{weight_total, sum_by, AllByRecursion, slice_index_or, nat_tests, sum_by-cons, sum_by-append, Term, IsTermSet, with_additions, TableContent, IsTable, table_size, sets_sum-cons, sets_sum, coefficient_of-with_additions, terms_total-with_additions, nodes_for, new_nodes, length-image, ints, fits_signed_from_abs, to_z-of_z, All-nil, All-map, All-from_recursion, recursion_from_All, QuadContent, IsQuad, quad_total, quad_size, quad_total-image, quad_size-image, OfSet, All-with_additions, AreTerms-with_additions, contribution_sets, all_nodes-le, table_of, additions_of, IsTable-low_of, HeldContent, HasPlaces, AreHeld, IsWithin, w128, IsQuad-image, length-map-range_with_len, total_by, IfOk-weaker, size-plus, take-map, length-map, run, excess, contributions, IsTable-table_of, Entry, Literal, Product}
+pub use Rattle.quadratization.proofs.Common.{weight_total, sum_by, AllByRecursion, slice_index_or, nat_tests, sum_by-cons, sum_by-append, Term, IsTermSet, with_additions, TableContent, IsTable, table_size, sets_sum-cons, sets_sum, coefficient_of-with_additions, terms_total-with_additions, nodes_for, new_nodes, length-image, ints, fits_signed_from_abs, to_z-of_z, All-nil, All-map, All-from_recursion, recursion_from_All, QuadContent, IsQuad, quad_total, quad_size, quad_total-image, quad_size-image, OfSet, All-with_additions, AreTerms-with_additions, contribution_sets, all_nodes-le, table_of, additions_of, IsTable-low_of, HeldContent, HasPlaces, AreHeld, IsWithin, w128, IsQuad-image, length-map-range_with_len, total_by, IfOk-weaker, take-map, length-map, run, excess, contributions, IsTable-table_of, Entry, Literal, Product}
 pub use Rattle.working_graph.proofs.Common.{IsingContent, IsIsing, Fabric, AllExist, IsValidOn, Joins, IsConnected, qubits_of, place_of, Embedding, IsEmbedding, IsChecked, are_joined-comm, IsValid, clique_valid, IsFault, IsFaultOn, joined_in-comm, checked_embeds, IfErr-weaker, if_fault, append-nil, Chimera, EmbedFault}
 pub use Rattle.normal_form.proofs.Common.{sets_sum-with_additions, ExtendsLeast, Relaxes, first_bits, multilinear_extends, multilinear_relaxes, pow_mono, pow-add, scaled, product_terms, products_with, complements, AreFew, sets_sum-contributions, product_term, square_terms, slack_form, constraint_terms, opposites_length, square_is, contributions-sets, multiplied, IsSmall, figures, clause_term, Figures, BitsLink, Clause, Constraint}
 pub use Rattle.ising_form.proofs.Common.{Written, read_off, spins_energy, Decoding, Reduces, Keeps, figures_moved, node_entries, weights_of, counted_in, entry_in, unit_of, ising_total, ising_unit, reduced, coupled, image, length-fields, spins_keeps, spins_reaches, FitsOutput, is_on_chain, written_entries, written_of, same_bits, one_le_quad_unit, Kind}
@@ -58,7 +58,6 @@ pub use Rattle.working_graph.proofs.FaultsOn.{fault_on_invalid}
 pub use Rattle.working_graph.proofs.WorkingCliques.{working_clique_valid}
 pub use Rattle.model_pipeline.specs.declared.site.Qubits.{Qubits}
 pub use Rattle.model_pipeline.specs.declared.site.ChainSource.{ChainSource}
-pub use Rattle.form_steps.proofs.Growth.{fits_below}
 pub use Rattle.model_pipeline.proofs.faithful.LeastStates.{relaxed_stands}
 pub use Rattle.model_pipeline.proofs.faithful.LeastSteps.{kept_stands, reduced_stands}
 pub use Rattle.cut_chains.proofs.CutSizes.{cut_is_ising, cut_offset_small, cut_total_grows}

@@ -82,12 +82,16 @@ module _ (a t : ℤ) (n : Figures) (most : ℕ) (are : AreFigures a t n most) wh
     threshold = omega (arith, are.threshold_low);
   }
 
--- a figure that is moved by what the code has reduced fits its field
+-- a figure that is moved by what the code has reduced is far below what its field holds
+pub moved_low : (z b : ℤ) → unsigned_abs z < 2 ^ 124 → unsigned_abs b ≤ 2 ^ 124
+    → unsigned_abs (z +ℤ to_z w128 (of_z w128 b)) < 2 ^ 125
+moved_low z b low small =
+    rw (to_z-of_z w128 b (fits_signed_from_abs w128 b (omega (arith, small)))) (omega (arith, ints, low, small))
+
+-- and fits it
 pub moved_fits : (z b : ℤ) → unsigned_abs z < 2 ^ 124 → unsigned_abs b ≤ 2 ^ 124
     → FitsSigned w128 (z +ℤ to_z w128 (of_z w128 b))
-moved_fits z b low small =
-    rw (to_z-of_z w128 b (fits_signed_from_abs w128 b (omega (arith, small))))
-    (fits_signed_from_abs w128 _ (omega (arith, ints, low, small)))
+moved_fits z b low small = fits_signed_from_abs w128 _ (omega (arith, moved_low z b low small))
 
 -- The models of a form that stands for a problem, as it is and in its greatest unit.
 

@@ -1,18 +1,18 @@
 -- What the proofs of this crate stand on, of std and of the crates below.
-pub use Rattle.std.proofs.Common.{◌≡◌, ℕ, ℤ, pos, ◌*ℤ◌, ◌≤ℤ◌, Bool, List, length, get_or, take, Ok, Some, None, refl, sym, ap, ◌∙◌, subst, arith, Option, ◌≤◌, IfOk, Err, Result, [], ◌∷◌, reverse, ◌^◌, zero, suc, ◌+◌, ◌<◌, true, false, ◌++◌, length-append, append_assoc, append-nil, slice_index_or, Bor, IsOk, OnOk, OnErr, not, ◌&&◌, ◌||◌, cond, map, find, ◌-◌, ◌+ℤ◌, ◌≢◌, string_bytes, rules, of_z, to_z, decimal}
+pub use Rattle.std.proofs.Common.{◌≡◌, ℕ, ℤ, pos, ◌*ℤ◌, ◌≤ℤ◌, Bool, List, length, get_or, take, Ok, Some, None, refl, sym, ap, ◌∙◌, subst, arith, Option, ◌≤◌, IfOk, Err, Result, [], ◌∷◌, reverse, ◌^◌, zero, suc, ◌+◌, ◌<◌, true, false, ◌++◌, length-append, append_assoc, append-nil, slice_index_or, Bor, IsOk, OnOk, OnErr, not, ◌||◌, cond, map, find, ◌-◌, ◌+ℤ◌, ◌≢◌, string_bytes, rules, of_z, to_z, decimal}
 pub use Rattle.wbo_reader.proofs.Common.{rewritten_relaxes, WboContent}
 pub use Rattle.model_pipeline.proofs.Common.{ints, to_z-of_z, Form, IsOf, energy, times-lt, Relaxes, Decoding, Written, weight_total, read_off, IsLeast, ising_of, site_chains, IsingContent, IfFault, CanStandBy, IsFaultBy, graph_in, fabric_in, chains_of, CanStandAt, upper, limit_fault, auxiliary_bits, Embedding, ising_figures, decoding_to, form_model, kind_of, qubit_model, le-ltb, AllByRecursion, length-map, take-take, take-map, if◌then◌else◌, nat_lt, All, total_by, StandsAtLeast, StandsBy, length-map-range_with_len, QuadContent, length-fields, IfOk-weaker, w128, nat_tests}
 pub use Rattle.run_steps.proofs.Common.{NamedFiles, text_at, if_named, last_files, model_files, CertificateContent, proof_fault, AreFilesOf, AreRead, weight, eqb-true, ended, IfErr}
 pub use Rattle.model_pipeline.proofs.faithful.Common.{by_lt_z, Source, first_decoded, IsWellFormed, form_of, decoding_of, IsLeastState, HasCost, IsFeasible, length-take-le}
 pub use Rattle.elimination_order.proofs.Common.{IsFirstLeastBy, list_any, ⊤, width, IsWithinWidth, IsFirstWider, first_wide, IsFirstLeast}
-pub use Rattle.model_text.proofs.Common.{FitsFields, Row, rows_text, Taken, joined_bytes, Takes, TakesFront, join_with_byte, codes, signed_decimal}
+pub use Rattle.model_text.proofs.Common.{FitsFields, Taken, joined_bytes, Takes, TakesFront, codes, signed_decimal}
 pub use Rattle.model_pipeline.specs.faithful.Faithful.{Demand, Faithful, HasChains, HasUnit, scale_of}
 pub use Rattle.model_pipeline.proofs.faithful.Told.{least_states_tell, length-read_off, below, above}
 pub use Rattle.problem_form.specs.Problems.{ProblemContent, own_cost, fails, fails_hard, soft_cost, sum_of}
 unfoldable pub use Rattle.model_text.specs.Rows.{model_text}
 pub use Rattle.model_text.specs.Told.{IsTextOf}
 pub use Rattle.model_text.proofs.ModelRows.{texts_tell_models}
-pub use Rattle.answer_text.specs.Answers.{decoding_text, extension_text, proof_text, solution_text, optimum_rows}
+pub use Rattle.answer_text.specs.Answers.{decoding_text, extension_text, proof_text, optimum_rows}
 pub use Rattle.command_words.specs.Bounds.{most_of}
 pub use Rattle.source_texts.specs.Sources.{CostsAs, StandsFor, bounded, carried, names_of, form_said, problem_of, source_of, StandsBounded, bounded_read}
 pub use Rattle.source_texts.proofs.Standing.{names_read, problem_stands, problem_costs}
@@ -33,7 +33,7 @@ pub use Rattle.chain_map.specs.declared.faults.CheckAnswer.{CheckAnswer}
 pub use Rattle.program_run.specs.Unembedded.{IsUnembeddedOn, unembedded, unsolved}
 pub use Rattle.edge_io.specs.Counts.{Counts, Rose, HasCause}
 pub use Rattle.run_steps.specs.Statuses.{IsReading, IsRefusal, IsDoneOrWant, OnWriting, IsUnsolved}
-pub use Rattle.program_run.specs.Outcome.{AreFilesAsked, OfModel, IsEndOf, IsEnd, Ends, MeetsOutcomeOf}
+pub use Rattle.program_run.specs.Outcome.{AreFilesAsked, IsEndOf, IsEnd, Ends, MeetsOutcomeOf}
 pub use Rattle.state_file.specs.States.{StateLine, states_of, is_one, is_state, states_from}
 pub use Rattle.program_run.specs.Headline.{DeliversHeadline, IsAskedAt, IsHeadline}
 pub use Rattle.model_pipeline.specs.declared.kept.FormSteps.{FormSteps}
@@ -82,7 +82,6 @@ pub use Rattle.run_steps.specs.declared.placements.Placement.{Placement}
 pub use Rattle.run_steps.specs.declared.plans.Plan.{Plan}
 pub use Rattle.command_words.specs.declared.names.Which.{Which}
 pub use Rattle.run_steps.specs.declared.status.Status.{Status}
-pub use Rattle.whole_text.specs.declared.faults.TextFault.{TextFault}
 pub use Rattle.base.specs.declared.costs.Cost.{Cost}
 pub use Rattle.command_words.specs.declared.commands.Request.{Request}
 pub use Rattle.command_words.specs.declared.commands.Origin.{Origin}

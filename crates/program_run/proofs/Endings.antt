@@ -1,5 +1,5 @@
 -- How the steps of a command end.
-use Rattle.program_run.proofs.Common.{nat_tests, ◌≡◌, ℕ, ◌≤◌, IfOk, arith, List, Ok, Err, Some, Result, refl, sym, ◌∙◌, Option, Written, Counts, Rose, NamedFiles, Which, Request, Plan, Status, IsReading, IsRefusal, IsDoneOrWant, Steps, Last, Refuses, AreFilesAsked, OfModel, IsEndOf, IsEnd, Ends, MeetsOutcomeOf, IsModelled, EndsOf, Done, ReadFault, WriteFault, NotEmbedded}
+use Rattle.program_run.proofs.Common.{nat_tests, ◌≡◌, ℕ, IfOk, arith, List, Ok, Err, Some, Result, refl, sym, ◌∙◌, Option, Written, Counts, Rose, NamedFiles, Which, Request, Plan, Status, IsReading, IsRefusal, IsDoneOrWant, Steps, Last, Refuses, AreFilesAsked, IsEndOf, IsEnd, Ends, MeetsOutcomeOf, IsModelled, EndsOf, Done, ReadFault, WriteFault, NotEmbedded}
 use Rattle.program_run.proofs.OneModel.{one_model}
 
 -- ---- of a plan

@@ -1,5 +1,5 @@
 -- The states of a file, where it has some or none, and the order of one.
-use Rattle.program_run.proofs.Common.{nat_tests, arith, ◌≡◌, ℕ, Bool, List, [], ◌∷◌, reverse, Ok, Err, Some, None, refl, sym, subst, Form, Written, IsFirstLeastBy, IsFirstBy, EndsOf, Counts, NamedFiles, Which, Ask, WordAt, Command, if_named, last_files, text_at, StateLine, states_of, Judgement, best_of, Plan, Status, AreFilesOf, AreRead, Last, Several, Steps, Refuses, ends, last_step, scanning, solving, states_end, taking, refuses_on, Order, State, Done, NoState, ended, IfErr, IsUnsolved, Result}
+use Rattle.program_run.proofs.Common.{nat_tests, arith, ◌≡◌, ℕ, Bool, List, [], ◌∷◌, reverse, Ok, Err, Some, None, refl, sym, subst, Form, Written, IsFirstLeastBy, IsFirstBy, EndsOf, Counts, NamedFiles, Which, Ask, WordAt, Command, if_named, last_files, text_at, StateLine, states_of, Judgement, best_of, Plan, Status, AreFilesOf, AreRead, Last, Several, Steps, Refuses, ends, last_step, scanning, solving, states_end, taking, refuses_on, Order, State, NoState, ended, IfErr, IsUnsolved, Result}
 use Rattle.command_words.specs.declared.commands.Ask.TheVariants as asks
 use Rattle.command_words.specs.declared.names.Which.TheVariants.{Order, State}
 use Rattle.run_steps.specs.declared.status.Status.TheVariants.{NoState}

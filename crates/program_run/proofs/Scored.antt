@@ -1,5 +1,5 @@
 -- What states are worth to two judges who agree on them.
-use Rattle.program_run.proofs.Common.{nat_tests, arith, ◌≡◌, ℕ, ◌+◌, Bool, true, not, ◌&&◌, ◌||◌, cond, List, [], ◌∷◌, length, map, find, Ok, Some, Option, refl, ◌∙◌, AllByRecursion, length-map, eqb-true, Written, decoding_of, NamedFiles, StateLine, is_one, is_state, states_from, states_of, Score, IsEvaluation, Judgement, best_of, has_better, is_better, score_of, evaluation_text, Several, scanning, states_end, bound, IsScored}
+use Rattle.program_run.proofs.Common.{nat_tests, arith, ◌≡◌, ℕ, ◌+◌, Bool, not, ◌||◌, cond, List, [], ◌∷◌, length, map, find, Ok, Some, Option, refl, ◌∙◌, AllByRecursion, length-map, eqb-true, Written, decoding_of, NamedFiles, StateLine, is_one, is_state, states_from, states_of, Score, IsEvaluation, Judgement, best_of, has_better, is_better, score_of, evaluation_text, Several, scanning, bound, IsScored}
 
 -- judges who agree on each of these states
 abbrev pub AreAlike : Judgement → Judgement → List StateLine → Type 0
@@ -61,8 +61,7 @@ wide_with : (width number : ℕ) (line : List ℕ) (later : List (ℕ × List �
     → AreWide width (map (λ (l : ℕ × List ℕ). (l.0, map is_one l.1)) later)
     → AreWide width (map (λ (l : ℕ × List ℕ). (l.0, map is_one l.1))
     (cond fits ((number, line) ∷ later) later))
-wide_with width number line later fits is rest =
-    grind (arith, nat_tests, length-map, eqb-true)
+wide_with width number line later fits is rest = grind (arith, nat_tests, length-map, eqb-true)
 
 states_wide : (width number : ℕ) (lines : List (List ℕ))
     → AreWide width (states_from width number lines)

@@ -1,5 +1,5 @@
 -- What costs within the limits come to: below 2 ^ 64 in size.
-use Rattle.program_run.proofs.Common.{nat_tests, [], length, Cost, Read, Written, judgement_by, ◌≡◌, ◌-◌, ◌^◌, ◌≤◌, ℤ, ◌+ℤ◌, Bool, true, false, ◌||◌, List, None, arith, if◌then◌else◌, list_any, ints, total_by, Normal, ProblemContent, fails, fails_hard, own_cost, soft_cost, sum_of, limit_fault, weight, soft_costs-size, sum_of-size, IsSmall, All, All-from_get_or, AreCosts, IsWithin, Whole, Infinite}
+use Rattle.program_run.proofs.Common.{nat_tests, length, Cost, Read, Written, judgement_by, ◌≡◌, ◌-◌, ◌^◌, ◌≤◌, ℤ, ◌+ℤ◌, Bool, true, false, ◌||◌, List, None, arith, if◌then◌else◌, list_any, ints, total_by, Normal, ProblemContent, fails, fails_hard, own_cost, soft_cost, sum_of, limit_fault, weight, soft_costs-size, sum_of-size, IsSmall, All, All-from_get_or, AreCosts, IsWithin, Whole, Infinite}
 use Rattle.normal_form.proofs.Limits as multilinear
 
 weight_is_small : (normal : Normal) (p : ProblemContent) → limit_fault normal p ≡ None

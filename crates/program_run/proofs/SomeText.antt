@@ -1,5 +1,5 @@
 -- No answer is empty.
-use Rattle.program_run.proofs.Common.{ints, nat_tests, ◌≡◌, ◌≢◌, ℕ, Bool, List, [], ◌∷◌, ◌++◌, length, length-append, ℤ, Option, refl, sym, ap, ◌∙◌, arith, join_with_byte, Cost, Written, Choices, Row, rows_text, model_text, summary_text, solution_text, size_text, Ask, Read, Bits, StateLine, Judgement, IsScored, IsModelText, IsSolvedBy, IsTold}
+use Rattle.program_run.proofs.Common.{ints, nat_tests, ◌≡◌, ◌≢◌, ℕ, Bool, List, [], ◌∷◌, ◌++◌, Option, refl, sym, ◌∙◌, arith, Written, Choices, model_text, summary_text, size_text, Ask, Read, Bits, StateLine, Judgement, IsScored, IsModelText, IsSolvedBy, IsTold}
 
 same_some : (text other : List ℕ) → text ≡ other → other ≢ [] → text ≢ []
 same_some text other same some none = some (sym same ∙ none)

@@ -1,5 +1,5 @@
 -- What the steps that take a file have found where they succeed.
-use Rattle.program_run.proofs.Common.{nat_tests, arith, ◌≡◌, ℕ, List, Ok, Some, None, Result, NamedFiles, TextFault, limit_fault, Which, Origin, Command, Read, problem_of, ends, text_end, limited, format_in, sourcing, reading_source, checking, wanted, IsTextIn, bound}
+use Rattle.program_run.proofs.Common.{nat_tests, arith, ◌≡◌, ℕ, List, Ok, Some, None, NamedFiles, limit_fault, Origin, Command, Read, problem_of, ends, text_end, limited, format_in, sourcing, reading_source, checking, wanted, IsTextIn, bound}
 use Rattle.command_words.specs.declared.names.Which.TheVariants.{Source}
 
 sourced_is_held : (words : List (List ℕ)) (held : NamedFiles) (origin : Origin) (text : List ℕ)

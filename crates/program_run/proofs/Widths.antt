@@ -1,6 +1,5 @@
 -- How many variables and nodes the model of a plan has.
 use Rattle.program_run.proofs.Common.{nat_tests, ◌≡◌, ℕ, ◌+◌, ◌≤◌, length, arith, length-map, length-take-le, length-map-range_with_len, Figures, UnitChoice, Written, Choices, ProblemContent, auxiliary_bits, QuadContent, IsingContent, length-fields, NodeModel, form_model, nodes_are_few, form_nodes, Qubits, ChainSource, chains_of, CanStandAt, ising_of, Placement, Plan, CanStandOn, CanStand, IsModelOn, IsModelBy, StandsOn, Stands}
-use Rattle.model_pipeline.specs.Models.{kind_of}
 use Rattle.ising_form.specs.Spins as spins
 
 model_nodes : (target : NodeModel) (unit : UnitChoice) (q : QuadContent) (variables : ℕ)

@@ -47,8 +47,8 @@ use Rattle.run_steps.specs.declared.plans.Plan.{Plan}
 use Rattle.run_steps.specs.Placements.{kind_of, ties_of, demand_of}
 use Rattle.run_steps.specs.Plans.{form_in, IsModelBy}
 use Rattle.run_steps.specs.Steps.{Last, Nothing, Bits, InOrder, Several, format_in, planning, last_step}
-use Rattle.program_run.specs.declared.answers.Answer.{Answer}
-use Rattle.program_run.specs.declared.answers.Answer.TheVariants.{Model, Scores, Text}
+use Rattle.program_run.specs.declared.answer.Answer.{Answer}
+use Rattle.program_run.specs.declared.answer.Answer.TheVariants.{Model, Scores, Text}
 use Rattle.run_steps.specs.declared.status.Status.{Status}
 use Rattle.run_steps.specs.declared.status.Status.TheVariants.{Done, WriteFault}
 use Rattle.run_steps.specs.Causes.{WhereHeld}

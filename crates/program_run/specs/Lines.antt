@@ -58,8 +58,7 @@ limit_words Weight = codes ": limit weight "
 
 -- the line for an embedding in words round a number, piece by piece
 abbrev pub with_number : List ℕ → ℕ → List ℕ → List (List ℕ)
-with_number before number after =
-    codes "not embedded: " ∷ before ∷ decimal number ∷ after ∷ []
+with_number before number after = codes "not embedded: " ∷ before ∷ decimal number ∷ after ∷ []
 
 -- the same, in words round two numbers
 abbrev pub with_numbers : List ℕ → ℕ → List ℕ → ℕ → List ℕ → List (List ℕ)

@@ -23,8 +23,7 @@ OfModel plan P = CanStand plan × ((m : Written) × IsModelBy plan m × P m)
 -- how a plan ends: its model cannot be embedded, or the last step refuses, or all is done
 abbrev pub IsEndOf : Plan → (Written → Steps Last) → Status → Type 0
 IsEndOf plan last Done = OfModel plan (λ m. (x : Last) × ((last m).end ≡ Some (Ok x)))
-IsEndOf plan last (NotEmbedded fault) =
-    IsFaultOn plan.base (form_in plan) fault × ¬ (CanStand plan)
+IsEndOf plan last (NotEmbedded fault) = IsFaultOn plan.base (form_in plan) fault × ¬ (CanStand plan)
 IsEndOf plan last status = OfModel plan (λ m. (last m).end ≡ Some (Err status))
 
 -- how all steps end: with the status of the first one that refuses, and else as the plan does; they

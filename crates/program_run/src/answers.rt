@@ -14,6 +14,7 @@ ghost use Rattle.run_steps.specs.Statuses.{ended, IsRefusal};
 ghost use Rattle.program_run.specs.Answers.{text_of, IsAnswer};
 ghost use Rattle.run_steps.specs.Causes.{AreFiles, AreFilesOf, WhereHeld, spelled, named_in};
 
+use crate::answer::Answer;
 use crate::evaluate::states_evaluated;
 use crate::made::{keeping_for, model_given, model_lent, solved, solved_in_order, state_told};
 use answer_text::written_size;
@@ -24,16 +25,7 @@ use edge_io::Files;
 use model_pipeline::Keeping;
 use model_text::written_summary;
 use run_steps::{Plan, Status, take_plan};
-use state_scores::EvaluationText;
 use std::alloc::Global;
-
-/// What is written for a command: a model or scores, whose text is written row by row, or a text.
-#[derive(Drop)]
-pub enum Answer {
-    Model(OutputModel),
-    Scores(EvaluationText),
-    Text(Vec<u8>),
-}
 
 /// The text of a model or of what it tells, as an answer.
 fn told_of(alloc: Global, ask: Ask, model: OutputModel) -> Result<Answer, NoMemory>

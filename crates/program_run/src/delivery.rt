@@ -5,7 +5,7 @@ ghost use Rattle.model_text.specs.Rows.{model_text};
 ghost use Rattle.run_steps.specs.Statuses.{OnRefusal};
 ghost use Rattle.program_run.specs.Answers.{text_of, IsDelivered};
 
-use crate::answers::Answer;
+use crate::answer::Answer;
 use bits_model::OutputModel;
 use edge_io::{LineBuffer, Sink, write_pieces};
 use model_text::write_text;

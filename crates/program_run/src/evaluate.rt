@@ -12,7 +12,7 @@ ghost use Rattle.state_scores.specs.Scores.{IsEvaluation};
 ghost use Rattle.program_run.specs.Answers.{text_of, IsScored};
 ghost use Rattle.program_run.specs.Made.{EndsOf, IsMadeTextOf, IsModelled, IsWithin, judgement_by};
 
-use crate::answers::Answer;
+use crate::answer::Answer;
 use crate::decode::decoded;
 use crate::judging::ModelJudge;
 use crate::made::nodes_of;

@@ -2,6 +2,7 @@
 //! ended.
 #![tactic(auto)]
 
+mod answer;
 mod answers;
 mod decode;
 mod delivery;
@@ -16,7 +17,7 @@ mod one_write;
 mod program;
 mod running;
 
-pub use answers::Answer;
+pub use answer::Answer;
 pub use laws::{plans_make_one_model, rows_go_by_the_threshold, the_first_wide_node_is_named};
 pub use program::{exit_number, finish, given_words};
 pub use run_steps::Status;

@@ -14,7 +14,7 @@ ghost use Rattle.program_run.specs.Unembedded.{IsUnembedded, unsolved};
 ghost use Rattle.run_steps.specs.Statuses.{ended, IsRefusal, IsUnsolved};
 ghost use Rattle.run_steps.specs.Causes.{AreFilesOf, WhereHeld, spelled, named_in};
 
-use crate::answers::Answer;
+use crate::answer::Answer;
 use crate::decode::{bounded_cost, decoded, decoded_text, proved_text};
 use crate::extend::extended_text;
 use crate::models::model_on;

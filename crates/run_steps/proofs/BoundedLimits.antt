@@ -1,6 +1,6 @@
 -- What passes no limit passes none where assignments may cost at most so much: the penalty is no
 -- greater, and so is the weight.
-use Rattle.run_steps.proofs.Common.{nat_tests, ints, ◌≡◌, ℕ, ◌+◌, ◌-◌, ◌*◌, ◌^◌, ◌≤◌, ℤ, Option, None, List, [], ◌∷◌, ap, arith, count_by, is_none, sum_by, sum_by-le-sum_by, add-le-add, mul-le, Normal, Clause, Constraint, ProblemContent, with_most, Counted, cost_size, degree, limit_fault, lower, most_degree, negations, pairs, penalty, penalty_above, reach, weight, Degree, Negations, Pairs, Weight}
+use Rattle.run_steps.proofs.Common.{nat_tests, ints, ◌≡◌, ℕ, ◌+◌, ◌-◌, ◌*◌, ◌^◌, ◌≤◌, ℤ, Option, None, ap, arith, count_by, is_none, sum_by, sum_by-le-sum_by, add-le-add, mul-le, Normal, Clause, Constraint, ProblemContent, with_most, cost_size, limit_fault, lower, penalty, penalty_above, reach, weight}
 
 -- ---- the weight
 
@@ -25,22 +25,6 @@ weight-le p most free =
     omega (arith, more)
 
 -- ---- the limits
-
--- the last numbers that are counted, with this weight
-abbrev from_weight : ℕ → List Counted
-from_weight n = record { kind = Weight; number = n; most = 2 ^ 64 - 1 } ∷ []
-
-abbrev from_pairs : Normal → ProblemContent → ℕ → List Counted
-from_pairs normal p n =
-    record { kind = Pairs; number = pairs normal p; most = 2 ^ 24 } ∷ from_weight n
-
-abbrev from_negations : Normal → ProblemContent → ℕ → List Counted
-from_negations normal p n =
-    record { kind = Negations; number = negations normal p; most = 8 } ∷ from_pairs normal p n
-
-abbrev from_degree : Normal → ProblemContent → ℕ → List Counted
-from_degree normal p n =
-    record { kind = Degree; number = degree p; most = most_degree } ∷ from_negations normal p n
 
 pub within_bounded : (normal : Normal) (p : ProblemContent) (most : Option ℤ) → p.most ≡ None
     → limit_fault normal p ≡ None → limit_fault normal (with_most p most) ≡ None

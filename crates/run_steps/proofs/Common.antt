@@ -1,5 +1,5 @@
 -- What the proofs of this crate stand on, of std and of the crates below.
-pub use Rattle.std.proofs.Common.{◌≡◌, ℕ, ◌+◌, ◌-◌, ◌*◌, ◌^◌, ◌≤◌, ℤ, Bool, true, Some, None, List, [], ◌∷◌, ap, sym, ◌∙◌, subst, refl, arith, ◌++◌, Ok, Result, length, take, Err, append_assoc, suc, inl, inr, ◌≢◌, ◌&&◌, map, find, string_bytes, rules, Global, Vec}
+pub use Rattle.std.proofs.Common.{◌≡◌, ℕ, ◌+◌, ◌-◌, ◌*◌, ◌^◌, ◌≤◌, ℤ, Bool, true, Some, None, List, [], ◌∷◌, ap, sym, ◌∙◌, subst, refl, arith, ◌++◌, Ok, Result, length, take, Err, append_assoc, suc, inl, inr, ◌≢◌, map, find, string_bytes, rules, Global, Vec}
 pub use Rattle.whole_text.proofs.Common.{length-take, take-append-le, LexerState, StandsFor}
 pub use Rattle.problem_form.proofs.Common.{eqb-true, sum_by-le-sum_by, mul-le, length-append, length-map}
 pub use Rattle.posiform_check.proofs.Common.{Written, option_map, CertificateContent, proof_fault, append-nil}
@@ -8,7 +8,7 @@ pub use Rattle.std.specs.Prelude.{count_by, is_none, ◌↔◌, IsErrOf, OnOk, I
 pub use Rattle.std.specs.List.{sum_by, Contains}
 pub use Rattle.std.proofs.Math.Nat.{add-le-add}
 pub use Rattle.problem_form.specs.declared.limits.LimitFault.{LimitFault}
-pub use Rattle.problem_form.specs.Limits.{Counted, cost_size, degree, first_passed, limit_fault, lower, most_degree, negations, pairs, penalty, penalty_above, reach, weight}
+pub use Rattle.problem_form.specs.Limits.{Counted, cost_size, limit_fault, lower, negations, pairs, penalty, penalty_above, reach, weight}
 pub use Rattle.edge_io.specs.Held.{NamedFiles, IsFront, WhereTold, find_file}
 pub use Rattle.edge_io.specs.Counts.{Counts, Rose}
 pub use Rattle.command_words.specs.declared.names.Which.{Which}
@@ -17,7 +17,7 @@ pub use Rattle.run_steps.specs.declared.status.Status.{Status}
 pub use Rattle.run_steps.specs.Steps.{asked_width, bits_at, Steps, ends, certifying, proof_end, ◌>>=◌, Last, Bits, gives, last_step, Meets, Refuses, go_on, taking, text_end, wanted, limited}
 unfoldable pub use Rattle.run_steps.specs.Steps.{stating, certified, proving, checking, reading_source, sourcing, ordered, chains_step, placing, siting, surveying, planning}
 pub use Rattle.run_steps.specs.Statuses.{IsReading, IsRefusal, IsUnproved, ended}
-pub use Rattle.run_steps.specs.Causes.{AreRead, AreRefused, AreFilesOf, AreBegun, IsBegun, AreWanting, IsReadTo, IsCause, IsLimited, last_of, IsAt, IsRefusedBy, MayHold, WhereHeld, board_files, state_files}
+pub use Rattle.run_steps.specs.Causes.{AreRead, AreRefused, AreFilesOf, AreBegun, IsBegun, AreWanting, IsReadTo, IsCause, IsLimited, last_of, IsAt, IsRefusedBy, MayHold, board_files, state_files}
 pub use Rattle.std.specs.Io.KnownBytes.{Consumes, IsAtEnd}
 pub use Rattle.std.proofs.lemmas.List.Elements.{Contains-append_left, Contains-append_right}
 pub use Rattle.whole_text.specs.declared.token.Style.{Style}
@@ -45,7 +45,7 @@ pub use Rattle.command_words.specs.declared.commands.Ask.{Ask}
 pub use Rattle.command_words.specs.declared.commands.Command.{Command}
 pub use Rattle.command_words.specs.declared.names.Which.TheVariants.{State, Certificate, Source, Order}
 pub use Rattle.run_steps.specs.declared.status.Status.TheVariants.{BadText, Done, Limit, NoMemory, NoState, NotEmbedded, NotProved, ReadFault, TooWide, Usage, WriteFault}
-pub use Rattle.problem_form.specs.declared.limits.LimitKind.TheVariants.{Bytes, Degree, Negations, Pairs, Variables, Weight}
+pub use Rattle.problem_form.specs.declared.limits.LimitKind.TheVariants.{Bytes, Negations, Pairs, Weight}
 pub use Rattle.command_words.specs.declared.commands.Ask.TheVariants.{Evaluate, Prove}
 pub use Rattle.command_words.specs.declared.commands.Format.TheVariants.{Wcnf}
 pub use Rattle.run_steps.specs.declared.plans.Plan.{Plan}

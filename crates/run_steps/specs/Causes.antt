@@ -158,8 +158,7 @@ abbrev pub IsRefusedBy : Which → List ℕ → Status → Counts → Counts →
 IsRefusedBy which name (ReadFault other) old new = (other ≡ which) × IsCause name 1 old new
 IsRefusedBy which name (Limit other kind number) old new =
     (other ≡ which) × IsLimited kind number name 1 old new
-IsRefusedBy which name (BadText other kind line) old new =
-    (other ≡ which) × IsReadTo name 1 old new
+IsRefusedBy which name (BadText other kind line) old new = (other ≡ which) × IsReadTo name 1 old new
 IsRefusedBy which name (NoState width) old new = (which ≡ State) × IsReadTo name 1 old new
 IsRefusedBy which name NoMemory old new = (new ≡ old) ⊎ IsBegun name 1 old new
 IsRefusedBy which name status old new = ⊥

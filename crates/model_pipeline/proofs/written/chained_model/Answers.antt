@@ -1,20 +1,17 @@
 use Rattle.model_pipeline.proofs.Common.{◌∙◌, ap, rules, w128, to_z-of_z, IfOk-weaker, figures_moved, written_of}
 use Rattle.model_pipeline.proofs.Tied.{reduced_fits}
 use Rattle.model_pipeline.proofs.written.chained_model.Goals as goal
-use Rattle.model_pipeline.proofs.FormModels.{moved_fits}
+use Rattle.model_pipeline.proofs.FormModels.{moved_fits, moved_low}
 
 pub moved-figures-requires-clause-offset : goal.moved-figures-requires-clause-offset
-moved-figures-requires-clause-offset c =
-    moved_fits c.args.form.figures.offset c.in_ok-made-in-Reduce.made.offset c.requires.offset (search rules)
+moved-figures-requires-clause-offset c = moved_fits _ c.in_ok-made-in-Reduce.made.offset c.requires.offset (search rules)
 
 pub moved-figures-requires-clause-threshold : goal.moved-figures-requires-clause-threshold
-moved-figures-requires-clause-threshold c =
-    moved_fits c.args.form.figures.threshold c.in_ok-made-in-Reduce.made.offset c.requires.threshold (search rules)
+moved-figures-requires-clause-threshold c = moved_fits _ c.in_ok-made-in-Reduce.made.offset c.requires.threshold (search rules)
 
 pub output-requires-in-Reduce-clause-kind : goal.output-requires-in-Reduce-clause-kind
 output-requires-in-Reduce-clause-kind c =
-    rw c.in_ok-made-in-Reduce.ensures.target
-    (reduced_fits c.args.kind c.args.variables c.args.chains c.args.form.target c.requires.kind)
+    rw c.in_ok-made-in-Reduce.ensures.target (reduced_fits _ _ _ _ c.requires.kind)
 
 pub returns-in_ok-made-in-Reduce : goal.returns-in_ok-made-in-Reduce
 returns-in_ok-made-in-Reduce c =
@@ -25,3 +22,11 @@ returns-in_ok-made-in-Reduce c =
     rw c.in-Reduce.is (IfOk-weaker c.output-in-Reduce.result _ _ (λ m same. same
     ∙ (λ i. written_of (made.target i) c.args.variables (figures i) (unit i) c.args.kind c.args.chains))
     c.output-in-Reduce.ensures)
+
+pub output-requires-in-Reduce-clause-offset : goal.output-requires-in-Reduce-clause-offset
+output-requires-in-Reduce-clause-offset c =
+    rw c.moved-figures.ensures (moved_low _ c.in_ok-made-in-Reduce.made.offset c.requires.offset (search rules))
+
+pub output-requires-in-Reduce-clause-threshold : goal.output-requires-in-Reduce-clause-threshold
+output-requires-in-Reduce-clause-threshold c =
+    rw c.moved-figures.ensures (moved_low _ c.in_ok-made-in-Reduce.made.offset c.requires.threshold (search rules))

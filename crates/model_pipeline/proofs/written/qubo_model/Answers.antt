@@ -1,15 +1,13 @@
 use Rattle.model_pipeline.proofs.Common.{◌∙◌, ap, rules, w128, to_z-of_z, IfOk-weaker, figures_moved}
 use Rattle.quad_form.specs.Quads.{written_of}
 use Rattle.model_pipeline.proofs.written.qubo_model.Goals as goal
-use Rattle.model_pipeline.proofs.FormModels.{moved_fits}
+use Rattle.model_pipeline.proofs.FormModels.{moved_fits, moved_low}
 
 pub moved-figures-requires-clause-offset : goal.moved-figures-requires-clause-offset
-moved-figures-requires-clause-offset c =
-    moved_fits c.args.form.figures.offset c.in_ok-made-in-Reduce.made.offset c.requires.offset (search rules)
+moved-figures-requires-clause-offset c = moved_fits _ c.in_ok-made-in-Reduce.made.offset c.requires.offset (search rules)
 
 pub moved-figures-requires-clause-threshold : goal.moved-figures-requires-clause-threshold
-moved-figures-requires-clause-threshold c =
-    moved_fits c.args.form.figures.threshold c.in_ok-made-in-Reduce.made.offset c.requires.threshold (search rules)
+moved-figures-requires-clause-threshold c = moved_fits _ c.in_ok-made-in-Reduce.made.offset c.requires.threshold (search rules)
 
 pub returns-in_ok-made-in-Reduce-clause-model : goal.returns-in_ok-made-in-Reduce-clause-model
 returns-in_ok-made-in-Reduce-clause-model c =
@@ -20,3 +18,11 @@ returns-in_ok-made-in-Reduce-clause-model c =
     rw c.in-Reduce.is (IfOk-weaker c.output-in-Reduce.result _ _
     (λ m same. same ∙ (λ i. written_of (made.target i) c.args.variables (figures i) (unit i)))
     c.output-in-Reduce.ensures)
+
+pub output-requires-in-Reduce-clause-offset : goal.output-requires-in-Reduce-clause-offset
+output-requires-in-Reduce-clause-offset c =
+    rw c.moved-figures.ensures (moved_low _ c.in_ok-made-in-Reduce.made.offset c.requires.offset (search rules))
+
+pub output-requires-in-Reduce-clause-threshold : goal.output-requires-in-Reduce-clause-threshold
+output-requires-in-Reduce-clause-threshold c =
+    rw c.moved-figures.ensures (moved_low _ c.in_ok-made-in-Reduce.made.offset c.requires.threshold (search rules))

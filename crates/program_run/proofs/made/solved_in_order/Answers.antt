@@ -65,8 +65,7 @@ returns-in-Err-clause-files g c =
     (order_read name c.args.command c.args.at old new c.requires.asked c.in_ok-order.ensures.passed))
 
 pub returns-in_err-text-clause-files : goal.returns-in_err-text-clause-files
-returns-in_err-text-clause-files g c =
-    grind (arith, nat_tests, returned, read_wanting, order_read)
+returns-in_err-text-clause-files g c = grind (arith, nat_tests, returned, read_wanting, order_read)
 
 pub returns-clause-files : goal.returns-clause-files
 returns-clause-files g c =
