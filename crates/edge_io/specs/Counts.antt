@@ -1,5 +1,5 @@
 -- Counts of a u64, which start at 0 and stop at 2^64 - 1, and the faults that they count.
-use Rattle.std.specs.Prelude.{◌≡◌, ℕ, List, [], ◌+◌, ◌-◌, ◌^◌, ◌≤◌, ◌<◌, min, Result, OnErr, MatchResult}
+use Rattle.std.specs.Prelude.{◌≡◌, ℕ, List, [], ◌+◌, ◌-◌, ◌^◌, ◌≤◌, ◌<◌, min, Result, OnErr, OnOk, MatchResult}
 
 -- the count, n later
 abbrev pub count_after : ℕ → ℕ → ℕ
@@ -13,10 +13,11 @@ RoseBy n before now = min now (2 ^ 64 - 1) ≡ count_after before n
 abbrev pub Rose : ℕ → ℕ → Type 0
 Rose before now = min (before + 1) (2 ^ 64 - 1) ≤ now
 
--- the count of faults did not fall, and an error comes only where it rose
+-- the count of faults rose where there was an error, and stayed at an answer
 pub record HasCause {T E : Type 0} (before now : ℕ) (result : Result T E) : Type 0 where
   pub later : before ≤ now
   pub failed : OnErr result (Rose before now)
+  pub calm : OnOk result (now ≡ before)
 
 -- the count rose by one at an error, and stayed at an answer
 abbrev pub CountsErr : {T E : Type 0} → ℕ → ℕ → Result T E → Type 0

@@ -37,3 +37,8 @@ Begins held name result rest =
 abbrev pub after_first : ℕ → List ℕ → List ℕ
 after_first zero told = []
 after_first (suc begun) told = told
+
+-- the rest of the begun file, where it is told, and nothing before the first begin
+abbrev pub since_begin : ℕ → Option (List ℕ) → Option (List ℕ)
+since_begin zero rest = None
+since_begin (suc begun) rest = rest

@@ -1,5 +1,5 @@
 //! What a store of files and a sink of bytes promise. The content is told where an end knows it:
-//! ends in memory do, real ones do not. The counts are told by each.
+//! ends in memory do, real ones as far as what they stand on does. The counts are told by each.
 ghost use Rattle.std.specs.Prelude.{◌≡◌, ℕ, List, [], IfOk, OnErr, Option, string_bytes};
 ghost use Rattle.std.specs.Io.{ReadsAtMost};
 ghost use Rattle.std.specs.Io.KnownBytes.{ReadConsumes, WriteAppends, IsAtEnd};

@@ -1,10 +1,10 @@
-//! The real files and streams. They tell no content, since no proof can know it, and count as every
-//! end does.
-ghost use Rattle.std.specs.Prelude.{◌≡◌, [], None, string_bytes};
+//! The real files and streams. They tell of bytes what the library tells of the file or the writer
+//! below, nothing of what stands under a path, and count as every end does.
+ghost use Rattle.std.specs.Prelude.{◌≡◌, [], None, Some, string_bytes};
 ghost use Rattle.std.specs.Option.{option_map_or};
 ghost use Rattle.edge_io.specs.Counts.{none_yet};
-ghost use Rattle.edge_io.specs.Held.{after_first};
-ghost use Rattle.edge_io.specs.laws.Begun.{after_first-none};
+ghost use Rattle.edge_io.specs.Held.{after_first, since_begin};
+ghost use Rattle.edge_io.specs.laws.Begun.{after_first-none, since_begin-none};
 
 use crate::empties::empties_after;
 use crate::{Failed, Files, Sink};
@@ -50,7 +50,7 @@ where
 {
     ghost held = { λ f. None };
 
-    ghost rest = { λ f. None };
+    ghost rest = { λ f. since_begin f.begun (option_map_or R.File.Read.remaining f.file (Some [])) };
 
     ghost counts = { λ f. record {
       faults = f.faults;
@@ -61,7 +61,7 @@ where
       empty_reads = f.empty_reads;
     } };
 
-    ghost at_first = { λ f none. (tt, after_first-none f.begun _ none) };
+    ghost at_first = { λ f none. (since_begin-none f.begun _ none, after_first-none f.begun _ none) };
 
     fn begin(&mut self, name: String) -> Result<(), Failed> {
         self.begun = self.begun.saturating_add(1);
@@ -127,7 +127,7 @@ impl<W: Write> RealSink<W> {
 
 impl<W: Write> Sink for RealSink<W> {
     ghost taken = { λ s. record {
-      bytes = None;
+      bytes = W.contents s.writer;
       count = s.taken;
     } };
 

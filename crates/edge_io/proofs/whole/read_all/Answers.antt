@@ -14,7 +14,7 @@ loop-count-preserved g c =
       begun = now.same_begin ∙ was.begun;
       marked = now.same_mark ∙ was.marked;
       named = now.same_name ∙ was.named;
-      later = omega (arith, was.later, now.cause.later);
+      calm = now.cause.calm ∙ was.calm;
     }
 
 pub returns-then-len-count-clause-longer : goal.returns-then-len-count-clause-longer

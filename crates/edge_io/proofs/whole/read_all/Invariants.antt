@@ -12,7 +12,7 @@ invariant-loop-count g l = record {
   begun : (g.F.Files.counts l.files).begun ≡ count_after (g.F.Files.counts l.fn.files).begun 1;
   marked : (g.F.Files.counts l.files).faults_at_begin ≡ (g.F.Files.counts l.fn.files).faults;
   named : (g.F.Files.counts l.files).name ≡ string_bytes l.fn.name;
-  later : (g.F.Files.counts l.fn.files).faults ≤ (g.F.Files.counts l.files).faults;
+  calm : (g.F.Files.counts l.files).faults ≡ (g.F.Files.counts l.fn.files).faults;
 }
 
 abbrev pub decreases-loop-count : goal.decreases-loop-count
