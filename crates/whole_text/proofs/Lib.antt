@@ -4,6 +4,7 @@ pub mod Slices
 pub mod Strides
 pub mod Lengths
 pub mod Order
+pub mod TokenLines
 pub mod LineWords
 pub mod Pieces
 pub mod Lines

@@ -1,8 +1,8 @@
 -- A lexer: the words so far of a text that comes in pieces, and where it stands in a line.
-use Rattle.std.specs.Prelude.{◌≡◌, ℕ, ◌+◌, ◌<◌, ◌≤◌, ⊤, false, List, [], ◌∷◌, ◌++◌, length, map, if◌then◌else◌}
+use Rattle.std.specs.Prelude.{◌≡◌, ℕ, ◌+◌, ◌<◌, ◌≤◌, ⊤, false, List, [], ◌∷◌, ◌++◌, length, map}
 use Rattle.std.specs.List.{slice_split, AllByRecursion}
 use Rattle.whole_text.specs.declared.token.Style.{Style}
-use Rattle.whole_text.specs.Tokens.{Word, word, is_feed, is_blank, pieces, pieces_of_line, tokens_from, tokens_of}
+use Rattle.whole_text.specs.Tokens.{Word, word, feeds, is_feed, is_blank, pieces, pieces_of_line, tokens_from, tokens_of}
 
 -- in a line with only blanks so far, between two words, inside a token of these bytes, or in a
 -- comment; a spent lexer stands nowhere
@@ -47,11 +47,6 @@ to_come style (Inside w) n (line ∷ lines) =
     map (word n) (pieces_of_line style (w ++ line)) ++ tokens_from style (n + 1) lines
 to_come style Comment n (line ∷ lines) = tokens_from style (n + 1) lines
 to_come style Spent n (line ∷ lines) = []
-
--- how many line feeds
-abbrev pub feeds : List ℕ → ℕ
-feeds [] = 0
-feeds (b ∷ bs) = (if is_feed b then 1 else 0) + feeds bs
 
 -- the lexer stands for the text: whatever rest comes, the words of it all are those that it holds
 -- and those still to come

@@ -1,6 +1,6 @@
 -- The tokens of a text: it is cut into lines at line feeds, a line that is no comment into words at
 -- blanks, and a word between neighbours that do not join.
-use Rattle.std.specs.Prelude.{◌≡◌, ℕ, ◌+◌, ◌-◌, ◌<◌, ◌≤◌, Bool, true, false, not, ◌&&◌, ◌||◌, List, [], ◌∷◌, ◌++◌, length, map, filter, slice_get, ◌==◌, if◌then◌else◌}
+use Rattle.std.specs.Prelude.{◌≡◌, ℕ, ◌+◌, ◌-◌, ◌<◌, ◌≤◌, Bool, true, false, not, ◌&&◌, ◌||◌, List, [], ◌∷◌, ◌++◌, length, map, filter, take, slice_get, ◌==◌, if◌then◌else◌}
 use Rattle.std.specs.Option.{option_map_or}
 use Rattle.std.specs.List.{slice_split, slice_range, onto_first, flat_map}
 use Rattle.whole_text.specs.declared.token.Style.{Style}
@@ -108,6 +108,20 @@ words_at text ts = map (word_at text) ts
 -- a token stands inside a text, and is not empty
 abbrev pub IsWithin : List ℕ → Token → Type 0
 IsWithin text t = (t.start < t.end) × (t.end ≤ length text)
+
+-- how many line feeds
+abbrev pub feeds : List ℕ → ℕ
+feeds [] = 0
+feeds (b ∷ bs) = (if is_feed b then 1 else 0) + feeds bs
+
+-- a token names the line that it stands on: one more than there are line feeds before it
+abbrev pub IsOnItsLine : List ℕ → Token → Type 0
+IsOnItsLine text t = t.line ≡ 1 + feeds (take t.start text)
+
+-- the bytes between two places stand on the line with this number
+pub record IsOnLine (text : List ℕ) (start end line : ℕ) : Type 0 where
+  pub number : line ≡ 1 + feeds (take start text)
+  pub one : feeds (slice_range text start end) ≡ 0
 
 -- the tokens stand one after another between two places of a text
 abbrev pub AreInOrder : ℕ → List Token → ℕ → Type 0

@@ -3,7 +3,7 @@
 
 ghost use Rattle.std.specs.Prelude.{◌≡◌, ◌<◌, ◌≤◌, ◌++◌, ◌∷◌, false, not, length, take, drop, All, slice_range, slice_index, OnOk, IfOk};
 ghost use Rattle.std.specs.List.{position_or_len};
-ghost use Rattle.whole_text.specs.Tokens.{is_feed, is_blank, is_operator, is_bracket, joins, terms_join, comment_byte, is_comment, pieces_of_line, tokens_of_line, tokens_of, words_at, AreInOrder, IsWithin};
+ghost use Rattle.whole_text.specs.Tokens.{is_feed, is_blank, is_operator, is_bracket, joins, terms_join, comment_byte, is_comment, pieces_of_line, tokens_of_line, tokens_of, words_at, AreInOrder, IsOnItsLine, IsOnLine, IsWithin};
 
 use crate::token::{Style, Token};
 use base::NoMemory;
@@ -155,6 +155,9 @@ pub fn push_line(
         ++ tokens_of_line style line (slice_range text.now start end)) }
     ensures in_order { OnOk result (AreInOrder 0 tokens.old.items start
         → AreInOrder 0 tokens.new.items end) }
+    ensures lines { OnOk result (IsOnLine text.now start end line
+        → All (IsOnItsLine text.now) tokens.old.items
+        → All (IsOnItsLine text.now) tokens.new.items) }
 {
     if is_comment(&text[start..end], style) {
         return Ok(());
@@ -177,6 +180,7 @@ pub fn tokens(alloc: Global, text: &[u8], style: Style) -> Result<Vec<Token>, No
     ensures cut { IfOk result (λ v. words_at text.now v.items ≡ tokens_of style text.now) }
     ensures in_order { IfOk result (λ v. AreInOrder 0 v.items (length text.now)) }
     ensures within { IfOk result (λ v. All (IsWithin text.now) v.items) }
+    ensures lines { IfOk result (λ v. All (IsOnItsLine text.now) v.items) }
 {
     let mut tokens = Vec::new(alloc);
     let mut start = 0;

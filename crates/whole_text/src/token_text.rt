@@ -1,5 +1,5 @@
 //! The words of a text, without blanks and comments.
-ghost use Rattle.std.specs.Prelude.{◌≡◌, ◌≤◌, length};
+ghost use Rattle.std.specs.Prelude.{◌≡◌};
 ghost use Rattle.whole_text.specs.Tokens.{TakeAll};
 ghost use Rattle.whole_text.specs.laws.Joined.{TakeAll-prop};
 
@@ -42,13 +42,5 @@ impl TokenText {
         ensures { result ≡ end_line (words_of self.now) }
     {
         self.tokens.last_line()
-    }
-
-    /// How many words there are: at most as many as bytes.
-    pub fn word_count(&self) -> usize
-        ensures count { result ≡ length (words_of self.now) }
-        ensures few { result ≤ length self.now.bytes }
-    {
-        self.tokens.len()
     }
 }

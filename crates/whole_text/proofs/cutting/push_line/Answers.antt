@@ -1,6 +1,7 @@
-use Rattle.whole_text.proofs.Common.{nat_tests, ℕ, List, ◌+◌, ◌++◌, map, sym, ap, ◌∙◌, arith, slice_range, flat_map, append-nil, Token, Word, word, word_at, pieces, pieces_of_line}
+use Rattle.whole_text.proofs.Common.{nat_tests, ℕ, List, ◌+◌, ◌++◌, map, sym, ap, ◌∙◌, arith, slice_range, flat_map, append-nil, refl, All-append, IsOnItsLine, [], ◌∷◌, Token, Word, word, word_at, pieces, pieces_of_line}
 use Rattle.whole_text.proofs.Slices.{slice_length, slice_none}
 use Rattle.whole_text.proofs.Order.{order_wider, order_pushed}
+use Rattle.whole_text.proofs.TokenLines.{one_on_line}
 use Rattle.whole_text.proofs.LineWords.{skipped, comment_line, other_line, token_taken, words_none}
 use Rattle.whole_text.proofs.Pieces.{first_ink, within_line, piece_taken}
 use Rattle.whole_text.proofs.cutting.push_line.Goals as goal
@@ -24,6 +25,7 @@ loop-at-init c =
       ink = skip.2;
       cut = ap (λ (ws : List Word). map (word_at text) c.args.tokens.now.items ++ ws) (sym (tokens_are ∙ ap (λ (ws : List (List ℕ)). map (word c.args.line) (flat_map (pieces c.args.style) ws)) skip.0));
       in_order = λ h. order_wider 0 c.args.tokens.now.items c.args.start at h (omega arith);
+      lines = λ on before. before;
     }
 
 pub token_len-requires-clause-some : goal.token_len-requires-clause-some
@@ -51,8 +53,12 @@ loop-at-preserved c =
       high = skip.1;
       ink = skip.2;
       cut = token_taken text c.loop-at.tokens.items c.push.new.self.items tok (pieces_of_line style (slice_range text at end)) (pieces_of_line style (slice_range text next end)) cut c.in_ok-push.ensures.items ∙ c.loop-at.invariant.cut;
+      lines = λ on before. rw c.in_ok-push.ensures.items (All-append (IsOnItsLine text) c.loop-at.tokens.items (tok ∷ []) (c.loop-at.invariant.lines on before) (one_on_line text c.args.start at c.args.end tok c.loop-at.invariant.low c.loop-at.invariant.high c.requires.within on refl));
       in_order = λ h. rw c.in_ok-push.ensures.items (order_pushed 0 c.loop-at.tokens.items at tok next (c.loop-at.invariant.in_order h) (omega arith) (omega (arith, c.token_len.ensures.some)) (omega arith));
     }
+
+pub returns-then-is_comment-clause-lines : goal.returns-then-is_comment-clause-lines
+returns-then-is_comment-clause-lines c = λ on before. before
 
 pub returns-clause-cut : goal.returns-clause-cut
 returns-clause-cut c = grind (arith, nat_tests, slice_none, words_none, append-nil)
