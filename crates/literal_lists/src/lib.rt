@@ -6,6 +6,7 @@ mod literal_lists;
 mod literals;
 mod narrow_lists;
 mod sets;
+mod short_set;
 mod wide_lists;
 
 pub use literal::{Literal, LiteralList, all_hold};
@@ -13,4 +14,5 @@ pub use literal_lists::LiteralLists;
 pub use literals::Literals;
 pub use narrow_lists::{append_codes, code_of};
 pub use sets::{clashes, make_set};
+pub use short_set::ShortSet;
 pub use wide_lists::WideLists;

@@ -9,7 +9,6 @@ ghost use Rattle.rosenberg_layer.specs.Steps.{is_short};
 ghost use Rattle.rosenberg_layer.specs.Parts.{ties_of};
 ghost use Rattle.rosenberg_layer.specs.Added.{moved_of, gathered_terms};
 
-use crate::low_set::LowSet;
 use crate::pair_list::PairList;
 use crate::run::Substitutions;
 use base::NoMemory;
@@ -56,12 +55,12 @@ fn add_low<G: Gather>(terms: &mut G, table: &Table) -> Result<(), NoMemory>
 }
 
 /// Adds what the substitutions added.
-fn add_all<G: Gather>(terms: &mut G, low: &[(LowSet, i128)]) -> Result<(), NoMemory>
+fn add_all<G: Gather>(terms: &mut G, low: &[([Literal; 2], i128)]) -> Result<(), NoMemory>
     requires { HasRoomFor G.takes terms.old low.now }
     ensures { OnOk result (Fills G.takes G.holds terms.old terms.new low.now) }
 {
     for (set, coefficient) in low {
-        terms.gather(set.as_slice(), *coefficient)?;
+        terms.gather(set, *coefficient)?;
     }
     Ok(())
 }

@@ -10,15 +10,15 @@ ghost use Rattle.rosenberg_layer.specs.Waiting.{first_pair, keys_left, lists_wit
 
 use crate::buckets::Buckets;
 use crate::long_terms::LongTerms;
-use crate::low_set::LowSet;
 use crate::waiting::{TERMS, Waiting};
 use base::NoMemory;
+use literal_lists::Literal;
 
 /// Replaces the first two literals of a term that is in no list, and puts it where it belongs.
 fn replace(
     long: &mut LongTerms,
     buckets: &mut Buckets,
-    low: &mut Vec<(LowSet, i128)>,
+    low: &mut Vec<([Literal; 2], i128)>,
     term: usize,
     number: u32,
 ) -> Result<(), NoMemory>
@@ -42,7 +42,7 @@ fn replace(
     long.replace(term, number);
     if long.degree(term) == 2 {
         let (first, second) = long.pair(term);
-        low.push((LowSet::two(first, second), long.coefficient(term)))?;
+        low.push(([first, second], long.coefficient(term)))?;
         return Ok(());
     }
     buckets.put(long.first(term) as usize, term as u32);
@@ -54,7 +54,7 @@ fn replace(
 pub(crate) fn substitute(
     long: &mut LongTerms,
     waiting: &mut Waiting,
-    low: &mut Vec<(LowSet, i128)>,
+    low: &mut Vec<([Literal; 2], i128)>,
     number: usize,
 ) -> Result<u128, NoMemory>
     requires wait { Wait long.old waiting.old }

@@ -27,7 +27,6 @@ ghost use Rattle.rosenberg_layer.specs.Waiting.{Wait};
 ghost use Rattle.rosenberg_layer.specs.Added.{IsRunAfter, TurnsRun};
 
 use crate::long_terms::LongTerms;
-use crate::low_set::LowSet;
 use crate::pair_list::PairList;
 use crate::replacing::substitute;
 use crate::waiting::Waiting;
@@ -40,7 +39,7 @@ use term_table::Table;
 /// the terms that tie each node to its pair.
 #[derive(Drop)]
 pub struct Substitutions {
-    pub low: Vec<(LowSet, i128)>,
+    pub low: Vec<([Literal; 2], i128)>,
     pub pairs: PairList,
     pub weights: Vec<u128>,
 }

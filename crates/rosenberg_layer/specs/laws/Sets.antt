@@ -46,11 +46,13 @@ IsLiteralSet-from_ascend width ls up within = record {
 
 -- ---- some literals are left out, and one is put at the end
 
+-- what each element has, those that pass a test have
 pub all-filtered : {X : Type 0} (P : X → Type 0) (test : X → Bool) (xs : List X) → AllByRecursion P xs
     → AllByRecursion P (filter test xs)
 all-filtered P test [] all = tt
 all-filtered P test (x ∷ xs) all = grind (arith, nat_tests, all-filtered P test xs all.1)
 
+-- what follows from what each element has, each element has
 pub all-weaker : {X : Type 0} (P Q : X → Type 0) → ((x : X) → P x → Q x) → (xs : List X)
     → AllByRecursion P xs → AllByRecursion Q xs
 all-weaker P Q more [] all = tt

@@ -1,4 +1,4 @@
-use Rattle.rosenberg_layer.proofs.Common.{◌≡◌, ◌∷◌, ◌++◌, [], List, length, ap, ◌∙◌, arith, rules, w128, to_z-of_z, Literal, Term, node, front_term, term_at}
+use Rattle.rosenberg_layer.proofs.Common.{◌≡◌, List, length, arith, rules, w128, to_z-of_z, Term, node, front_term, term_at}
 use Rattle.rosenberg_layer.proofs.PutBack.{low_down, put_at}
 use Rattle.rosenberg_layer.proofs.replacing.replace.Goals as goal
 
@@ -12,5 +12,4 @@ returns-then-degree-eq2-clause-low c =
     let two : length v.0 ≡ 2 = omega (arith, c.degree.ensures.degree, c.if-degree-eq2.true) in
     let back = to_z-of_z w128 c.coefficient.result (search rules) in
     let more = rw back at c.in_ok-push.ensures.items in
-    low_down u v low _ c.pair.result c.coefficient.result same two c.pair.ensures c.coefficient.ensures
-    (more ∙ ap (λ (ls : List Literal). low ++ (ls, c.coefficient.result) ∷ []) c.two.ensures)
+    low_down u v low _ c.pair.result c.coefficient.result same two c.pair.ensures c.coefficient.ensures more
