@@ -3,9 +3,11 @@
 -- A form gives each list of bits a cost, which may be infinite; an energy is a cost that never is.
 -- `Keeps` is between two forms of energies, `Relaxes` between a form with infinite costs and one
 -- without.
-use Rattle.std.specs.Prelude.{◌≡◌, ◌≤◌, ℕ, ℤ, pos, ◌+ℤ◌, ◌*ℤ◌, ◌≤ℤ◌, ◌<ℤ◌, Bool, List, take}
+use Rattle.std.specs.Prelude.{◌≡◌, ◌⊎◌, ◌≤◌, ℕ, ℤ, pos, ◌+ℤ◌, ◌*ℤ◌, ◌≤ℤ◌, ◌<ℤ◌, Bool, List, take}
 use Rattle.base.specs.declared.costs.Cost.TheVariants.{Whole, Infinite}
 use Rattle.base.specs.declared.costs.Figures.{Figures}
+use Rattle.form_steps.specs.declared.scope.PenaltyScope.{PenaltyScope}
+use Rattle.form_steps.specs.declared.scope.PenaltyScope.TheVariants.{Global, Local}
 use Rattle.base.specs.Costs.{Form, IsOf, energy}
 
 -- how states of one width are decoded to assignments of another
@@ -66,6 +68,43 @@ pub record Relaxes (f g : Form) (d : Decoding) (u : ℤ) (n : Figures) : Type 0 
       → (n.scale *ℤ v +ℤ n.offset) ≤ℤ n.threshold
   -- every assignment is decoded from some state
   pub onto : (x : List Bool) → IsOf f x → (y : List Bool) × IsOf g y × (d.decoded y ≡ x)
+
+-- the cost of x is whole and stands at most at the energy e; or e is above the threshold; or some
+-- assignment has a whole cost that stands below e
+abbrev pub StandsAt : Form → Figures → List Bool → ℤ → Type 0
+StandsAt f n x e =
+    ((v : ℤ) × (f.cost x ≡ Whole v) × ((n.scale *ℤ v +ℤ n.offset) ≤ℤ e))
+    ⊎ ((n.threshold <ℤ e)
+    ⊎ ((x' : List Bool) × (v : ℤ) × IsOf f x' × (f.cost x' ≡ Whole v)
+    × ((n.scale *ℤ v +ℤ n.offset) <ℤ e)))
+
+-- g relaxes f, but of a state that decodes to an infinite cost it says less: that it lies above the
+-- threshold, or above some whole cost. So least states decode to least assignments all the same
+pub record RelaxesAtLeast (f g : Form) (d : Decoding) (u : ℤ) (n : Figures) : Type 0 where
+  pub unit : pos 1 ≤ℤ u
+  pub positive : pos 1 ≤ℤ n.scale
+  pub width : (y : List Bool) → IsOf g y → IsOf f (d.decoded y)
+  -- no state lies below the cost that it decodes to, where that is whole, unless it lies above the
+  -- threshold or above some whole cost
+  pub stands : (y : List Bool) → IsOf g y → StandsAt f n (d.decoded y) (u *ℤ energy g y)
+  -- every whole cost is reached with equality
+  pub reached : (x : List Bool) → IsOf f x → (v : ℤ) → f.cost x ≡ Whole v
+      → (y : List Bool) × ReachesIn u g d x (n.scale *ℤ v +ℤ n.offset) y
+  -- and is at most at the threshold
+  pub below : (x : List Bool) → IsOf f x → (v : ℤ) → f.cost x ≡ Whole v
+      → (n.scale *ℤ v +ℤ n.offset) ≤ℤ n.threshold
+  -- every assignment is decoded from some state
+  pub onto : (x : List Bool) → IsOf f x → (y : List Bool) × IsOf g y × (d.decoded y ≡ x)
+
+-- no state lies below the cost that it decodes to, where that is whole: the bound of *Relaxes* alone
+pub record StaysAbove (f g : Form) (d : Decoding) (u : ℤ) (n : Figures) : Type 0 where
+  pub bound : (y : List Bool) → IsOf g y → (v : ℤ) → f.cost (d.decoded y) ≡ Whole v
+      → (n.scale *ℤ v +ℤ n.offset) ≤ℤ (u *ℤ energy g y)
+
+-- how g relaxes f, where one penalty is that of the whole problem, and where parts have their own
+abbrev pub RelaxesBy : PenaltyScope → (f g : Form) → Decoding → ℤ → Figures → Type 0
+RelaxesBy Global f g d u n = Relaxes f g d u n
+RelaxesBy Local f g d u n = RelaxesAtLeast f g d u n
 
 -- h is g with its constant moved and its energies divided: u times the energy in h is that in g,
 -- and b more

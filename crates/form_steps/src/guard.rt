@@ -1,8 +1,9 @@
 //! Guards: first steps, whose sources may have infinite costs.
 ghost use Rattle.std.specs.Prelude.{◌≡◌, ◌≤◌, ◌+◌, ◌*◌, ◌^◌, ℕ, Bool, List, length, IfOk, pos, ◌≤ℤ◌, unsigned_abs};
 ghost use Rattle.base.specs.declared.costs.Figures.{Figures};
+ghost use Rattle.form_steps.specs.declared.scope.PenaltyScope.{PenaltyScope};
 ghost use Rattle.base.specs.Costs.{IsOf, IsNeverInfinite};
-ghost use Rattle.form_steps.specs.Relations.{Decoding, Relaxes, ExtendsLeast, Joins};
+ghost use Rattle.form_steps.specs.Relations.{Decoding, RelaxesBy, StaysAbove, ExtendsLeast, Joins};
 
 use base::{Costed, Figures, NoMemory};
 use std::alloc::Global;
@@ -16,7 +17,8 @@ pub struct Guarded<T, L> {
 }
 
 /// A step from a source whose costs may be infinite to a form whose costs are not: what decodes to
-/// an infinite cost lies above the threshold, and all else stands as at a layer.
+/// an infinite cost lies above the threshold or, where parts have penalties of their own, above some
+/// whole cost, and all else stands as at a layer.
 pub trait Guard {
     type Source: Costed;
 
@@ -35,6 +37,9 @@ pub trait Guard {
 
     /// A source that the guard takes.
     ghost admits: { Self.Source → Type 0 };
+
+    /// The scopes that a source's penalties allow.
+    ghost allows: { PenaltyScope → Self.Source → Type 0 };
 
     /// What the guard makes of each source.
     ghost image: { Self.Source → Self.Target };
@@ -64,7 +69,10 @@ pub trait Guard {
         ensures fits { IfOk result (λ made. fits made.link source.now) }
         ensures figures { IfOk result (λ made. made.figures ≡ figures source.now) }
 
-        ensures relaxes { IfOk result (λ made. Relaxes (Self.Source.form source.now)
+        ensures relaxes { IfOk result (λ made. (scope : PenaltyScope) → allows scope source.now
+            → RelaxesBy scope (Self.Source.form source.now) (Self.Target.form made.target)
+            (decoding made.link) (pos 1) made.figures) }
+        ensures stays { IfOk result (λ made. StaysAbove (Self.Source.form source.now)
             (Self.Target.form made.target) (decoding made.link) (pos 1) made.figures) }
 
         // What the next step's sums rest on.
@@ -107,9 +115,15 @@ pub trait Guard {
     ghost joins: { (link : Self.Link) (source : Self.Source) → fits link source
         → Joins (Self.Source.form source) (Self.Target.form (image source)) (decoding link) };
 
-    /// The image relaxes the source.
+    /// The image relaxes the source, in each scope that the source's penalties allow.
     ghost relaxes: { (link : Self.Link) (source : Self.Source) → fits link source
-        → Relaxes (Self.Source.form source) (Self.Target.form (image source)) (decoding link)
+        → (scope : PenaltyScope) → allows scope source
+        → RelaxesBy scope (Self.Source.form source) (Self.Target.form (image source))
+        (decoding link) (pos 1) (figures source) };
+
+    /// No state of the image lies below the whole cost that it decodes to.
+    ghost stays: { (link : Self.Link) (source : Self.Source) → fits link source
+        → StaysAbove (Self.Source.form source) (Self.Target.form (image source)) (decoding link)
         (pos 1) (figures source) };
 
     /// An image's costs are whole.

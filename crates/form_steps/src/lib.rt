@@ -5,9 +5,11 @@
 mod guard;
 mod laws;
 mod layer;
+mod scope;
 mod then;
 
 pub use guard::{Guard, Guarded};
-pub use laws::{relations_compose, rewriting_relaxes};
+pub use laws::{bounds_compose, relations_compose, rewriting_relaxes};
 pub use layer::{BitsLink, Layer, Lowered, Reduced};
+pub use scope::PenaltyScope;
 pub use then::{Then, ThenLink};

@@ -161,7 +161,8 @@ impl<A: Guard, B: Layer<Source = A::Target>> Guard for Then<A, B> {
     type Link = ThenLink<A::Link, A::Target, B::Link>;
 
     ghost use Rattle.std.specs.Prelude.{◌≡◌, ◌+◌, ◌*◌, ◌^◌, ◌≤◌};
-    ghost use Rattle.form_steps.specs.laws.Composed.{keeps_after_relaxes, joins_both, widths_meet};
+    ghost use Rattle.form_steps.specs.laws.Composed.{joins_both, widths_meet};
+    ghost use Rattle.form_steps.specs.laws.AtLeast.{keeps_after_by, keeps_stays_above};
     ghost use Rattle.form_steps.specs.Relations.{decoding_after};
     ghost use Rattle.base.specs.Figures.{figures_after};
     ghost use Rattle.std.proofs.Common.{subst};
@@ -177,6 +178,8 @@ impl<A: Guard, B: Layer<Source = A::Target>> Guard for Then<A, B> {
         × (A.TOTAL_BITS + B.TOTAL_GROWTH ≤ 124)
         × (A.SIZE_BITS + B.SIZE_GROWTH ≤ 32)
         × (2 ^ B.TOTAL_GROWTH * A.FIGURE_BOUND + 2 ^ A.TOTAL_BITS * B.OFFSET_FACTOR ≤ 2 ^ 125) };
+
+    ghost allows = { A.allows };
 
     ghost image = { λ s. B.image (A.image s) };
 
@@ -203,8 +206,12 @@ impl<A: Guard, B: Layer<Source = A::Target>> Guard for Then<A, B> {
         joins_both (A.joins l.first s f.0)
         (B.joins l.second (A.image s) (subst (λ m. B.fits l.second m) f.1 f.2)) };
 
-    ghost relaxes = { λ l s f.
-        keeps_after_relaxes (A.relaxes l.first s f.0)
+    ghost relaxes = { λ l s f scope allowed.
+        keeps_after_by scope _ _ _ _ _ _ _ _ (A.relaxes l.first s f.0 scope allowed)
+        (B.keeps l.second (A.image s) (subst (λ m. B.fits l.second m) f.1 f.2)) };
+
+    ghost stays = { λ l s f.
+        keeps_stays_above (A.stays l.first s f.0)
         (B.keeps l.second (A.image s) (subst (λ m. B.fits l.second m) f.1 f.2)) };
 
     ghost whole = { λ s. B.whole (A.image s) };

@@ -1,5 +1,5 @@
 -- What the guard makes of a problem that it admits.
-use Rattle.normal_form.proofs.Common.{nat_tests, ◌≡◌, ◌+◌, ◌≤◌, ◌^◌, pos, ap, arith, All, All-from_recursion, recursion_from_All, Figures, BitsLink, first_bits, Relaxes, ProblemContent, Term, terms_total, KeptTable, kept_at_once, table_size, complements, contributions, terms_total-with_additions, All-with_additions, contributions-grow, expanded, image, Admits, multilinear_relaxes}
+use Rattle.normal_form.proofs.Common.{nat_tests, ◌≡◌, ◌+◌, ◌≤◌, ◌^◌, pos, ap, arith, All, All-from_recursion, recursion_from_All, Figures, BitsLink, first_bits, PenaltyScope, RelaxesBy, StaysAbove, subst, sym, ProblemContent, Term, terms_total, KeptTable, kept_at_once, table_size, complements, contributions, terms_total-with_additions, All-with_additions, contributions-grow, expanded, image, Admits, multilinear_relaxes, multilinear_stays}
 use Rattle.problem_form.specs.Problems as problems
 use Rattle.term_table.specs.Tables as tables
 use Rattle.penalty_layer.specs.Penalty as penalty
@@ -28,9 +28,20 @@ total-expanded t made few small same =
 -- what is equal to the image relaxes the problem, with figures that are equal to the guard's
 pub relaxes-made : (link : BitsLink) (p : ProblemContent) (made : KeptTable) (n : Figures)
     → penalty.Fits link p → made ≡ kept_at_once (image p) → n ≡ penalty.figures p
-    → Relaxes (problems.form_of p) (tables.form_of made.content) (first_bits link) (pos 1) n
-relaxes-made link p made n fits same figures =
-    grind (arith, nat_tests, multilinear_relaxes link p fits)
+    → (scope : PenaltyScope) → penalty.Allows scope p
+    → RelaxesBy scope (problems.form_of p) (tables.form_of made.content) (first_bits link) (pos 1) n
+relaxes-made link p made n fits same figures scope allowed =
+    let Relaxed : KeptTable → Figures → Type 0 =
+    λ t m. RelaxesBy scope (problems.form_of p) (tables.form_of t.content) (first_bits link) (pos 1) m in
+    subst (λ t. Relaxed t n) (sym same)
+    (subst (λ m. Relaxed (kept_at_once (image p)) m) (sym figures) (multilinear_relaxes link p fits scope allowed))
+
+-- and no state of it lies below the whole cost that it decodes to
+pub stays-made : (link : BitsLink) (p : ProblemContent) (made : KeptTable) (n : Figures)
+    → penalty.Fits link p → made ≡ kept_at_once (image p) → n ≡ penalty.figures p
+    → StaysAbove (problems.form_of p) (tables.form_of made.content) (first_bits link) (pos 1) n
+stays-made link p made n fits same figures =
+    grind (arith, nat_tests, multilinear_stays link p fits)
 
 pub size-made : (p : ProblemContent) (made : KeptTable) → Admits p
     → made ≡ kept_at_once (image p) → table_size made.content ≤ 2 ^ 26

@@ -2,7 +2,7 @@
 --
 -- A union has no more than both sets together, so the square of a constraint has at most twice as
 -- many as its products.
-use Rattle.normal_form.proofs.Common.{nat_tests, ◌≡◌, ℕ, suc, ◌+◌, ◌*◌, ◌≤◌, not, cond, pos, List, [], ◌∷◌, ◌++◌, map, fold, max, count_by, refl, sym, subst, arith, AllByRecursion, append-nil, sum_by-cons, sum_by-append, Literal, Product, Clause, Constraint, with_literal, literal_set, ProblemContent, clause_complements, most_complements, negations, penalty, slack_range, slack_bits, Term, union, scaled, product_terms, products_with, complements, AreFew, complements-cons, opposite, clause_term, slack_weights, product_term, square_terms, node, slack_terms, slack_form, constraint_terms, AtMost, most_of, of_map, raised}
+use Rattle.normal_form.proofs.Common.{nat_tests, ◌≡◌, ℕ, suc, ◌+◌, ◌*◌, ◌≤◌, not, cond, pos, List, [], ◌∷◌, ◌++◌, map, fold, max, count_by, refl, sym, subst, arith, AllByRecursion, append-nil, sum_by-cons, sum_by-append, Literal, Product, Clause, Constraint, with_literal, literal_set, ProblemContent, clause_complements, most_complements, negations, penalty, slack_range, slack_bits, Term, union, scaled, product_terms, products_with, complements, AreFew, complements-cons, opposite, own, rest, clause_terms, slack_weights, product_term, square_terms, node, slack_terms, slack_form, constraint_terms, AtMost, most_of, of_map, raised}
 use Rattle.problem_form.specs.declared.limits.Normal.TheVariants as normals
 use Rattle.problem_form.specs.Limits as limits
 use Rattle.penalty_layer.specs.Penalty.{plain_terms, contributions}
@@ -47,11 +47,11 @@ few-products : (most : ℕ) (ts : List Product) → AtMost limits.complements mo
 few-products most [] h = tt
 few-products most (t ∷ ts) h = (h.0, few-products most ts h.1)
 
-few-clauses : (most n : ℕ) (cs : List Clause) → AtMost clause_complements most cs
-    → AreFew most (map (clause_term n) cs)
-few-clauses most n [] h = tt
-few-clauses most n (c ∷ cs) h =
-    (omega (arith, h.0, complements-opposites c.literals), few-clauses most n cs h.1)
+few-clauses : (most n : ℕ) (ns : List ℕ) (cs : List Clause) → AtMost clause_complements most cs
+    → AreFew most (clause_terms n ns cs)
+few-clauses most n ns [] h = tt
+few-clauses most n ns (c ∷ cs) h =
+    (omega (arith, h.0, complements-opposites c.literals), few-clauses most n (rest ns) cs h.1)
 
 few-slack : (most first : ℕ) (ws : List ℕ) → AreFew most (slack_terms first ws)
 few-slack most first [] = tt
@@ -95,13 +95,14 @@ few-slack_form first k =
     (few-products _ k.products (at_most_all limits.complements k.products _ (omega arith)))
     (omega arith, few-slack _ first (slack_weights (slack_range k)))
 
-few-constraints : (most n first : ℕ) (ks : List Constraint)
-    → AtMost (λ k. 2 * most_complements k) most ks → AreFew most (constraint_terms n first ks)
-few-constraints most n first [] h = tt
-few-constraints most n first (k ∷ ks) h =
-    few-append most (square_terms n (slack_form first k)) (constraint_terms n (first + slack_bits k) ks)
-    (few-square (most_complements k) most n (slack_form first k) h.0 (few-slack_form first k))
-    (few-constraints most n (first + slack_bits k) ks h.1)
+few-constraints : (most n : ℕ) (ns : List ℕ) (first : ℕ) (ks : List Constraint)
+    → AtMost (λ k. 2 * most_complements k) most ks → AreFew most (constraint_terms n ns first ks)
+few-constraints most n ns first [] h = tt
+few-constraints most n ns first (k ∷ ks) h =
+    few-append most (square_terms (own n ns) (slack_form first k))
+    (constraint_terms n (rest ns) (first + slack_bits k) ks)
+    (few-square (most_complements k) most (own n ns) (slack_form first k) h.0 (few-slack_form first k))
+    (few-constraints most n (rest ns) (first + slack_bits k) ks h.1)
 
 -- ---- the whole
 
@@ -116,12 +117,12 @@ few-contributions p h =
     let all = (most_of 0 sums).1 in
     let products = of_map limits.complements (fold max 0 sums) p.objective (map clause_complements p.clauses) all in
     let clauses = of_map clause_complements (fold max 0 sums) p.clauses [] (subst (AllByRecursion (λ n. n ≤ fold max 0 sums)) (sym (append-nil (map clause_complements p.clauses))) products.1) in
-    few-append 8 (plain_terms p) (constraint_terms (penalty p) p.variables p.constraints) (
+    few-append 8 (plain_terms p) (constraint_terms (penalty p) p.penalties.constraints p.variables p.constraints) (
       omega arith,
-      few-append 8 (map product_term p.objective) (map (clause_term (penalty p)) p.clauses)
+      few-append 8 (map product_term p.objective) (clause_terms (penalty p) p.penalties.clauses p.clauses)
           (few-products 8 p.objective (raised _ _ _ p.objective (omega (arith, h)) products.0))
-          (few-clauses 8 (penalty p) p.clauses (raised _ _ _ p.clauses (omega (arith, h)) clauses.0)),
-    ) (few-constraints 8 (penalty p) p.variables p.constraints (raised _ _ _ p.constraints (omega (arith, h))
+          (few-clauses 8 (penalty p) p.penalties.clauses p.clauses (raised _ _ _ p.clauses (omega (arith, h)) clauses.0)),
+    ) (few-constraints 8 (penalty p) p.penalties.constraints p.variables p.constraints (raised _ _ _ p.constraints (omega (arith, h))
     (twice_most square p.constraints (at_most_all most_complements p.constraints square (omega arith)))))
   where
     sums : List ℕ

@@ -3,7 +3,7 @@
 -- A set with k complements is multiplied out to 2^k sets of no more literals. The counted pairs have
 -- the same factor: 2^k for a product or a clause, and for a constraint, whose products of two have
 -- twice the complements, its square.
-use Rattle.normal_form.proofs.Common.{nat_tests, ◌≡◌, ℕ, ◌+◌, ◌*◌, ◌^◌, ◌≤◌, List, [], ◌∷◌, ◌++◌, length, map, ap, arith, None, sum_by, mul-le-mul_left, mul-le-mul_right, pow_mono, sum_by-cons, sum_by-append, one_le_pow, Literal, Product, Clause, Constraint, ProblemContent, penalty, product_pairs, clause_pairs, constraint_pairs, most_complements, slack_bits, limit_fault, Term, table_size, complements, sets_sum, sets_sum-cons, sets_sum-with_additions, Ascends-with_additions, AreFew, sets_sum-contributions, terms_size-once, opposite, clause_term, product_term, square_terms, slack_form, constraint_terms, opposites_length, square, square-mono, constraint-size, image}
+use Rattle.normal_form.proofs.Common.{nat_tests, ◌≡◌, ℕ, ◌+◌, ◌*◌, ◌^◌, ◌≤◌, List, [], ◌∷◌, ◌++◌, length, map, ap, arith, None, sum_by, mul-le-mul_left, mul-le-mul_right, pow_mono, sum_by-cons, sum_by-append, one_le_pow, Literal, Product, Clause, Constraint, ProblemContent, penalty, product_pairs, clause_pairs, constraint_pairs, most_complements, slack_bits, limit_fault, Term, table_size, complements, sets_sum, sets_sum-cons, sets_sum-with_additions, Ascends-with_additions, AreFew, sets_sum-contributions, terms_size-once, opposite, own, rest, clause_term, clause_terms, product_term, square_terms, slack_form, constraint_terms, opposites_length, square, square-mono, constraint-size, image}
 use Rattle.problem_form.specs.declared.limits.Normal.TheVariants as normals
 use Rattle.term_table.specs.MultipliedOut as multiplied
 use Rattle.penalty_layer.specs.Penalty.{plain_terms, contributions}
@@ -34,14 +34,14 @@ products-grown : (ts : List Product)
 products-grown [] = omega arith
 products-grown (t ∷ ts) = omega (arith, products-grown ts, sets_sum-cons, sum_by-cons)
 
-clauses-grown : (n : ℕ) (cs : List Clause)
-    → sets_sum grown (map (clause_term n) cs) ≡ sum_by (clause_pairs normals.Multilinear) cs
-clauses-grown n [] = omega arith
-clauses-grown n (c ∷ cs) =
+clauses-grown : (n : ℕ) (ns : List ℕ) (cs : List Clause)
+    → sets_sum grown (clause_terms n ns cs) ≡ sum_by (clause_pairs normals.Multilinear) cs
+clauses-grown n ns [] = omega arith
+clauses-grown n ns (c ∷ cs) =
     let same = ap (λ m. 2 ^ complements (map opposite c.literals) * m ^ 2) (opposites_length c.literals) in
     let more = ap (λ m. 2 ^ m * length c.literals ^ 2) (complements-opposites c.literals) in
-    let sets = sets_sum-cons grown (clause_term n c) (map (clause_term n) cs) in
-    omega (arith, clauses-grown n cs, sum_by-cons (clause_pairs normals.Multilinear) c cs)
+    let sets = sets_sum-cons grown (clause_term (own n ns) c) (clause_terms n (rest ns) cs) in
+    omega (arith, clauses-grown n (rest ns) cs, sum_by-cons (clause_pairs normals.Multilinear) c cs)
 
 -- ---- constraints
 
@@ -56,13 +56,13 @@ constraint-grown n first k =
     let right = mul-le-mul_right (slack_bits k) (one_le_pow (2 * m)) in
     omega (arith, most, left, right, constraint_pairs-scaled k)
 
-constraints-grown : (n first : ℕ) (ks : List Constraint)
-    → sets_sum grown (constraint_terms n first ks) + sum_by slack_bits ks
+constraints-grown : (n : ℕ) (ns : List ℕ) (first : ℕ) (ks : List Constraint)
+    → sets_sum grown (constraint_terms n ns first ks) + sum_by slack_bits ks
     ≤ 2 * sum_by (constraint_pairs normals.Multilinear) ks
-constraints-grown n first [] = omega arith
-constraints-grown n first (k ∷ ks) =
-    let rest = constraints-grown n (first + slack_bits k) ks in
-    omega (arith, grown-append, constraint-grown n first k, rest, sum_by-cons)
+constraints-grown n ns first [] = omega arith
+constraints-grown n ns first (k ∷ ks) =
+    let others = constraints-grown n (rest ns) (first + slack_bits k) ks in
+    omega (arith, grown-append, constraint-grown (own n ns) first k, others, sum_by-cons)
 
 -- ---- the whole
 
@@ -81,6 +81,6 @@ size_within p none =
     let grows = sets_sum-contributions (λ n. n ^ 2) square-mono first in
     let all = sets_sum-with_additions grown (contributions p) in
     let both =
-    grown-append (plain_terms p) (constraint_terms (penalty p) p.variables p.constraints) in
-    let rest = constraints-grown (penalty p) p.variables p.constraints in
-    omega (arith, limits.variables, limits.pairs, once, sums, grows, all, both, plain-grown p, rest)
+    grown-append (plain_terms p) (constraint_terms (penalty p) p.penalties.constraints p.variables p.constraints) in
+    let squared = constraints-grown (penalty p) p.penalties.constraints p.variables p.constraints in
+    omega (arith, limits.variables, limits.pairs, once, sums, grows, all, both, plain-grown p, squared)

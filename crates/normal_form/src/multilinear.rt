@@ -4,12 +4,13 @@
 ghost use Rattle.std.specs.Prelude.{◌^◌};
 ghost use Rattle.form_steps.specs.Links.{first_bits, HasFirstBits};
 ghost use Rattle.term_table.specs.Tables.{kept_at_once};
-ghost use Rattle.penalty_layer.specs.Penalty.{extension, figures, Fits};
+ghost use Rattle.penalty_layer.specs.Penalty.{extension, figures, Allows, Fits};
 ghost use Rattle.penalty_layer.specs.laws.Relaxing.{penalty_sound};
 ghost use Rattle.normal_form.specs.Multilinear.{image, Admits};
 ghost use Rattle.normal_form.specs.laws.Relaxing.{
   multilinear_joins,
   multilinear_relaxes,
+  multilinear_stays,
   multilinear_whole,
 };
 
@@ -41,6 +42,8 @@ impl Guard for MultilinearForm {
 
     ghost admits = { Admits };
 
+    ghost allows = { Allows };
+
     ghost image = { λ problem. kept_at_once (image problem) };
 
     ghost figures = { figures };
@@ -58,6 +61,8 @@ impl Guard for MultilinearForm {
     ghost joins = { multilinear_joins };
 
     ghost relaxes = { multilinear_relaxes };
+
+    ghost stays = { multilinear_stays };
 
     ghost whole = { multilinear_whole };
 

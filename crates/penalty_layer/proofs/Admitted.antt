@@ -1,5 +1,5 @@
 -- What the guard makes of a problem that it admits.
-use Rattle.penalty_layer.proofs.Common.{nat_tests, ints, ◌≡◌, ◌+◌, ◌≤◌, ◌^◌, pos, unsigned_abs, ℤ, [], subst, sym, ap, arith, None, BitsLink, Relaxes, first_bits, ProblemContent, upper, limit_fault, terms_total, with_additions, TableContent, KeptTable, kept_at_once, table_size, Ascends-with_additions, Admits, contributions, node_count, image, Fits, penalty_relaxes}
+use Rattle.penalty_layer.proofs.Common.{nat_tests, ints, ◌≡◌, ◌+◌, ◌≤◌, ◌^◌, pos, unsigned_abs, ℤ, [], subst, sym, ap, arith, None, BitsLink, PenaltyScope, RelaxesBy, StaysAbove, first_bits, ProblemContent, upper, limit_fault, terms_total, with_additions, TableContent, KeptTable, kept_at_once, table_size, Ascends-with_additions, Admits, contributions, node_count, image, Fits, Allows, penalty_relaxes, penalty_stays}
 use Rattle.problem_form.specs.declared.limits.Normal.TheVariants as normals
 use Rattle.problem_form.specs.Problems as problems
 use Rattle.term_table.specs.Tables as tables
@@ -33,11 +33,23 @@ pub nodes_within : (p : ProblemContent) → Admits p → node_count p ≤ 2 ^ 26
 nodes_within p admitted = omega (arith, image_size p admitted)
 
 pub made_relaxes : (link : BitsLink) (p : ProblemContent) (third : KeptTable) (threshold : ℤ)
-    → Fits link p → third ≡ kept_at_once (image p) → threshold ≡ upper p
-    → Relaxes (problems.form_of p) (tables.form_of third.content) (first_bits link) (pos 1)
+    → Fits link p → third ≡ kept_at_once (image p) → threshold ≡ upper p → (scope : PenaltyScope)
+    → Allows scope p
+    → RelaxesBy scope (problems.form_of p) (tables.form_of third.content) (first_bits link) (pos 1)
     (record { scale = pos 1; offset = pos 0; threshold = threshold })
-made_relaxes link p third threshold fit made high =
-    grind (arith, nat_tests, ints, penalty_relaxes link p fit)
+made_relaxes link p third threshold fit made high scope allowed =
+    let Relaxed : KeptTable → ℤ → Type 0 =
+    λ t u. RelaxesBy scope (problems.form_of p) (tables.form_of t.content) (first_bits link) (pos 1)
+    (record { scale = pos 1; offset = pos 0; threshold = u }) in
+    subst (λ t. Relaxed t threshold) (sym made)
+    (subst (λ u. Relaxed (kept_at_once (image p)) u) (sym high) (penalty_relaxes link p fit scope allowed))
+
+pub made_stays : (link : BitsLink) (p : ProblemContent) (third : KeptTable) (threshold : ℤ)
+    → Fits link p → third ≡ kept_at_once (image p) → threshold ≡ upper p
+    → StaysAbove (problems.form_of p) (tables.form_of third.content) (first_bits link) (pos 1)
+    (record { scale = pos 1; offset = pos 0; threshold = threshold })
+made_stays link p third threshold fit made high =
+    grind (arith, nat_tests, ints, penalty_stays link p fit)
 
 pub threshold_within : (p : ProblemContent) (threshold : ℤ) → Admits p → threshold ≡ upper p
     → unsigned_abs threshold ≤ 2 ^ 64

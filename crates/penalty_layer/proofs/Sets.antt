@@ -1,5 +1,5 @@
 -- The sets of all that a problem contributes are sets of its image's width.
-use Rattle.penalty_layer.proofs.Common.{nat_tests, ℕ, suc, ◌+◌, ◌*◌, ◌≤◌, List, [], ◌∷◌, ◌++◌, length, map, get_or, pos, neg_ℤ, ◌*ℤ◌, All, arith, AllByRecursion, flat_map, sum_by, All-from_recursion, recursion_from_All, All-cons, All-append, All-map, All-nil, sum_by-cons, Literal, IsLiteralSet, Product, Constraint, ProblemContent, penalty, degree, degrees, slack_range, slack_bits, Term, IsTermSet, scaled, products_with, IsFactor, OfSet, IsTermSet-none, IsTermSet-one, IsTermSet-wider, AreFactors, factor_set, products_with-sets, IsSet, opposite, clause_term, plain_terms, contributions, node_count, Admits, slack_weights, product_term, square_terms, node, slack_terms, slack_form, constraint_terms, length-slack_weights}
+use Rattle.penalty_layer.proofs.Common.{nat_tests, ℕ, suc, ◌+◌, ◌*◌, ◌≤◌, List, [], ◌∷◌, ◌++◌, length, map, get_or, pos, neg_ℤ, ◌*ℤ◌, All, arith, AllByRecursion, flat_map, sum_by, All-from_recursion, recursion_from_All, All-cons, All-append, All-map, All-nil, sum_by-cons, Literal, IsLiteralSet, Product, Constraint, ProblemContent, penalty, degree, degrees, slack_range, slack_bits, Term, IsTermSet, scaled, products_with, IsFactor, OfSet, IsTermSet-none, IsTermSet-one, IsTermSet-wider, AreFactors, factor_set, products_with-sets, IsSet, opposite, Clause, own, rest, clause_term, clause_terms, plain_terms, contributions, node_count, Admits, slack_weights, product_term, square_terms, node, slack_terms, slack_form, constraint_terms, length-slack_weights}
 use Rattle.penalty_layer.proofs.Bounds.{of_map, within_limits, degrees_within, most_of}
 use Rattle.penalty_layer.proofs.OppositeSets.{opposites_set, opposites_length}
 
@@ -113,35 +113,44 @@ square_terms-sets width n (t ∷ ts) h =
     (All-append P off (square_terms n ts) (products_with-sets width (scaled (pos (2 * n)) t) ts h.0 h.1)
     (square_terms-sets width n ts h.1))
 
-constraint_terms-sets : (width n first : ℕ) (ks : List Constraint)
+constraint_terms-sets : (width n : ℕ) (ns : List ℕ) (first : ℕ) (ks : List Constraint)
     → AllByRecursion (λ (k : Constraint). All (λ (t : Product). IsFactor width t.literals) k.products) ks
     → first + sum_by slack_bits ks ≤ width
-    → All (OfSet (IsTermSet width)) (constraint_terms n first ks)
-constraint_terms-sets width n first [] h within = All-nil (OfSet (IsTermSet width))
-constraint_terms-sets width n first (k ∷ ks) h within =
+    → All (OfSet (IsTermSet width)) (constraint_terms n ns first ks)
+constraint_terms-sets width n ns first [] h within = All-nil (OfSet (IsTermSet width))
+constraint_terms-sets width n ns first (k ∷ ks) h within =
     let more = sum_by-cons slack_bits k ks in
     let factors = slack_form-factors width first k h.0 (omega (arith, within, more)) in
-    All-append (OfSet (IsTermSet width)) (square_terms n (slack_form first k))
-    (constraint_terms n (first + slack_bits k) ks) (square_terms-sets width n (slack_form first k)
+    All-append (OfSet (IsTermSet width)) (square_terms (own n ns) (slack_form first k))
+    (constraint_terms n (rest ns) (first + slack_bits k) ks) (square_terms-sets width (own n ns) (slack_form first k)
     (recursion_from_All (λ (t : Term). IsFactor width t.0) (slack_form first k) factors))
-    (constraint_terms-sets width n (first + slack_bits k) ks h.1 (omega (arith, within, more)))
+    (constraint_terms-sets width n (rest ns) (first + slack_bits k) ks h.1 (omega (arith, within, more)))
 
 -- ---- the whole
+
+clause_terms-sets : (width n : ℕ) (ns : List ℕ) (cs : List Clause)
+    → AllByRecursion (λ (c : Clause). IsTermSet width (map opposite c.literals)) cs
+    → All (OfSet (IsTermSet width)) (clause_terms n ns cs)
+clause_terms-sets width n ns [] h = All-nil (OfSet (IsTermSet width))
+clause_terms-sets width n ns (c ∷ cs) h =
+    All-cons (OfSet (IsTermSet width)) (clause_term (own n ns) c) (clause_terms n (rest ns) cs) h.0
+    (clause_terms-sets width n (rest ns) cs h.1)
 
 plain_sets : (p : ProblemContent) → Admits p → All (OfSet (IsTermSet (node_count p))) (plain_terms p)
 plain_sets p admitted =
     let P = OfSet (IsTermSet (node_count p)) in
     let wide : p.variables ≤ node_count p = omega arith in
     All-cons P ([], p.constant) _ (IsTermSet-none (node_count p))
-    (All-append P (map product_term p.objective) (map (clause_term (penalty p)) p.clauses)
+    (All-append P (map product_term p.objective) (clause_terms (penalty p) p.penalties.clauses p.clauses)
     (All-map P product_term p.objective (product_sets p (node_count p) admitted wide))
-    (All-map P (clause_term (penalty p)) p.clauses (clause_sets p (node_count p) admitted wide)))
+    (clause_terms-sets (node_count p) (penalty p) p.penalties.clauses p.clauses
+    (recursion_from_All _ p.clauses (clause_sets p (node_count p) admitted wide))))
 
 pub contribution_sets : (p : ProblemContent) → Admits p
     → All (OfSet (IsTermSet (node_count p))) (contributions p)
 contribution_sets p admitted =
     let wide : p.variables ≤ node_count p = omega arith in
     All-append (OfSet (IsTermSet (node_count p))) (plain_terms p)
-    (constraint_terms (penalty p) p.variables p.constraints) (plain_sets p admitted)
-    (constraint_terms-sets (node_count p) (penalty p) p.variables p.constraints
+    (constraint_terms (penalty p) p.penalties.constraints p.variables p.constraints) (plain_sets p admitted)
+    (constraint_terms-sets (node_count p) (penalty p) p.penalties.constraints p.variables p.constraints
     (recursion_from_All _ p.constraints (constraint_sets p (node_count p) admitted wide)) (omega arith))

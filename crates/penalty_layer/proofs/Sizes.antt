@@ -3,7 +3,7 @@
 -- A union of two sets of at most d literals has at most 2d, so a square of m terms gives at most
 -- 2m² - m times d² in squares of degrees: each pair counts once, and its union's square is at most
 -- 4d². What is spared pays for the slack bits.
-use Rattle.penalty_layer.proofs.Common.{◌≡◌, ℕ, suc, ◌+◌, ◌*◌, ◌^◌, ◌≤◌, Bool, List, [], ◌∷◌, ◌++◌, length, map, pos, ◌*ℤ◌, ap, ◌∙◌, refl, arith, None, if◌then◌else◌, sum_by, AllByRecursion, nat_tests, length-append, length-map, sum_by-cons, sum_by-append, mul-le, Literal, Product, Clause, Constraint, ProblemContent, penalty, product_pairs, clause_pairs, constraint_pairs, constraint_degree, summands, slack_range, slack_bits, limit_fault, Term, Ascends, table_size, union, scaled, product_terms, products_with, sets_sum, sets_sum-cons, sets_sum-with_additions, terms_size-once, length-union, clause_term, plain_terms, contributions, image, slack_weights, product_term, square_terms, slack_terms, slack_form, constraint_terms, length-slack_weights}
+use Rattle.penalty_layer.proofs.Common.{◌≡◌, ℕ, suc, ◌+◌, ◌*◌, ◌^◌, ◌≤◌, Bool, List, [], ◌∷◌, ◌++◌, length, map, pos, ◌*ℤ◌, ap, ◌∙◌, refl, arith, None, if◌then◌else◌, sum_by, AllByRecursion, nat_tests, length-append, length-map, sum_by-cons, sum_by-append, mul-le, Literal, Product, Clause, Constraint, ProblemContent, penalty, product_pairs, clause_pairs, constraint_pairs, constraint_degree, summands, slack_range, slack_bits, limit_fault, Term, Ascends, table_size, union, scaled, product_terms, products_with, sets_sum, sets_sum-cons, sets_sum-with_additions, terms_size-once, length-union, own, rest, clause_terms, plain_terms, contributions, image, slack_weights, product_term, square_terms, slack_terms, slack_form, constraint_terms, length-slack_weights}
 use Rattle.problem_form.specs.declared.limits.Normal.TheVariants as normals
 use Rattle.penalty_layer.proofs.Bounds.{raised, within_limits, most_of}
 use Rattle.penalty_layer.proofs.OppositeSets.{opposites_length}
@@ -112,13 +112,13 @@ constraint-size n first k =
     omega (arith, ap (λ x. x * d ^ 2) e, ap (λ x. 2 * (x * x) * d ^ 2) e, ap (λ x. x * d ^ 2) (square_is m)) in
     grind (arith, nat_tests, low, high)
 
-constraint_terms-size : (n first : ℕ) (ks : List Constraint)
-    → sets_sum square (constraint_terms n first ks) + sum_by slack_bits ks
+constraint_terms-size : (n : ℕ) (ns : List ℕ) (first : ℕ) (ks : List Constraint)
+    → sets_sum square (constraint_terms n ns first ks) + sum_by slack_bits ks
     ≤ 2 * sum_by (constraint_pairs normals.Literal) ks
-constraint_terms-size n first [] = omega arith
-constraint_terms-size n first (k ∷ ks) =
-    let rest = constraint_terms-size n (first + slack_bits k) ks in
-    omega (arith, sets_sum-append, constraint-size n first k, sum_by-cons)
+constraint_terms-size n ns first [] = omega arith
+constraint_terms-size n ns first (k ∷ ks) =
+    let others = constraint_terms-size n (rest ns) (first + slack_bits k) ks in
+    omega (arith, sets_sum-append, constraint-size (own n ns) first k, sum_by-cons)
 
 -- ---- the whole
 
@@ -127,11 +127,11 @@ products_squares : (ts : List Product)
 products_squares [] = omega arith
 products_squares (t ∷ ts) = omega (arith, products_squares ts, sets_sum-cons, sum_by-cons)
 
-clauses_squares : (n : ℕ) (cs : List Clause)
-    → sets_sum square (map (clause_term n) cs) ≡ sum_by (clause_pairs normals.Literal) cs
-clauses_squares n [] = omega arith
-clauses_squares n (c ∷ cs) =
-    let rest0 = clauses_squares n cs in simp sum_by-cons (grind (arith, nat_tests, opposites_length, sets_sum-cons))
+clauses_squares : (n : ℕ) (ns : List ℕ) (cs : List Clause)
+    → sets_sum square (clause_terms n ns cs) ≡ sum_by (clause_pairs normals.Literal) cs
+clauses_squares n ns [] = omega arith
+clauses_squares n ns (c ∷ cs) =
+    let others = clauses_squares n (rest ns) cs in simp sum_by-cons (grind (arith, nat_tests, opposites_length, sets_sum-cons))
 
 plain-squares : (p : ProblemContent) → sets_sum square (plain_terms p)
     ≡ sum_by (product_pairs normals.Literal) p.objective + sum_by (clause_pairs normals.Literal) p.clauses
@@ -150,5 +150,5 @@ pub size_within : (p : ProblemContent) → limit_fault normals.Literal p ≡ Non
 size_within p none ascends =
     let within = within_limits p none in
     let once = terms_size-once (image p).terms ascends in
-    let constraints = constraint_terms-size (penalty p) p.variables p.constraints in
+    let constraints = constraint_terms-size (penalty p) p.penalties.constraints p.variables p.constraints in
     omega (arith, sets_sum-with_additions square (contributions p), sets_sum-append, plain-squares p)

@@ -1,5 +1,5 @@
 -- Steps of the loops over the parts of a square.
-use Rattle.penalty_layer.proofs.Common.{nat_tests, ◌≡◌, ℕ, ◌+◌, ◌*◌, ◌^◌, ◌≤◌, unsigned_abs, ℤ, pos, ◌*ℤ◌, List, [], ◌∷◌, ◌++◌, append-nil, drop, All, Some, ap, ◌∙◌, arith, slice_get, unsigned_abs-mul, slice_get_within, get_or_from_slice_get, mul-le, Literal, literal_set, literal_set-ascending, drop-at, Term, terms_total, scaled, union_terms, product_terms, products_with, terms_total-cons, union_apart, IsSet, square_terms}
+use Rattle.penalty_layer.proofs.Common.{nat_tests, ◌≡◌, ℕ, ◌+◌, ◌*◌, ◌^◌, ◌≤◌, unsigned_abs, ℤ, pos, ◌*ℤ◌, List, [], ◌∷◌, ◌++◌, append-nil, drop, All, Some, ap, ◌∙◌, arith, slice_get, unsigned_abs-mul, slice_get_within, get_or_from_slice_get, mul-le, Literal, literal_set, literal_set-ascending, drop-at, Term, terms_total, scaled, union_terms, product_terms, products_with, terms_total-cons, IsSet, union, has_clash, false, ints, Option, None, if◌then◌else◌, square_terms}
 use Rattle.penalty_layer.proofs.Sums.{square_is}
 
 -- the part at a place has a set as all have
@@ -12,7 +12,24 @@ total_left : (us : List Term) (i : ℕ) (u : Term) → slice_get us i ≡ Some u
     → terms_total (drop i us) ≡ unsigned_abs u.1 + terms_total (drop (i + 1) us)
 total_left us i u at = ap terms_total (drop-at us i u at) ∙ terms_total-cons u (drop (i + 1) us)
 
--- ---- unions with the empty set
+-- ---- unions
+
+-- where the union has no clash, its term is what is added
+pub union_apart : (ls ks us : List Literal) (c : ℤ) → union ls ks ≡ us → has_clash us ≡ false
+    → union_terms ls ks c ≡ (us, c) ∷ []
+union_apart ls ks us c same apart = grind (arith, nat_tests, ints)
+
+-- the set of two literals; none where they are opposite
+abbrev short_set : Literal → Literal → Option (List Literal)
+short_set l k = if has_clash (l ∷ k ∷ []) then None else Some (literal_set (l ∷ k ∷ []))
+
+pub union_two : (l k : Literal) (set : List Literal) (c : ℤ) → Some set ≡ short_set l k
+    → union_terms (l ∷ []) (k ∷ []) c ≡ (set, c) ∷ []
+union_two l k set c same = grind (arith, nat_tests, ints)
+
+pub union_none : (l k : Literal) (c : ℤ) → None ≡ short_set l k
+    → union_terms (l ∷ []) (k ∷ []) c ≡ []
+union_none l k c none = grind (arith, nat_tests, ints)
 
 pub union_empty-right : (ls : List Literal) (c : ℤ) → IsSet ls → union_terms ls [] c ≡ (ls, c) ∷ []
 union_empty-right ls c set =

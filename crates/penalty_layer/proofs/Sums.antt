@@ -1,13 +1,10 @@
 -- The total of what the parts of a problem contribute is within the counted weight.
-use Rattle.penalty_layer.proofs.Common.{◌≡◌, ℕ, zero, suc, ◌+◌, ◌*◌, ◌^◌, ◌≤◌, unsigned_abs, ℤ, pos, neg_ℤ, ◌*ℤ◌, List, [], ◌∷◌, map, ap, sym, ◌∙◌, arith, None, sum_by, ints, unsigned_abs-mul, sum_by-cons, pow-succ', pow-zero, Product, Clause, Constraint, ProblemContent, products_total, binary_digits, penalty, weight, reach, slack_range, slack_bits, limit_fault, Term, terms_total, scaled, terms_total-cons, terms_total-append, terms_total-with_additions, products_with-total, clause_term, plain_terms, contributions, image, clause_weights, doubled, last_weight, weights_for, slack_weights, product_term, square_terms, node, slack_terms, slack_form, constraint_terms, HasDigits, HasDigits-binary_digits}
+use Rattle.penalty_layer.proofs.Common.{◌≡◌, ℕ, zero, suc, ◌+◌, ◌*◌, ◌^◌, ◌≤◌, unsigned_abs, ℤ, pos, neg_ℤ, ◌*ℤ◌, List, [], ◌∷◌, map, ap, sym, ◌∙◌, arith, None, sum_by, ints, unsigned_abs-mul, sum_by-cons, Product, Clause, Constraint, ProblemContent, products_total, binary_digits, penalty, weight, reach, slack_range, slack_bits, limit_fault, Term, terms_total, scaled, terms_total-cons, terms_total-append, terms_total-with_additions, products_with-total, Option, unwrap_or, nat_tests, mul-le, own, rest, clause_terms, plain_terms, contributions, image, clause_weights, doubled, last_weight, weights_for, slack_weights, product_term, square_terms, node, slack_terms, slack_form, constraint_terms, HasDigits, HasDigits-binary_digits}
 use Rattle.problem_form.specs.declared.limits.Normal.TheVariants as normals
 use Rattle.penalty_layer.proofs.Bounds.{within_limits, clause_weights_are}
+pub use Rattle.penalty_layer.specs.laws.Nearest.{square_is}
 
 -- ---- a square
-
-pub square_is : (n : ℕ) → n ^ 2 ≡ n * n
-square_is n =
-    pow-succ' n 1 ∙ ap (λ m. n * m) (pow-succ' n 0 ∙ ap (λ m. n * m) (pow-zero n) ∙ omega arith)
 
 square_terms-total : (n : ℕ) (ts : List Term)
     → terms_total (square_terms n ts) ≤ n * terms_total ts ^ 2
@@ -58,31 +55,53 @@ pub constraint-total : (n first : ℕ) (k : Constraint)
 constraint-total n first k =
     omega (arith, square_terms-total, ap (λ m. n * m ^ 2) (slack_form-total first k))
 
-pub constraint_terms-total : (n first : ℕ) (ks : List Constraint)
-    → terms_total (constraint_terms n first ks) ≤ sum_by (λ k. n * reach k ^ 2) ks
-constraint_terms-total n first [] = omega arith
-constraint_terms-total n first (k ∷ ks) =
-    let rest = constraint_terms-total n (first + slack_bits k) ks in
-    omega (arith, terms_total-append, constraint-total n first k, sum_by-cons)
+-- no part has more than the penalty of the whole
+pub own-le : (n : ℕ) (ns : List ℕ) → own n ns ≤ n
+own-le n [] = omega arith
+own-le n (m ∷ ms) = omega arith
+
+pub constraint_terms-total : (n : ℕ) (ns : List ℕ) (first : ℕ) (ks : List Constraint)
+    → terms_total (constraint_terms n ns first ks) ≤ sum_by (λ k. n * reach k ^ 2) ks
+constraint_terms-total n ns first [] = omega arith
+constraint_terms-total n ns first (k ∷ ks) =
+    let others = constraint_terms-total n (rest ns) (first + slack_bits k) ks in
+    let less = mul-le (own n ns) (reach k ^ 2) n (reach k ^ 2) (own-le n ns) (omega arith) in
+    omega (arith, terms_total-append, constraint-total (own n ns) first k, less, sum_by-cons)
 
 -- ---- the whole
 
-pub clauses_terms_total : (n : ℕ) (cs : List Clause)
-    → terms_total (map (clause_term n) cs) ≡ clause_weights n cs
-clauses_terms_total n [] = omega arith
-clauses_terms_total n (c ∷ cs) =
-    omega (arith, clauses_terms_total n cs, terms_total-cons, sum_by-cons)
+weight-le : (w : Option ℕ) (m n : ℕ) → m ≤ n → unwrap_or w m ≤ unwrap_or w n
+weight-le w m n h = grind (arith, nat_tests)
+
+pub clauses_terms_total : (n : ℕ) (ns : List ℕ) (cs : List Clause)
+    → terms_total (clause_terms n ns cs) ≤ clause_weights n cs
+clauses_terms_total n ns [] = omega arith
+clauses_terms_total n ns (c ∷ cs) =
+    let less = weight-le c.weight (own n ns) n (own-le n ns) in
+    omega (arith, ints, less, clauses_terms_total n (rest ns) cs, terms_total-cons, sum_by-cons)
 
 plain-total : (p : ProblemContent) → terms_total (plain_terms p)
-    ≡ unsigned_abs p.constant + products_total p.objective + clause_weights (penalty p) p.clauses
+    ≤ unsigned_abs p.constant + products_total p.objective + clause_weights (penalty p) p.clauses
 plain-total p =
     let products = map product_term p.objective in
-    let clauses = map (clause_term (penalty p)) p.clauses in
-    omega (arith, terms_total-cons, terms_total-append, products_terms_total, clauses_terms_total)
+    let clauses = clause_terms (penalty p) p.penalties.clauses p.clauses in
+    omega (
+      arith,
+      terms_total-cons,
+      terms_total-append,
+      products_terms_total,
+      clauses_terms_total (penalty p) p.penalties.clauses p.clauses,
+    )
 
 pub contributions-total : (p : ProblemContent) → terms_total (contributions p) ≤ weight p
 contributions-total p =
-    omega (arith, terms_total-append, plain-total, clause_weights_are, constraint_terms-total)
+    omega (
+      arith,
+      terms_total-append,
+      plain-total,
+      clause_weights_are,
+      constraint_terms-total (penalty p) p.penalties.constraints p.variables p.constraints,
+    )
 
 -- an image's total fits 64 bits
 pub image-total : (p : ProblemContent) → limit_fault normals.Literal p ≡ None

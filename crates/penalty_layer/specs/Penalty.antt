@@ -4,16 +4,20 @@
 -- With A the sum of the sizes of the objective's coefficients and of the soft weights, no
 -- assignment gains more than A by breaking a hard clause or a constraint, so a penalty of A + 1 for
 -- each puts what breaks one above every whole cost. Where an assignment may cost no more than a
--- given most, a penalty that lifts the least cost above that does as well. What a sum may have above
+-- given most, a penalty that lifts the least cost above that does as well. A part may have a penalty
+-- of its own that is less, where what breaks it can be mended at a gain. What a sum may have above
 -- its bound is taken off by slack bits. See Boros and Hammer, Pseudo-Boolean optimization (2002).
 use Rattle.std.specs.Prelude.{◌≡◌, ℕ, ◌+◌, pos, not, Bool, List, [], ◌∷◌, ◌++◌, map, unwrap_or, None}
 use Rattle.std.specs.List.{sum_by, flat_map}
 use Rattle.base.specs.declared.costs.Figures.{Figures}
+use Rattle.form_steps.specs.declared.scope.PenaltyScope.{PenaltyScope}
+use Rattle.form_steps.specs.declared.scope.PenaltyScope.TheVariants.{Global, Local}
 use Rattle.form_steps.specs.declared.layer.BitsLink.{BitsLink}
 use Rattle.literal_lists.specs.declared.literal.Literal.{Literal}
 use Rattle.problem_form.specs.declared.terms.Clause.{Clause}
 use Rattle.problem_form.specs.declared.limits.Normal.TheVariants as normals
 use Rattle.problem_form.specs.Problems.{ProblemContent, IsNormal}
+use Rattle.problem_form.specs.PartPenalties.{own, rest, AreEnough, IsGlobal}
 use Rattle.problem_form.specs.Limits.{penalty, upper, slack_bits, limit_fault}
 use Rattle.term_table.specs.Terms.{Term, with_additions}
 use Rattle.term_table.specs.Tables.{TableContent}
@@ -31,16 +35,23 @@ opposite l = record { variable = l.variable; negated = not l.negated }
 abbrev pub clause_term : ℕ → Clause → Term
 clause_term n c = (map opposite c.literals, pos (unwrap_or c.weight n))
 
+-- each clause with its weight, and a hard one with its penalty, its own or that of the whole
+abbrev pub clause_terms : ℕ → List ℕ → List Clause → List Term
+clause_terms n ns [] = []
+clause_terms n ns (c ∷ cs) = clause_term (own n ns) c ∷ clause_terms n (rest ns) cs
+
 -- The constant, the objective's products and the clauses, in their order. A product that stands
 -- twice is two terms here, and one in the table.
 abbrev pub plain_terms : ProblemContent → List Term
 plain_terms p =
     ([], p.constant)
-    ∷ (map product_term p.objective ++ map (clause_term (penalty p)) p.clauses)
+    ∷ (map product_term p.objective ++ clause_terms (penalty p) p.penalties.clauses p.clauses)
 
 -- and the squares of the constraints, whose slack bits stand after the variables
 abbrev pub contributions : ProblemContent → List Term
-contributions p = plain_terms p ++ constraint_terms (penalty p) p.variables p.constraints
+contributions p =
+    plain_terms p
+    ++ constraint_terms (penalty p) p.penalties.constraints p.variables p.constraints
 
 -- The variables and the slack bits. Each slack bit is a node after the variables.
 abbrev pub node_count : ProblemContent → ℕ
@@ -53,7 +64,8 @@ abbrev pub image : ProblemContent → TableContent
 image p = record { width = node_count p; terms = with_additions [] (contributions p) }
 
 -- Nothing is scaled or moved, and the threshold is the upper bound: every state whose assignment has
--- an infinite cost costs more than it, and the extension of an assignment of a whole cost does not.
+-- an infinite cost costs more than it where no part has a penalty of its own, and the extension of an
+-- assignment of a whole cost does not.
 abbrev pub figures : ProblemContent → Figures
 figures p = record { scale = pos 1; offset = pos 0; threshold = upper p }
 
@@ -61,6 +73,12 @@ figures p = record { scale = pos 1; offset = pos 0; threshold = upper p }
 -- slack that makes its square least: 0 where the constraint holds.
 abbrev pub extension : ProblemContent → List Bool → List Bool
 extension p x = x ++ flat_map (slack_state x) p.constraints
+
+-- the scopes that a problem's penalties allow: one penalty for all parts where none has its own, and
+-- elsewhere penalties that are enough
+abbrev pub Allows : PenaltyScope → ProblemContent → Type 0
+Allows Global p = IsGlobal p
+Allows Local p = AreEnough p
 
 -- a problem in normal form and within the limits
 pub record Admits (p : ProblemContent) : Type 0 where

@@ -9,6 +9,7 @@ use Rattle.problem_form.specs.declared.terms.Constraint.{Constraint}
 use Rattle.problem_form.specs.declared.terms.Product.{Product}
 use Rattle.problem_form.specs.Problems.{sum_of}
 use Rattle.problem_form.specs.Limits.{slack_range, slack_bits}
+use Rattle.problem_form.specs.PartPenalties.{own, rest}
 use Rattle.term_table.specs.Terms.{Term}
 use Rattle.term_table.specs.Products.{scaled, products_with}
 use Rattle.penalty_layer.specs.Slack.{slack_weights, value_bits, clamped}
@@ -45,11 +46,13 @@ slack_form first k =
     ++ ([], neg_ℤ k.bound)
     ∷ slack_terms first (slack_weights (slack_range k))
 
--- n times the square for each constraint, whose slack bits are numbered on from a first node
-abbrev pub constraint_terms : ℕ → ℕ → List Constraint → List Term
-constraint_terms n first [] = []
-constraint_terms n first (k ∷ ks) =
-    square_terms n (slack_form first k) ++ constraint_terms n (first + slack_bits k) ks
+-- the penalty of each constraint, its own or that of the whole, times its square; the slack bits are
+-- numbered on from a first node
+abbrev pub constraint_terms : ℕ → List ℕ → ℕ → List Constraint → List Term
+constraint_terms n ns first [] = []
+constraint_terms n ns first (k ∷ ks) =
+    square_terms (own n ns) (slack_form first k)
+    ++ constraint_terms n (rest ns) (first + slack_bits k) ks
 
 -- ---- the slack of an assignment
 

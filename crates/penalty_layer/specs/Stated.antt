@@ -1,15 +1,17 @@
 -- What slack bits and squares promise beside the guard's clauses.
-use Rattle.std.specs.Prelude.{◌≡◌, ℕ, ◌≤◌, ℤ, pos, ◌-ℤ◌, ◌*ℤ◌, Bool, List, All}
+use Rattle.std.specs.Prelude.{◌≡◌, ℕ, ◌≤◌, ℤ, pos, ◌-ℤ◌, ◌*ℤ◌, ◌≤ℤ◌, Bool, List, All, length, take}
 use Rattle.std.specs.List.{flat_map}
 use Rattle.literal_lists.specs.declared.literal.Literal.{Literal}
 use Rattle.problem_form.specs.declared.terms.Constraint.{Constraint}
 use Rattle.literal_lists.specs.Literals.{IsLiteralSet}
-use Rattle.problem_form.specs.Problems.{sum_of}
+use Rattle.problem_form.specs.Problems.{ProblemContent, IsNormal, sum_of}
+use Rattle.problem_form.specs.PartPenalties.{priced_cost, AreEnough, IsGlobal}
 use Rattle.problem_form.specs.Limits.{slack_range}
 use Rattle.term_table.specs.Terms.{Term, coefficient_of, terms_cost}
 use Rattle.term_table.specs.Products.{scaled, products_with}
 use Rattle.penalty_layer.specs.Slack.{slack_value, slack_weights, value_bits}
 use Rattle.penalty_layer.specs.Squares.{slack_form, square_terms}
+use Rattle.penalty_layer.specs.Penalty.{extension, image}
 
 -- The weights reach each value within the range. So a constraint that holds can have the square 0.
 abbrev pub WeightsReach : Type 0
@@ -45,3 +47,14 @@ abbrev pub SquaresAreProducts : Type 0
 SquaresAreProducts = (n width : ℕ) (ts : List Term) → All (λ t. IsLiteralSet width t.0) ts
     → (ls : List Literal)
     → coefficient_of ls (square_terms n ts) ≡ coefficient_of ls (whole_square n ts)
+
+-- What an assignment costs with its penalties is the least energy over the added bits: its extension
+-- has it, and no state that begins with the assignment has less.
+abbrev pub PricesAreLeast : Type 0
+PricesAreLeast = (p : ProblemContent) (x : List Bool) → IsNormal p → length x ≡ p.variables
+    → (terms_cost (extension p x) (image p).terms ≡ priced_cost p x)
+    × ((y : List Bool) → take p.variables y ≡ x → priced_cost p x ≤ℤ terms_cost y (image p).terms)
+
+-- Where no part has a penalty of its own, the penalties are enough.
+abbrev pub GlobalIsEnough : Type 0
+GlobalIsEnough = (p : ProblemContent) → IsGlobal p → AreEnough p

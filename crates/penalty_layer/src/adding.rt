@@ -3,7 +3,7 @@ ghost use Rattle.std.specs.Prelude.{◌≡◌, ◌≤◌, ◌^◌, ◌∷◌, []
 ghost use Rattle.term_table.specs.Rooms.{Fills, HasRoomFor};
 ghost use Rattle.penalty_layer.specs.Penalty.{
   opposite,
-  clause_term,
+  clause_terms,
   contributions,
   node_count,
   Admits,
@@ -11,6 +11,7 @@ ghost use Rattle.penalty_layer.specs.Penalty.{
 ghost use Rattle.penalty_layer.specs.Squares.{product_term};
 
 use crate::constraints::add_constraints;
+use crate::own::{after_first, own_or};
 use base::NoMemory;
 use literal_lists::{Literal, Literals};
 use problem_form::{ClauseList, ClauseRef, Problem, ProductList, ProductRef};
@@ -97,23 +98,26 @@ fn weight_or(weight: Option<u64>, penalty: u128) -> i128
 }
 
 /// Adds the products of the clauses, which are the complements of their literals: a soft clause
-/// with its weight, and a hard one with the penalty.
+/// with its weight, and a hard one with its penalty, its own or that of the whole.
 fn add_clauses<T: Gather>(
     alloc: Global,
     terms: &mut T,
     clauses: &ClauseList,
     penalty: u128,
+    own: &[u64],
 ) -> Result<(), NoMemory>
-    requires room { HasRoomFor T.takes terms.old (map (clause_term penalty) clauses.now) }
+    requires room { HasRoomFor T.takes terms.old (clause_terms penalty own.now clauses.now) }
     requires penalty { penalty ≤ 2 ^ 100 }
     ensures { OnOk result (Fills T.takes T.holds terms.old terms.new
-        (map (clause_term penalty) clauses.now)) }
+        (clause_terms penalty own.now clauses.now)) }
 {
     let mut opposites = Vec::new(alloc);
+    let mut left = own;
     for clause in clauses.iter() {
         let ClauseRef { literals, weight } = clause;
         set_opposites(&mut opposites, literals)?;
-        terms.gather(&opposites, weight_or(weight, penalty))?;
+        terms.gather(&opposites, weight_or(weight, own_or(left, penalty)))?;
+        left = after_first(left);
     }
     Ok(())
 }
@@ -135,6 +139,20 @@ pub fn add_contributions<T: Gather>(
     let first = problem.variables as usize;
     terms.gather(&[], problem.constant)?;
     add_products(alloc, terms, &problem.objective)?;
-    add_clauses(alloc, terms, &problem.clauses, penalty)?;
-    add_constraints(alloc, terms, penalty, first, &problem.constraints)
+    let own = &problem.penalties;
+    add_clauses(
+        alloc,
+        terms,
+        &problem.clauses,
+        penalty,
+        own.clauses.as_slice(),
+    )?;
+    add_constraints(
+        alloc,
+        terms,
+        penalty,
+        own.constraints.as_slice(),
+        first,
+        &problem.constraints,
+    )
 }

@@ -4,6 +4,7 @@
 mod adding;
 mod constraints;
 mod laws;
+mod own;
 mod parts;
 mod penalty;
 mod slack;
@@ -11,5 +12,5 @@ mod squares;
 
 pub use adding::add_contributions;
 pub use constraints::node_count;
-pub use laws::laws_of_squares;
+pub use laws::{laws_of_penalties, laws_of_squares};
 pub use penalty::Penalty;

@@ -1,9 +1,9 @@
 //! The penalty method.
 ghost use Rattle.std.specs.Prelude.{◌^◌};
-ghost use Rattle.penalty_layer.specs.Penalty.{Admits, extension, image, figures, Fits};
+ghost use Rattle.penalty_layer.specs.Penalty.{Admits, Allows, extension, image, figures, Fits};
 ghost use Rattle.form_steps.specs.Links.{first_bits, HasFirstBits};
 ghost use Rattle.term_table.specs.Tables.{kept_at_once};
-ghost use Rattle.penalty_layer.specs.laws.Relaxing.{penalty_relaxes, penalty_joins, penalty_sound, penalty_whole};
+ghost use Rattle.penalty_layer.specs.laws.Relaxing.{penalty_relaxes, penalty_stays, penalty_joins, penalty_sound, penalty_whole};
 
 use crate::adding::add_contributions;
 use crate::constraints::node_count;
@@ -21,7 +21,8 @@ use term_table::{GatheredTerms, Table};
 ///
 /// The penalty is one more than the sum of the sizes of the objective's coefficients and of the
 /// soft weights (Boros and Hammer, Pseudo-Boolean optimization, 2002). Where an assignment may cost no
-/// more than a given most, it is no more than what lifts the least cost above that.
+/// more than a given most, it is no more than what lifts the least cost above that. A part that
+/// has a penalty of its own which is less has that.
 #[derive(Drop)]
 pub struct Penalty;
 
@@ -40,6 +41,8 @@ impl Guard for Penalty {
 
     ghost admits = { Admits };
 
+    ghost allows = { Allows };
+
     ghost image = { λ problem. kept_at_once (image problem) };
 
     ghost figures = { figures };
@@ -57,6 +60,8 @@ impl Guard for Penalty {
     ghost joins = { penalty_joins };
 
     ghost relaxes = { penalty_relaxes };
+
+    ghost stays = { penalty_stays };
 
     ghost whole = { penalty_whole };
 

@@ -1,5 +1,5 @@
 //! The terms of a square.
-ghost use Rattle.std.specs.Prelude.{◌≡◌, ◌*◌, ◌≤◌, ◌^◌, ◌*ℤ◌, ◌∷◌, [], All, drop, length, nat_lt, pos, unsigned_abs, OnOk, if◌then◌else◌};
+ghost use Rattle.std.specs.Prelude.{◌≡◌, ◌*◌, ◌≤◌, ◌^◌, ◌*ℤ◌, ◌∷◌, [], All, drop, length, pos, unsigned_abs, OnOk};
 ghost use Rattle.term_table.specs.Terms.{terms_total};
 ghost use Rattle.term_table.specs.Products.{products_with, union_terms};
 ghost use Rattle.term_table.specs.Rooms.{Fills, HasRoomFor};
@@ -8,7 +8,7 @@ ghost use Rattle.penalty_layer.specs.Squares.{square_terms};
 
 use crate::parts::Parts;
 use base::NoMemory;
-use literal_lists::{Literal, clashes};
+use literal_lists::{Literal, ShortSet, clashes};
 use term_table::{Gather, unite};
 
 #[inline(always)]
@@ -37,38 +37,6 @@ fn squared(factor: u128, a: &i128) -> i128
     times(&scaled(factor, a), a)
 }
 
-/// Adds a coefficient on the union of two literals of one variable, where they do not clash.
-#[inline(never)]
-fn add_alike<T: Gather>(
-    terms: &mut T,
-    l: Literal,
-    k: Literal,
-    coefficient: i128,
-) -> Result<(), NoMemory>
-    requires alike { l.variable ≡ k.variable }
-    requires room { HasRoomFor T.takes terms.old (union_terms (l ∷ []) (k ∷ []) coefficient) }
-    ensures { OnOk result (Fills T.takes T.holds terms.old terms.new
-        (union_terms (l ∷ []) (k ∷ []) coefficient)) }
-{
-    if l.negated == k.negated {
-        terms.gather(&[l], coefficient)
-    } else {
-        Ok(())
-    }
-}
-
-/// Two literals, that of the lesser variable first.
-#[inline(always)]
-fn ascending(l: Literal, k: Literal) -> (Literal, Literal)
-    ensures { result ≡ (if nat_lt l.variable k.variable then (l, k) else (k, l)) }
-{
-    if l.variable < k.variable {
-        (l, k)
-    } else {
-        (k, l)
-    }
-}
-
 /// Adds a coefficient on the union of two literals, where they do not clash.
 #[inline(always)]
 fn add_pair<T: Gather>(
@@ -81,11 +49,10 @@ fn add_pair<T: Gather>(
     ensures { OnOk result (Fills T.takes T.holds terms.old terms.new
         (union_terms (l ∷ []) (k ∷ []) coefficient)) }
 {
-    if l.variable == k.variable {
-        return add_alike(terms, l, k, coefficient);
+    match ShortSet::of(l, k) {
+        Some(set) => terms.gather(set.as_slice(), coefficient),
+        None => Ok(()),
     }
-    let (low, high) = ascending(l, k);
-    terms.gather(&[low, high], coefficient)
 }
 
 /// Adds a coefficient on the union of two sets of any length, where it has no clash.

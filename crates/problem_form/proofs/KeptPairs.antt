@@ -1,7 +1,6 @@
--- What is kept of a hard clause of two literals, by their variables and signs.
-use Rattle.problem_form.proofs.Common.{◌≡◌, ◌≢◌, ◌<◌, true, false, not, arith, List, [], ◌∷◌, None, pos, ◌+ℤ◌, ◌++◌, Less, Greater, nat_cmp_is, nat_tests, beq, Literal, literal_set, has_clash-literal_set, Clause, All, ints, IsSound, kept_clause, with_clause, ProblemContent, refl, Product, ℤ, sym, ap, ◌∙◌, append-nil, kept_product, with_product}
+-- What is kept of a hard clause of two literals, and of a number times them.
+use Rattle.problem_form.proofs.Common.{◌≡◌, ◌≢◌, ◌<◌, arith, List, [], ◌∷◌, None, pos, ◌+ℤ◌, ◌++◌, nat_tests, Literal, literal_set, has_clash, Clause, All, ints, IsSound, kept_clause, with_clause, ProblemContent, Product, ℤ, sym, ap, ◌∙◌, append-nil, kept_product, with_product, Option, Some, if◌then◌else◌}
 use Rattle.problem_form.proofs.KeptClauses.{with_clause-sound}
-use Rattle.problem_form.proofs.KeptProducts.{kept_product-kept}
 
 -- the hard clause of these literals
 abbrev pub hard_clause : List Literal → Clause
@@ -11,32 +10,21 @@ hard_clause ls = record { literals = ls; weight = None }
 abbrev pub pair : Literal → Literal → Clause
 pair first second = hard_clause (first ∷ second ∷ [])
 
--- ---- signs
-
--- ---- their order
-
-pub in_order-less : (a b : Literal) → a.variable < b.variable → a ∷ b ∷ [] ≡ literal_set (a ∷ b ∷ [])
-in_order-less a b less = rw (← nat_cmp_is a.variable b.variable Less less) refl
-
-pub in_order-greater : (a b : Literal) → b.variable < a.variable → b ∷ a ∷ [] ≡ literal_set (a ∷ b ∷ [])
-in_order-greater a b less = rw (← nat_cmp_is a.variable b.variable Greater less) refl
-
 -- ---- what is kept
 
 pub kept-alone : (a : Literal) → hard_clause (a ∷ []) ∷ [] ≡ kept_clause (hard_clause (a ∷ []))
 kept-alone a = grind (arith, nat_tests)
 
-pub kept-apart : (a b : Literal) (s : List Literal) → a.variable ≢ b.variable
-    → s ≡ literal_set (a ∷ b ∷ []) → hard_clause s ∷ [] ≡ kept_clause (pair a b)
-kept-apart a b s apart same = grind (arith, nat_tests)
+-- the set of two literals; none where they are opposite
+abbrev pub short_set : Literal → Literal → Option (List Literal)
+short_set a b = if has_clash (a ∷ b ∷ []) then None else Some (literal_set (a ∷ b ∷ []))
 
-pub kept-same : (a b : Literal) → a.variable ≡ b.variable → not (beq a.negated b.negated) ≡ false
-    → hard_clause (a ∷ []) ∷ [] ≡ kept_clause (pair a b)
-kept-same a b same signs = grind (arith, nat_tests)
+pub kept-two : (a b : Literal) (s : List Literal) → Some s ≡ short_set a b
+    → hard_clause s ∷ [] ≡ kept_clause (pair a b)
+kept-two a b s same = grind (arith, nat_tests)
 
-pub kept-opposite : (a b : Literal) → a.variable ≡ b.variable → not (beq a.negated b.negated) ≡ true
-    → [] ≡ kept_clause (pair a b)
-kept-opposite a b same signs = grind (arith, nat_tests, has_clash-literal_set (a ∷ b ∷ []))
+pub kept-opposite : (a b : Literal) → None ≡ short_set a b → [] ≡ kept_clause (pair a b)
+kept-opposite a b none = grind (arith, nat_tests)
 
 -- ---- what is kept of a product
 
@@ -47,18 +35,13 @@ weighed ls k = record { literals = ls; coefficient = k }
 pub weighed-none : (k : ℤ) → [] ≡ kept_product (weighed [] k)
 weighed-none k = grind (arith, nat_tests)
 
-pub weighed-apart : (a b : Literal) (s : List Literal) (k : ℤ) → k ≢ pos 0 → a.variable ≢ b.variable
-    → s ≡ literal_set (a ∷ b ∷ []) → weighed s k ∷ [] ≡ kept_product (weighed (a ∷ b ∷ []) k)
-weighed-apart a b s k some apart same =
-    kept_product-kept (weighed (a ∷ b ∷ []) k) s same some (grind (arith, nat_tests))
+pub weighed-two : (a b : Literal) (s : List Literal) (k : ℤ) → k ≢ pos 0 → Some s ≡ short_set a b
+    → weighed s k ∷ [] ≡ kept_product (weighed (a ∷ b ∷ []) k)
+weighed-two a b s k some same = grind (arith, nat_tests, ints)
 
-pub weighed-same : (a b : Literal) → a.variable ≡ b.variable → not (beq a.negated b.negated) ≡ false
-    → (k : ℤ) → kept_product (weighed (a ∷ []) k) ≡ kept_product (weighed (a ∷ b ∷ []) k)
-weighed-same a b same signs k = grind (arith, nat_tests)
-
-pub weighed-opposite : (a b : Literal) (k : ℤ) → a.variable ≡ b.variable
-    → not (beq a.negated b.negated) ≡ true → [] ≡ kept_product (weighed (a ∷ b ∷ []) k)
-weighed-opposite a b k same signs = grind (arith, nat_tests, has_clash-literal_set (a ∷ b ∷ []))
+pub weighed-opposite : (a b : Literal) (k : ℤ) → None ≡ short_set a b
+    → [] ≡ kept_product (weighed (a ∷ b ∷ []) k)
+weighed-opposite a b k none = grind (arith, nat_tests, ints)
 
 -- ---- a problem with one more product of some literals
 

@@ -7,4 +7,4 @@ pub use Rattle.problem_form.proofs.CountedNumbers.{fold_flat_map, answered_numbe
 pub use Rattle.problem_form.proofs.CostSizes.{product-size, constant-size, clause-size, own_cost-whole, cost_parts}
 pub use Rattle.problem_form.proofs.WeighedParts.{length-zip_with, zip_with-at, zip_with-push, weight_of-some, length-weighed_clauses, weighed_clauses-at, weighed_clauses-hard, weighed_clauses-soft, weighed_clauses-filled, map-coefficients, zip_with-negated, coefficients-small, on_ok}
 pub use Rattle.problem_form.proofs.LeftSums.{sums_left, answered_left, answered_end, first_within, rest_within, Sums, Answered}
-pub use Rattle.problem_form.proofs.KeptPairs.{hard_clause, pair, in_order-less, in_order-greater, kept-alone, kept-apart, kept-same, kept-opposite, with_clause-hard, hard_clause-sound}
+pub use Rattle.problem_form.proofs.KeptPairs.{hard_clause, pair, kept-alone, kept-two, kept-opposite, with_clause-hard, hard_clause-sound}

@@ -12,6 +12,7 @@ content_within p = record {
   clauses = p.clauses;
   constraints = p.constraints;
   most = p.most;
+  penalties = p.penalties;
 }
 
 -- normal form, and sizes that sum to below 2^100, so that sums over a problem fit 128 bits

@@ -13,7 +13,8 @@ use Rattle.problem_form.specs.declared.terms.Product.{Product}
 use Rattle.problem_form.specs.declared.terms.Clause.{Clause}
 use Rattle.problem_form.specs.declared.terms.Constraint.{Constraint}
 use Rattle.literal_lists.specs.Literals.{has_clash, literal_set}
-use Rattle.problem_form.specs.Problems.{ProblemContent, problem_cost}
+use Rattle.problem_form.specs.Problems.{ProblemContent, problem_cost, no_penalties}
+use Rattle.problem_form.specs.declared.penalties.PartPenalties.{PartPenalties}
 use Rattle.problem_form.specs.WeighedLists.{marked}
 
 -- a list without elements
@@ -80,6 +81,7 @@ normal_form p = record {
   clauses = flat_map kept_clause p.clauses;
   constraints = map normal_constraint p.constraints;
   most = p.most;
+  penalties = p.penalties;
 }
 
 -- the normal form costs what the problem as written costs, under every assignment
@@ -98,6 +100,7 @@ blank = record {
   clauses = [];
   constraints = [];
   most = None;
+  penalties = no_penalties;
 }
 
 -- a problem with so many variables
@@ -107,6 +110,10 @@ with_variables p variables = record p { variables = variables }
 -- a problem whose assignments may cost at most this, where it is given
 abbrev pub with_most : ProblemContent → Option ℤ → ProblemContent
 with_most p most = record p { most = most }
+
+-- a problem whose hard parts have these penalties of their own
+abbrev pub with_penalties : ProblemContent → PartPenalties → ProblemContent
+with_penalties p penalties = record p { penalties = penalties }
 
 -- a problem in normal form, with one more product as written
 abbrev pub with_product : ProblemContent → Product → ProblemContent

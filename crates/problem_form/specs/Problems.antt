@@ -10,10 +10,16 @@ use Rattle.base.specs.Costs.{Form}
 use Rattle.problem_form.specs.declared.terms.Product.{Product}
 use Rattle.problem_form.specs.declared.terms.Clause.{Clause}
 use Rattle.problem_form.specs.declared.terms.Constraint.{Constraint}
+use Rattle.problem_form.specs.declared.penalties.PartPenalties.{PartPenalties}
 use Rattle.literal_lists.specs.Literals.{all_hold, some_holds, IsLiteralSet}
 
--- variables, a constant, products that are added, clauses and constraints that are to hold, and where
--- there is one the most that an assignment may cost
+-- no part has a penalty of its own
+abbrev pub no_penalties : PartPenalties
+no_penalties = record { clauses = []; constraints = [] }
+
+-- variables, a constant, products that are added, clauses and constraints that are to hold, where
+-- there is one the most that an assignment may cost, and penalties of the parts that are to hold,
+-- which change no cost
 pub record ProblemContent : Type 0 where
   pub variables : ℕ
   pub constant : ℤ
@@ -21,6 +27,7 @@ pub record ProblemContent : Type 0 where
   pub clauses : List Clause
   pub constraints : List Constraint
   pub most : Option ℤ
+  pub penalties : PartPenalties
 
 -- ---- its cost
 

@@ -1,11 +1,10 @@
 //! Clauses in normal form.
-ghost use Rattle.std.specs.Prelude.{◌≡◌, ◌≢◌, ◌++◌, ◌∷◌, [], None, pos, OnOk, OnErr};
-ghost use Rattle.literal_lists.specs.Literals.{literal_set};
+ghost use Rattle.std.specs.Prelude.{◌≡◌, ◌++◌, ◌∷◌, [], None, pos, OnOk, OnErr};
 ghost use Rattle.problem_form.specs.NormalForm.{is_plain_cost, kept_clause, weight_constant};
 
 use crate::clause_list::ClauseList;
 use base::NoMemory;
-use literal_lists::{Literal, clashes, make_set};
+use literal_lists::{Literal, ShortSet, clashes, make_set};
 
 /// What a clause adds to the constant: the weight of a soft one without literals.
 pub(crate) fn weight_constant(weight: Option<u64>, literals: &[Literal]) -> u64
@@ -59,32 +58,6 @@ pub(crate) fn keep_literal(clauses: &mut ClauseList, literal: Literal) -> Result
     clauses.push_hard(&[literal])
 }
 
-/// Appends the hard clause of two literals of one variable, where they are not opposite.
-fn keep_alike(clauses: &mut ClauseList, first: Literal, second: Literal) -> Result<(), NoMemory>
-    requires { first.variable ≡ second.variable }
-    ensures kept { OnOk result (clauses.new ≡ clauses.old
-        ++ kept_clause (record { literals = first ∷ second ∷ []; weight = None })) }
-    ensures unchanged { OnErr result (clauses.new ≡ clauses.old) }
-{
-    if first.negated != second.negated {
-        return Ok(());
-    }
-    clauses.push_hard(&[first])
-}
-
-/// Two literals of two variables in order.
-#[inline(always)]
-pub(crate) fn in_order(first: Literal, second: Literal) -> (Literal, Literal)
-    requires { first.variable ≢ second.variable }
-    ensures { result.0 ∷ result.1 ∷ [] ≡ literal_set (first ∷ second ∷ []) }
-{
-    if first.variable < second.variable {
-        (first, second)
-    } else {
-        (second, first)
-    }
-}
-
 /// Appends the hard clause of two literals in normal form, where it is kept. Where memory is refused
 /// the list stays as it was.
 #[inline(always)]
@@ -97,9 +70,8 @@ pub(crate) fn keep_pair(
         ++ kept_clause (record { literals = first ∷ second ∷ []; weight = None })) }
     ensures unchanged { OnErr result (clauses.new ≡ clauses.old) }
 {
-    if first.variable == second.variable {
-        return keep_alike(clauses, first, second);
+    match ShortSet::of(first, second) {
+        Some(set) => clauses.push_hard(set.as_slice()),
+        None => Ok(()),
     }
-    let (low, high) = in_order(first, second);
-    clauses.push_hard(&[low, high])
 }

@@ -10,6 +10,7 @@ mod counts;
 mod laws;
 mod limits;
 mod pairs;
+mod penalties;
 mod problem;
 mod product_list;
 mod products;
@@ -25,6 +26,7 @@ pub use literal_lists::{
     Literal, LiteralList, LiteralLists, Literals, WideLists, all_hold, clashes, make_set,
 };
 pub use pairs::binary_digits_of;
+pub use penalties::PartPenalties;
 pub use problem::Problem;
 pub use product_list::{ProductList, ProductRef, Products};
 pub use terms::{Clause, Constraint, Product};

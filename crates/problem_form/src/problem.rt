@@ -1,11 +1,12 @@
 //! A problem in normal form.
 ghost use Rattle.std.specs.Prelude.{◌≡◌, ◌+◌, ◌<◌, ◌≤◌, ◌^◌, ◌∷◌, All, IfSome, None, OnOk, OnErr, length, unsigned_abs, unwrap_or, []};
-ghost use Rattle.problem_form.specs.NormalForm.{blank, with_variables, with_most, with_marked, with_clause, with_constraint, with_product};
+ghost use Rattle.problem_form.specs.NormalForm.{blank, with_variables, with_most, with_penalties, with_marked, with_clause, with_constraint, with_product};
 ghost use Rattle.problem_form.specs.Problems.{constraint_total, problem_total};
 
 use crate::clause_list::ClauseList;
 use crate::clauses::{keep_clause, keep_literal, keep_pair, weight_constant};
 use crate::constraint_list::ConstraintList;
+use crate::penalties::PartPenalties;
 use crate::product_list::ProductList;
 use crate::products::{coefficient_constant, keep_product, keep_weighed, keep_weighed_pair};
 use crate::terms::Constraint;
@@ -16,7 +17,8 @@ use std::marker::Model;
 
 /// A problem in normal form: its cost is the constant, the products that are true and the soft
 /// clauses that are violated, and it is infinite where a hard clause or a constraint fails, and above
-/// the most that an assignment may cost, where there is one.
+/// the most that an assignment may cost, where there is one. Its hard parts may have penalties of their
+/// own, which change no cost.
 pub struct Problem {
     pub variables: u64,
     pub constant: i128,
@@ -24,6 +26,7 @@ pub struct Problem {
     pub clauses: ClauseList,
     pub constraints: ConstraintList,
     pub most: Option<i128>,
+    pub penalties: PartPenalties,
 }
 
 // an owner's end lets it go by one call
@@ -36,6 +39,7 @@ impl Drop for Problem {
             clauses: _clauses,
             constraints: _constraints,
             most: _most,
+            penalties: _penalties,
         } = self;
     }
 }
@@ -64,6 +68,7 @@ impl Problem {
             clauses: ClauseList::empty(alloc),
             constraints: ConstraintList::empty(alloc),
             most: None,
+            penalties: PartPenalties::none(alloc),
         }
     }
 
@@ -81,6 +86,13 @@ impl Problem {
         ensures { self.new ≡ with_most self.old most }
     {
         self.most = most;
+    }
+
+    /// Gives hard parts penalties of their own, in the place of those that they had.
+    pub fn set_penalties(&mut self, penalties: PartPenalties)
+        ensures { self.new ≡ with_penalties self.old penalties }
+    {
+        self.penalties = penalties;
     }
 
     /// Adds the product of literals as written to the objective, in normal form. The literals are

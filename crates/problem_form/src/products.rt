@@ -7,11 +7,10 @@ ghost use Rattle.literal_lists.specs.Literals.{has_clash, literal_cmp};
 ghost use Rattle.problem_form.specs.NormalForm.{is_empty, kept_product, normal_constraint, product_constant};
 ghost use Rattle.problem_form.specs.Problems.{constraint_total, products_total};
 
-use crate::clauses::in_order;
 use crate::product_list::{ProductList, ProductRef};
 use crate::terms::Constraint;
 use base::NoMemory;
-use literal_lists::{Literal, clashes, make_set};
+use literal_lists::{Literal, ShortSet, clashes, make_set};
 
 /// What a product adds to the constant: the coefficient of one without literals.
 pub(crate) fn coefficient_constant(literals: usize, coefficient: i128) -> i128
@@ -75,24 +74,6 @@ pub(crate) fn keep_weighed(
     products.push(&[literal], coefficient)
 }
 
-/// Appends a number times two literals of one variable, where they are not opposite.
-fn keep_alike(
-    products: &mut ProductList,
-    first: Literal,
-    second: Literal,
-    coefficient: i128,
-) -> Result<(), NoMemory>
-    requires { first.variable ≡ second.variable }
-    ensures kept { OnOk result (products.new ≡ products.old
-        ++ kept_product (record { literals = first ∷ second ∷ []; coefficient = coefficient })) }
-    ensures unchanged { OnErr result (products.new ≡ products.old) }
-{
-    if first.negated != second.negated {
-        return Ok(());
-    }
-    keep_weighed(products, first, coefficient)
-}
-
 /// Appends a number times two literals in normal form, where it is kept. Where memory is refused the
 /// list stays as it was.
 #[inline(always)]
@@ -109,11 +90,10 @@ pub(crate) fn keep_weighed_pair(
     if coefficient == 0 {
         return Ok(());
     }
-    if first.variable == second.variable {
-        return keep_alike(products, first, second, coefficient);
+    match ShortSet::of(first, second) {
+        Some(set) => products.push(set.as_slice(), coefficient),
+        None => Ok(()),
     }
-    let (low, high) = in_order(first, second);
-    products.push(&[low, high], coefficient)
 }
 
 /// Appends the products as written in normal form, where they are kept. Where memory is refused the

@@ -1,5 +1,5 @@
 -- What stands for a source stands for it still where assignments of both may cost at most the same.
-use Rattle.source_texts.proofs.Common.{nat_tests, ◌≡◌, ℤ, Option, ap, arith, Form, Source, Rewrites, ProblemContent, cut_off, own_cost, lesser_of, own_upper, Read, bounded_read, StandsBounded, CostsAs}
+use Rattle.source_texts.proofs.Common.{nat_tests, ◌≡◌, ℤ, Option, ap, arith, Form, Source, Rewrites, ProblemContent, IsGlobal, cut_off, own_cost, lesser_of, own_upper, Read, bounded_read, StandsBounded, CostsAs}
 
 -- ---- costs
 
@@ -24,12 +24,14 @@ rewrites_cut most f f' r = record {
 
 -- a problem that is what a source is rewritten to stands for it, and has its upper bound
 pub rewritten_stand : (s : Source) (r : Read) → r.variables ≡ s.form.bits
-    → own_upper r.problem ≡ s.upper → Rewrites s.form (own_form r.problem) → StandsBounded s r
-rewritten_stand s r variables bound rewrites most = record {
+    → own_upper r.problem ≡ s.upper → IsGlobal r.problem → Rewrites s.form (own_form r.problem)
+    → StandsBounded s r
+rewritten_stand s r variables bound alike rewrites most = record {
   variables = variables;
   own = omega (arith, variables, rewrites.more);
   upper = ap (lesser_of most) bound;
   rewrites = rewrites_cut most s.form (own_form r.problem) rewrites;
+  penalties = alike;
 }
 
 -- its own costs do not ask for the most

@@ -1,8 +1,9 @@
 -- What the proofs of this crate stand on, of std and of the crates below.
-pub use Rattle.wbo_reader.proofs.Common.{Option, None, Ok, Err, Result, append-nil, IsWbo, take_all, rewritten_relaxes, WboText, content_of, words_of}
+pub use Rattle.wbo_reader.proofs.Common.{Option, None, Ok, Err, Result, append-nil, IsWbo, take_all, rewritten_by, WboText, content_of, words_of}
 pub use Rattle.form_steps.proofs.Common.{◌≡◌, ℤ, Bool, false, refl, sym, ap, ◌∙◌, arith, List, subst, ℕ, rules, ints, Rewrites, HasSameCosts, length-replicate, nat_tests}
 pub use Rattle.base.specs.Costs.{Form, Source}
 pub use Rattle.problem_form.specs.Problems.{ProblemContent, cut_off, own_cost}
+pub use Rattle.problem_form.specs.PartPenalties.{IsGlobal}
 pub use Rattle.problem_form.specs.Limits.{lesser_of, own_upper, upper}
 pub use Rattle.source_texts.specs.declared.reading.Read.{Read}
 pub use Rattle.source_texts.specs.Sources.{problem_of_words, bounded_read, KeepsSoft, StandsBounded, CostsAs, cleared_read, ClearedCostsAsSources, ClearedStandsForSources, own, plain, named, PlainOwnsAll, RelaxesStoodFor, names_of, source_of, words_in, ProblemsCostAsSources, WordsAreReadAsTexts, eased, style_of}

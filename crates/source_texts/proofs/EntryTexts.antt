@@ -10,7 +10,7 @@ use Rattle.source_texts.proofs.Readings.{AreRead, kept_as, read_alike}
 pub entries_read : (layout : Layout) → AreRead (form_of layout) (λ s. plain (problem_of layout s))
 entries_read layout =
     read_alike (form_of layout) _ (λ s. record { width = refl; costs = reading_keeps_costs layout s })
-    (λ s. (refl, refl, refl))
+    (λ s. (refl, refl, refl, refl))
 
 -- words are read into the problem of their reader
 pub ising_words : (ws : List Word) → sources.problem_of_words formats.Ising ws

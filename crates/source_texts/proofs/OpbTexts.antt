@@ -9,7 +9,7 @@ use Rattle.source_texts.proofs.Readings.{AreRead, kept_as, read_alike}
 pub opb_read : AreRead form_of (λ s. plain (problem_of s))
 opb_read =
     read_alike form_of _ (λ s. record { width = refl; costs = reading_keeps_costs s })
-    (λ s. (refl, refl, refl))
+    (λ s. (refl, refl, refl, refl))
 
 -- words are read into the problem of their reader
 pub opb_words : (ws : List Word)

@@ -10,7 +10,7 @@ use Rattle.source_texts.proofs.Readings.{AreRead, kept_as, read_alike}
 pub poly_read : AreRead form_of (λ ts. named (polynomial_of ts))
 poly_read =
     read_alike form_of _ (λ ts. record { width = refl; costs = reading_keeps_costs ts })
-    (λ ts. (refl, refl, refl))
+    (λ ts. (refl, refl, refl, refl))
 
 -- words are read into the polynomial of their reader
 pub poly_words : (ws : List Word)

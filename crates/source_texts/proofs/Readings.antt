@@ -1,6 +1,7 @@
 -- A problem with the costs of a source stands for the source, and texts that are read into such a
 -- problem.
-use Rattle.source_texts.proofs.Common.{nat_tests, ◌≡◌, false, None, Ok, Err, Result, refl, ◌∙◌, subst, arith, ints, take_all, length-replicate, Form, Source, Rewrites, HasSameCosts, rewritten_relaxes, TextFault, TextAnswer, Gives, MatchResult, ◌>>=◌, own_upper, upper, Read, CostsAs, PlainOwnsAll, RelaxesStoodFor, StandsBounded}
+use Rattle.source_texts.proofs.Common.{nat_tests, ◌≡◌, false, None, Ok, Err, Result, refl, ◌∙◌, subst, arith, ints, take_all, length-replicate, Form, Source, Rewrites, HasSameCosts, rewritten_by, IsGlobal, TextFault, TextAnswer, Gives, MatchResult, ◌>>=◌, own_upper, upper, Read, CostsAs, PlainOwnsAll, RelaxesStoodFor, StandsBounded}
+use Rattle.problem_form.specs.Problems as problems
 use Rattle.source_texts.proofs.Bounded.{own_form, rewritten_stand}
 
 -- forms with as many bits and the same costs rewrite each other
@@ -13,12 +14,14 @@ same_costs_rewrite f f' same = record {
 
 -- a problem with the costs of a source, and its upper bound, stands for it
 pub same_costs_stand : (s : Source) (r : Read) → HasSameCosts (own_form r.problem) s.form
-    → r.variables ≡ r.problem.variables → own_upper r.problem ≡ s.upper → StandsBounded s r
-same_costs_stand s r same all bound =
-    rewritten_stand s r (all ∙ same.width) bound (same_costs_rewrite s.form (own_form r.problem) same)
+    → r.variables ≡ r.problem.variables → own_upper r.problem ≡ s.upper → IsGlobal r.problem
+    → StandsBounded s r
+same_costs_stand s r same all bound alike =
+    rewritten_stand s r (all ∙ same.width) bound alike (same_costs_rewrite s.form (own_form r.problem) same)
 
 pub relaxes_stood_for : RelaxesStoodFor
-relaxes_stood_for s r stands g d u n relaxes = rewritten_relaxes stands.rewrites relaxes
+relaxes_stood_for s r stands scope g d u n relaxes =
+    rewritten_by scope s.form (problems.form_of r.problem) g d u n stands.rewrites relaxes
 
 -- a problem with the costs of a source costs what it does, where nothing is carried
 pub same_costs : (s : Source) (r : Read) → HasSameCosts (own_form r.problem) s.form
@@ -43,9 +46,9 @@ module _ {S : Type 0} (form : S → Form) (kept : S → Read) where
 
   pub read_alike : ((s : S) → HasSameCosts (own_form (kept s).problem) (form s))
       → ((s : S) → ((kept s).variables ≡ (kept s).problem.variables) × ((kept s).soft ≡ None)
-      × (own_upper (kept s).problem ≡ upper (kept s).problem)) → AreRead
+      × (own_upper (kept s).problem ≡ upper (kept s).problem) × IsGlobal (kept s).problem) → AreRead
   read_alike same all = record {
-    stands = λ s. same_costs_stand _ (kept s) (same s) (all s).0 (all s).2;
+    stands = λ s. same_costs_stand _ (kept s) (same s) (all s).0 (all s).2 (all s).3;
     costs = λ s. same_costs _ (kept s) (same s) (all s).0 (all s).1;
   }
 

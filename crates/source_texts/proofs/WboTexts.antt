@@ -12,7 +12,7 @@ kept t = eased (content_of t)
 
 rewritten_stands : (t : WboText) → StandsBounded (source_by form_of kept t) (kept t)
 rewritten_stands t =
-    rewritten_stand (source_by form_of kept t) (kept t) refl refl (rewrites_its_text t)
+    rewritten_stand (source_by form_of kept t) (kept t) refl refl refl (rewrites_its_text t)
 
 rewritten_costs : (t : WboText) → CostsAs (source_by form_of kept t) (kept t)
 rewritten_costs t =

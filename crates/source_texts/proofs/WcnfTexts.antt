@@ -16,7 +16,7 @@ same : (s : Wcnf) → HasSameCosts (problems.form_of (kept s).problem) (form_of 
 same s = record { width = refl; costs = reading_keeps_costs s }
 
 pub wcnf_read : AreRead form_of (λ s. plain (problem_of s))
-wcnf_read = read_alike form_of kept same (λ s. (refl, refl, refl))
+wcnf_read = read_alike form_of kept same (λ s. (refl, refl, refl, refl))
 
 -- words are read into the problem of their reader
 pub wcnf_words : (ws : List Word)

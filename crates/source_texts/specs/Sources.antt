@@ -4,7 +4,8 @@ use Rattle.std.specs.Option.{option_map}
 use Rattle.std.specs.Result.{result_ok}
 use Rattle.base.specs.declared.costs.Figures.{Figures}
 use Rattle.base.specs.Costs.{Form, IsOf, Source}
-use Rattle.form_steps.specs.Relations.{Decoding, Relaxes, Rewrites, first_decoded}
+use Rattle.form_steps.specs.Relations.{Decoding, RelaxesBy, Rewrites, first_decoded}
+use Rattle.form_steps.specs.declared.scope.PenaltyScope.{PenaltyScope}
 use Rattle.whole_text.specs.declared.faults.TextFault.{TextFault}
 use Rattle.whole_text.specs.declared.token.Style.{Style}
 use Rattle.whole_text.specs.declared.token.Style.TheVariants as styles
@@ -12,6 +13,7 @@ use Rattle.whole_text.specs.Tokens.{Word, tokens_of}
 use Rattle.whole_text.specs.Steps.{◌>>=◌}
 use Rattle.problem_form.specs.Problems.{ProblemContent, cut_off, own_cost}
 use Rattle.problem_form.specs.Problems as problems
+use Rattle.problem_form.specs.PartPenalties.{IsGlobal}
 use Rattle.problem_form.specs.NormalForm.{normal_form, with_most}
 use Rattle.conflict_clauses.specs.Conflicts.{without_conflicts}
 use Rattle.problem_form.specs.Limits.{lesser_of, upper}
@@ -162,13 +164,14 @@ KeepsSoft r = IsRewrittenFrom r.soft r
 
 -- ---- what a problem stands for
 
--- the problem has the source's variables first and its upper bound, and its costs stand for those
--- of the source
+-- the problem has the source's variables first and its upper bound, its costs stand for those of the
+-- source, and no part of it has a penalty of its own
 pub record StandsFor (s : Source) (r : Read) : Type 0 where
   pub variables : r.variables ≡ s.form.bits
   pub own : r.variables ≤ r.problem.variables
   pub upper : upper r.problem ≡ s.upper
   pub rewrites : Rewrites s.form (problems.form_of r.problem)
+  pub penalties : IsGlobal r.problem
 
 -- the problem stands for the source, whatever the most is that assignments of both may cost
 abbrev pub StandsBounded : Source → Read → Type 0
@@ -180,12 +183,14 @@ ProblemsStandForSources =
     (format : Format) (text : List ℕ) (r : Read) → problem_of format text ≡ Ok r
     → (s : Source) × (source_of format text ≡ Ok s) × StandsBounded s r
 
--- what relaxes a problem relaxes the source that it stands for, decoded to the source's variables
+-- what relaxes a problem, in each scope, relaxes the source that it stands for, decoded to the source's
+-- variables
 abbrev pub RelaxesStoodFor : Type 0
 RelaxesStoodFor =
     (s : Source) (r : Read) → StandsFor s r
-    → (g : Form) (d : Decoding) (u : ℤ) (n : Figures) → Relaxes (problems.form_of r.problem) g d u n
-    → Relaxes s.form g (first_decoded s.form.bits d) u n
+    → (scope : PenaltyScope) (g : Form) (d : Decoding) (u : ℤ) (n : Figures)
+    → RelaxesBy scope (problems.form_of r.problem) g d u n
+    → RelaxesBy scope s.form g (first_decoded s.form.bits d) u n
 
 -- ---- what a problem costs
 

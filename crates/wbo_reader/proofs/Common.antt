@@ -20,7 +20,7 @@ pub use Rattle.opb_reader.proofs.ReadCosts.{reading_keeps_costs}
 pub use Rattle.base.proofs.Products.{times-lt}
 pub use Rattle.base.specs.Costs.{energy}
 pub use Rattle.form_steps.specs.Relations.{Relaxes, first_decoded}
-pub use Rattle.form_steps.proofs.Rewritten.{rewritten_relaxes}
+pub use Rattle.form_steps.proofs.Rewritten.{rewritten_by, rewritten_relaxes}
 pub use Rattle.wbo_reader.specs.Extensions.{ExtendsAfterRewrites}
 unfoldable pub use Rattle.std.specs.List.Sorted.{IsStrictlySortedBy}
 pub use Rattle.opb_reader.proofs.Constraints.{negated-total, compared_within, compared-total}

@@ -7,7 +7,7 @@ use Rattle.base.specs.Costs.{IsOf}
 use Rattle.form_steps.specs.Relations.{Rewrites}
 use Rattle.problem_form.specs.declared.terms.Product.{Product}
 use Rattle.problem_form.specs.declared.terms.Constraint.{Constraint}
-use Rattle.problem_form.specs.Problems.{ProblemContent, fails, negated, problem_cost, problem_size}
+use Rattle.problem_form.specs.Problems.{ProblemContent, fails, negated, no_penalties, problem_cost, problem_size}
 use Rattle.problem_form.specs.Problems as problems
 use Rattle.problem_form.specs.Limits.{positive_total, own_upper, upper}
 use Rattle.problem_form.specs.Fields.{IsSound}
@@ -126,6 +126,7 @@ rewritten s = record {
   clauses = [];
   constraints = rewritten_constraints s;
   most = None;
+  penalties = no_penalties;
 }
 
 -- the assignment, and which soft constraints fail under it

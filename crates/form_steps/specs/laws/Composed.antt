@@ -5,29 +5,29 @@ use Rattle.std.proofs.lemmas.Int.{ints}
 use Rattle.base.proofs.Products.{times-le, times-lt, one_le_times, scaled_twice}
 use Rattle.base.specs.declared.costs.Figures.{Figures}
 use Rattle.base.specs.Costs.{Form, energy}
-use Rattle.form_steps.specs.Relations.{Decoding, Keeps, Relaxes, Reduces, Reaches, Joins, ExtendsLeast, decoding_after}
+use Rattle.form_steps.specs.Relations.{Decoding, Keeps, Relaxes, Reduces, Reaches, ReachesIn, Joins, ExtendsLeast, decoding_after}
 use Rattle.base.specs.Figures.{figures_after, figures_moved}
-use Rattle.form_steps.specs.laws.Plain.{RelaxesPlainly, relaxes_in_one, relaxes_plainly}
+use Rattle.form_steps.specs.laws.Plain.{RelaxesPlainly, one-times, relaxes_in_one, relaxes_plainly}
 
 -- a scale of 1 or more keeps an inequality
 scaled-le : (a v w : ℤ) → pos 1 ≤ℤ a → v ≤ℤ w → (a *ℤ v) ≤ℤ (a *ℤ w)
 scaled-le a v w p h = times-le a v w (omega (arith, ints)) h
 
 -- a lower bound, scaled once more
-bound_twice : (a1 b1 a2 b2 v e d : ℤ) → pos 1 ≤ℤ a2
+pub bound_twice : (a1 b1 a2 b2 v e d : ℤ) → pos 1 ≤ℤ a2
     → (a1 *ℤ v +ℤ b1) ≤ℤ e → (a2 *ℤ e +ℤ b2) ≤ℤ d
     → ((a1 *ℤ a2) *ℤ v +ℤ (a2 *ℤ b1 +ℤ b2)) ≤ℤ d
 bound_twice a1 b1 a2 b2 v e d p h k =
     omega (arith, ints, scaled_twice a2 a1 v b1 b2, scaled-le a2 (a1 *ℤ v +ℤ b1) e p h)
 
 -- an upper bound, scaled once more
-below_twice : (a1 b1 a2 b2 v t : ℤ) → pos 1 ≤ℤ a2 → (a1 *ℤ v +ℤ b1) ≤ℤ t
+pub below_twice : (a1 b1 a2 b2 v t : ℤ) → pos 1 ≤ℤ a2 → (a1 *ℤ v +ℤ b1) ≤ℤ t
     → ((a1 *ℤ a2) *ℤ v +ℤ (a2 *ℤ b1 +ℤ b2)) ≤ℤ (a2 *ℤ t +ℤ b2)
 below_twice a1 b1 a2 b2 v t p h =
     omega (arith, ints, scaled_twice a2 a1 v b1 b2, scaled-le a2 (a1 *ℤ v +ℤ b1) t p h)
 
 -- above a threshold, scaled once more
-above_twice : (a2 b2 t e d : ℤ) → pos 1 ≤ℤ a2 → t <ℤ e → (a2 *ℤ e +ℤ b2) ≤ℤ d
+pub above_twice : (a2 b2 t e d : ℤ) → pos 1 ≤ℤ a2 → t <ℤ e → (a2 *ℤ e +ℤ b2) ≤ℤ d
     → (a2 *ℤ t +ℤ b2) <ℤ d
 above_twice a2 b2 t e d p h k = omega (arith, ints, times-lt a2 t e p h)
 
@@ -58,6 +58,19 @@ keeps_after_keeps {f} {g} {h} {d} {e} {a1} {b1} {a2} {b2} p q = record {
       let y = p.reached x w in
       let z = q.reached y.0 y.1.width in
       (z.0, Reaches-trans a1 b1 a2 b2 (energy f x) y.1 z.1);
+}
+
+-- the same, where the first is reached in the unit 1
+pub Reaches-in_one : {g h : Form} {d e : Decoding} (n : Figures) (a b v : ℤ) {x y z : List Bool}
+    → ReachesIn (pos 1) g d x (n.scale *ℤ v +ℤ n.offset) y
+    → Reaches h e y (a *ℤ energy g y +ℤ b) z
+    → ReachesIn (pos 1) h (decoding_after d e) x
+    ((n.scale *ℤ a) *ℤ v +ℤ (a *ℤ n.offset +ℤ b)) z
+Reaches-in_one {g} {h} {d} n a b v {x} {y} {z} p q = record {
+  width = q.width;
+  decodes = ap d.decoded q.decodes ∙ p.decodes;
+  energy = one-times (energy h z) ∙ q.energy
+      ∙ ap (λ e. a *ℤ e +ℤ b) (sym (one-times (energy g y)) ∙ p.energy) ∙ scaled_twice a n.scale v n.offset b;
 }
 
 -- what keeps a form that relaxes a source in the unit 1 relaxes it

@@ -22,7 +22,7 @@ pub record RelaxesPlainly (f g : Form) (d : Decoding) (n : Figures) : Type 0 whe
   pub onto : (x : List Bool) → IsOf f x → (y : List Bool) × IsOf g y × (d.decoded y ≡ x)
 
 -- a product with 1 is the other factor
-one-times : (v : ℤ) → pos 1 *ℤ v ≡ v
+pub one-times : (v : ℤ) → pos 1 *ℤ v ≡ v
 one-times v = omega (arith, ints)
 
 -- what relaxes plainly relaxes in the unit 1

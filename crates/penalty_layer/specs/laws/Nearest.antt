@@ -1,7 +1,7 @@
 -- Squares: they are not negative, and the clamped slack leaves the least. Nothing
 -- here has to be believed.
-use Rattle.std.specs.Prelude.{◌≡◌, ◌≢◌, ◌≤◌, ◌-ℤ◌, ◌*ℤ◌, ◌≤ℤ◌}
-use Rattle.penalty_layer.specs.laws.Common.{nat_tests, ℕ, zero, suc, refl, arith, ℤ, pos, negsuc, ints, mul-le, multiply_out, integers, times-le, clamped}
+use Rattle.std.specs.Prelude.{◌≡◌, ◌*◌, ◌^◌, ◌≤◌, ◌-ℤ◌, ◌*ℤ◌, ◌≤ℤ◌}
+use Rattle.penalty_layer.specs.laws.Common.{nat_tests, ℕ, arith, ap, ◌∙◌, pow-succ', pow-zero, unsigned_abs, ℤ, pos, negsuc, ints, mul-le, multiply_out, integers, times-le, clamped}
 
 -- no square is below 0
 square-not_negative : (a : ℤ) → pos 0 ≤ℤ (a *ℤ a)
@@ -42,16 +42,15 @@ clamped-same r s low high = grind (arith, ints)
 
 -- ---- n times a square
 
--- the square of a whole number that is not 0 is at least 1
-nonzero_square : (v : ℤ) → v ≢ pos 0 → pos 1 ≤ℤ (v *ℤ v)
-nonzero_square (pos zero) h = absurd (h refl)
-nonzero_square (pos (suc n)) h = omega (arith, ints)
-nonzero_square (negsuc n) h = omega (arith, ints)
+-- a square is a product
+pub square_is : (n : ℕ) → n ^ 2 ≡ n * n
+square_is n =
+    pow-succ' n 1 ∙ ap (λ m. n * m) (pow-succ' n 0 ∙ ap (λ m. n * m) (pow-zero n) ∙ omega arith)
 
--- n times the square of what is not 0 is at least n
-pub square_at_least : (n : ℕ) (v : ℤ) → v ≢ pos 0 → pos n ≤ℤ (pos n *ℤ (v *ℤ v))
-square_at_least n v h =
-    omega (arith, ints, times-le (pos n) (pos 1) (v *ℤ v) (omega (arith, ints)) (nonzero_square v h))
+-- a square is that of the size
+pub square_of_size : (z : ℤ) → z *ℤ z ≡ pos (unsigned_abs z * unsigned_abs z)
+square_of_size (pos n) = omega (arith, ints)
+square_of_size (negsuc n) = omega (arith, ints)
 
 -- n times a square is not below 0
 pub square_not_below : (n : ℕ) (v : ℤ) → pos 0 ≤ℤ (pos n *ℤ (v *ℤ v))

@@ -4,7 +4,7 @@
 -- what its negative coefficients come to and what its positive ones do, and a soft clause adds
 -- between 0 and its weight.
 use Rattle.std.specs.Prelude.{◌≡◌, ◌∷◌, ◌+ℤ◌, ◌≤ℤ◌}
-use Rattle.penalty_layer.specs.laws.Common.{nat_tests, ℕ, Bool, true, false, not, List, [], map, ℤ, pos, unsigned_abs, refl, ap, ◌∙◌, arith, unwrap_or, list_any, sum_by, ints, sum_by-cons, total_by, if_so, positive_part, total_by-map, total_by-same, Literal, Clause, Product, all_hold, some_holds, sum_of, products_total, is_violated, soft_weight, soft_cost, fails_hard, positive_total, term_cost, terms_cost, opposite, clause_term, product_term}
+use Rattle.penalty_layer.specs.laws.Common.{nat_tests, ℕ, Bool, true, false, not, List, [], map, ℤ, pos, unsigned_abs, refl, arith, unwrap_or, list_any, sum_by, ints, sum_by-cons, total_by, if_so, positive_part, total_by-map, Literal, Clause, Product, all_hold, some_holds, sum_of, products_total, is_violated, soft_weight, soft_cost, fails_hard, positive_total, term_cost, terms_cost, opposite, clause_terms, product_term, own, rest, some_whole, clause_prices}
 
 -- ---- a clause is violated where the complements of its literals are all true
 
@@ -21,12 +21,12 @@ abbrev pub clause_cost : List Bool → ℕ → Clause → ℤ
 clause_cost x n c = if_so (is_violated x c) (pos (unwrap_or c.weight n))
 
 -- the clauses' terms cost what the clauses add
-pub clause_terms_cost : (x : List Bool) (n : ℕ) (cs : List Clause)
-    → terms_cost x (map (clause_term n) cs) ≡ total_by (clause_cost x n) cs
-clause_terms_cost x n cs =
-    total_by-map (term_cost x) (clause_term n) cs
-    ∙ total_by-same _ (clause_cost x n) cs
-    (λ c. ap (λ t. if_so t (pos (unwrap_or c.weight n))) (all_hold-opposite x c.literals))
+pub clause_terms_cost : (x : List Bool) (n : ℕ) (ns : List ℕ) (cs : List Clause)
+    → terms_cost x (clause_terms n ns cs) ≡ clause_prices x n ns cs
+clause_terms_cost x n ns [] = refl
+clause_terms_cost x n ns (c ∷ cs) = λ i.
+    if_so (all_hold-opposite x c.literals i) (pos (unwrap_or c.weight (own n ns)))
+    +ℤ clause_terms_cost x n (rest ns) cs i
 
 -- the products' terms cost the objective
 pub product_terms_cost : (x : List Bool) (ts : List Product)
@@ -50,31 +50,31 @@ clause_soft : (x : List Bool) (n : ℕ) (c : Clause) → fails_hard x c ≡ fals
 clause_soft x n c h = grind (arith, nat_tests, ints)
 
 -- so do all clauses together
-pub clauses_not_negative : (x : List Bool) (n : ℕ) (cs : List Clause)
-    → pos 0 ≤ℤ total_by (clause_cost x n) cs
-clauses_not_negative x n [] = omega (arith, ints)
-clauses_not_negative x n (c ∷ cs) =
-    omega (arith, ints, clause_not_negative x n c, clauses_not_negative x n cs)
+pub clauses_not_negative : (x : List Bool) (n : ℕ) (ns : List ℕ) (cs : List Clause)
+    → pos 0 ≤ℤ clause_prices x n ns cs
+clauses_not_negative x n ns [] = omega (arith, ints)
+clauses_not_negative x n ns (c ∷ cs) =
+    omega (arith, ints, clause_not_negative x (own n ns) c, clauses_not_negative x n (rest ns) cs)
 
--- where a hard clause is violated, the clauses add at least its penalty
-pub clauses_at_least : (x : List Bool) (n : ℕ) (cs : List Clause)
-    → list_any (fails_hard x) cs ≡ true → pos n ≤ℤ total_by (clause_cost x n) cs
-clauses_at_least x n [] h = cc
-clauses_at_least x n (c ∷ cs) h =
-    let here = clause_at_least x n c in
-    let rest = clauses_at_least x n cs in
-    let low = clause_not_negative x n c in
-    let lows = clauses_not_negative x n cs in
+-- where a hard clause is violated that has the penalty of the whole, the clauses add at least that
+pub clauses_at_least : (x : List Bool) (n : ℕ) (ns : List ℕ) (cs : List Clause)
+    → some_whole (fails_hard x) n ns cs ≡ true → pos n ≤ℤ clause_prices x n ns cs
+clauses_at_least x n ns [] h = cc
+clauses_at_least x n ns (c ∷ cs) h =
+    let here = clause_at_least x (own n ns) c in
+    let others = clauses_at_least x n (rest ns) cs in
+    let low = clause_not_negative x (own n ns) c in
+    let lows = clauses_not_negative x n (rest ns) cs in
     grind (arith, nat_tests, ints)
 
--- where none is, the clauses add the weights of the violated soft ones
-pub clauses_soft : (x : List Bool) (n : ℕ) (cs : List Clause)
+-- where none is violated, the clauses add the weights of the violated soft ones
+pub clauses_soft : (x : List Bool) (n : ℕ) (ns : List ℕ) (cs : List Clause)
     → list_any (fails_hard x) cs ≡ false
-    → total_by (clause_cost x n) cs ≡ total_by (soft_cost x) cs
-clauses_soft x n [] h = refl
-clauses_soft x n (c ∷ cs) h =
-    let here = clause_soft x n c in
-    let rest = clauses_soft x n cs in
+    → clause_prices x n ns cs ≡ total_by (soft_cost x) cs
+clauses_soft x n ns [] h = refl
+clauses_soft x n ns (c ∷ cs) h =
+    let here = clause_soft x (own n ns) c in
+    let others = clauses_soft x n (rest ns) cs in
     grind (arith, nat_tests, ints)
 
 -- the soft clauses add at most their weights

@@ -1,5 +1,5 @@
-use Rattle.form_steps.proofs.Rewritten.{rewritten_relaxes}
+use Rattle.form_steps.proofs.Rewritten.{rewritten_by}
 use Rattle.form_steps.proofs.laws.rewriting_relaxes.Goals as goal
 
 pub returns : goal.returns
-returns c = λ f f' g d u n r p. rewritten_relaxes r p
+returns c = rewritten_by

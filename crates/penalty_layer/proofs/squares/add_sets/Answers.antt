@@ -1,5 +1,5 @@
-use Rattle.penalty_layer.proofs.Common.{nat_tests, rules, arith, ◌≡◌, ◌∷◌, [], refl, List, sym, ap, ◌∙◌, w128, to_z-of_z, eqb-true, nil_from_length, Literal, has_clash, literal_set-ascends, union, union_terms, union_apart, fills_if_ok, fills_none, fills_same, room_as, room_same}
-use Rattle.penalty_layer.proofs.SquareSteps.{union_empty-left, union_empty-right}
+use Rattle.penalty_layer.proofs.Common.{nat_tests, rules, arith, ◌≡◌, ◌∷◌, [], refl, List, sym, ap, ◌∙◌, w128, to_z-of_z, eqb-true, nil_from_length, Literal, has_clash, literal_set-ascends, union, union_terms, fills_if_ok, fills_none, fills_same, room_as, room_same}
+use Rattle.penalty_layer.proofs.SquareSteps.{union_apart, union_empty-left, union_empty-right}
 use Rattle.penalty_layer.proofs.squares.add_sets.Given.{Over}
 use Rattle.penalty_layer.proofs.squares.add_sets.Goals.{Then-is_empty, Then-is_empty-2, Else-clashes}
 use Rattle.penalty_layer.proofs.squares.add_sets.Goals as goal

@@ -1,4 +1,4 @@
-use Rattle.form_steps.proofs.Common.{nat_tests, arith, ◌+◌, one_le_times, keeps_after_relaxes}
+use Rattle.form_steps.proofs.Common.{nat_tests, arith, ◌+◌, one_le_times, keeps_after_by, keeps_stays_above}
 use Rattle.form_steps.proofs.Growth.{grown_within, grown_bits, moved_figure, moved_figure_sum, scaled_figure, fits_below}
 use Rattle.form_steps.proofs.then.ThenGuard.guard.Goals as goal
 
@@ -49,4 +49,11 @@ returns-clause-size g c =
     grown_bits (g.B.Target.Costed.size c.in_ok-second.second.target) (g.A.Target.Costed.size c.in_ok-first.first.target) g.A.Guard.SIZE_BITS g.B.Layer.SIZE_GROWTH c.in_ok-first.ensures.size c.in_ok-second.ensures.size
 
 pub returns-clause-relaxes : goal.returns-clause-relaxes
-returns-clause-relaxes g c = rw c.figures_of_both-figures.ensures (keeps_after_relaxes c.in_ok-first.ensures.relaxes c.in_ok-second.ensures.keeps)
+returns-clause-relaxes g c =
+    rw c.figures_of_both-figures.ensures
+    (λ scope allowed. keeps_after_by scope _ _ _ _ _ _ _ _ (c.in_ok-first.ensures.relaxes scope allowed) c.in_ok-second.ensures.keeps)
+
+pub returns-clause-stays : goal.returns-clause-stays
+returns-clause-stays g c =
+    rw c.figures_of_both-figures.ensures
+    (keeps_stays_above c.in_ok-first.ensures.stays c.in_ok-second.ensures.keeps)

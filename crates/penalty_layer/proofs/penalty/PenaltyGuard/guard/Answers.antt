@@ -1,5 +1,5 @@
 use Rattle.penalty_layer.proofs.Common.{arith, nat_tests, ◌≡◌, [], rules, ap, ◌∙◌, w128, to_z-of_z, BitsLink, ProblemContent, kept_at_once, image, Fits}
-use Rattle.penalty_layer.proofs.Admitted.{made_image, made_total, made_size, made_relaxes, threshold_within}
+use Rattle.penalty_layer.proofs.Admitted.{made_image, made_total, made_size, made_relaxes, made_stays, threshold_within}
 use Rattle.penalty_layer.proofs.RoomForTerms.{room-contributions}
 use Rattle.penalty_layer.proofs.penalty.PenaltyGuard.guard.Goals as goal
 
@@ -20,6 +20,20 @@ returns-clause-relaxes c =
       normal = c.requires.normal;
     } in
     made_relaxes link p c.into_table.result _ fit made
+    (to_z-of_z w128 c.upper.result (search rules) ∙ c.upper.ensures)
+
+pub returns-clause-stays : goal.returns-clause-stays
+returns-clause-stays c =
+    let p = c.args.source.now in
+    let made : c.into_table.result ≡ kept_at_once (image p) =
+    made_image p c.add_contributions.new.terms c.into_table.result c.in_ok-add_contributions.ensures c.into_table.ensures in
+    let link : BitsLink = record { source_width = c.source.inside.variables; target_width = c.node_count-width.result } in
+    let fit : Fits link p = record {
+      source = ap (λ (q : ProblemContent). q.variables) c.source.view_is;
+      target = c.node_count-width.ensures.value;
+      normal = c.requires.normal;
+    } in
+    made_stays link p c.into_table.result _ fit made
     (to_z-of_z w128 c.upper.result (search rules) ∙ c.upper.ensures)
 
 pub returns-clause-threshold_high : goal.returns-clause-threshold_high
