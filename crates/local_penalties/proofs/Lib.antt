@@ -1,0 +1,15 @@
+pub mod Common
+pub mod Places
+pub mod Hurting
+pub mod Sets
+pub mod LocalSteps
+pub mod Openings
+pub mod RoundSteps
+pub mod Bounds
+pub mod RoundsLeft
+pub mod Flips
+pub mod Reasons
+pub mod Mending
+pub mod Found
+pub mod FoundAlone
+pub mod Enough

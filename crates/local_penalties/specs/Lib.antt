@@ -1,0 +1,5 @@
+pub mod Hurting
+pub mod Prices
+pub mod Rounds
+pub mod Tallies
+pub mod Kept
