@@ -3,7 +3,7 @@
 -- Whose a qubit is can be read off its place: on side 0 by its column, on side 1 by its row. So no
 -- qubit is listed twice. A chain is a path, whose neighbours are joined. And the part of a later node
 -- that goes down its column meets the part of an earlier one that goes along its row in a cell.
-use Rattle.chain_map.proofs.Common.{◌≡◌, ◌≢◌, ℕ, zero, suc, ◌+◌, ◌-◌, ◌*◌, ◌/◌, ◌%◌, ◌<◌, ◌≤◌, ◌==◌, inl, inr, true, List, [], length, map, get_or, All, if◌then◌else◌, refl, sym, ap, ◌∙◌, arith, mod-lt, count_by, sum_by, range_with_len, cases_eq, cases_lt, nat_tests, length-append, get_or_append_left, get_or-append_right, length-map-range_with_len, get_or-map-range_with_len, sum_by-append, sum_by-cons, div-add-mod', div-lt_iff_lt-mul, mul_comm, min-le_left, min-le_right, div-mul-le_self, le-div_iff_mul-le, Chimera, Place, IsPlaceIn, qubits_of, index_of, place_of, are_joined, index_below, Entry, IsConnected, IsCoupler, occurrences, IsCrossing, IsCoupled, diagonal_of, clique_places, down_qubit, along_qubit, path_of, clique_chain, clique_of, IsForClique}
+use Rattle.chain_map.proofs.Common.{◌≡◌, ◌≢◌, ℕ, zero, suc, ◌+◌, ◌-◌, ◌*◌, ◌/◌, ◌%◌, ◌<◌, ◌≤◌, ◌==◌, inl, inr, true, List, [], length, map, get_or, All, if◌then◌else◌, refl, sym, ap, ◌∙◌, arith, mod-lt, nat_lt, count_by, sum_by, range_with_len, cases_eq, cases_lt, nat_tests, length-append, get_or_append_left, get_or-append_right, length-map-range_with_len, get_or-map-range_with_len, sum_by-append, sum_by-cons, div-add-mod', div-lt_iff_lt-mul, mul_comm, min-le_left, min-le_right, div-mul-le_self, le-div_iff_mul-le, Chimera, Place, IsPlaceIn, qubits_of, index_of, place_of, are_joined, index_below, Entry, IsConnected, IsCoupler, occurrences, IsCrossing, IsCoupled, diagonal_of, clique_places, down_qubit, along_qubit, path_of, clique_chain, clique_of, IsForClique}
 pub use Rattle.chain_map.proofs.Common.{place_again}
 use Rattle.chain_map.proofs.Occurrences.{occurrences-sum}
 use Rattle.chain_map.proofs.Rows.{default_free}
@@ -263,7 +263,8 @@ clique_valid graph nodes fits = λ f ising counted. record {
   counted = length-map-range_with_len (clique_chain graph) 0 nodes ∙ sym counted;
   filled = all_chains graph nodes (λ chain. chain ≢ []) fits
       (λ i k cell at none. omega (arith, path_len graph i k cell, ap length none));
-  within = all_chains graph nodes (λ chain. All (λ q. q < qubits_of graph) chain) fits (path_within graph);
+  within = all_chains graph nodes (λ chain. All (λ q. nat_lt q (qubits_of graph) ≡ true) chain) fits
+      (λ i k cell at j d low. let below = path_within graph i k cell at j d low in grind (arith, nat_tests));
   once = λ q. clique_once graph nodes q fits;
   connected = all_chains graph nodes (IsConnected _) fits (path_joined graph);
   coupled = λ k d below.

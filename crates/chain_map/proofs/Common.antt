@@ -1,5 +1,5 @@
 -- What the proofs of this crate stand on, of std and of the crates below.
-pub use Rattle.std.proofs.Common.{◌≡◌, ◌≢◌, ℕ, zero, suc, ◌+◌, ◌-◌, ◌*◌, ◌/◌, ◌%◌, ◌<◌, ◌≤◌, ◌==◌, inl, inr, true, false, List, [], length, map, get_or, All, if◌then◌else◌, refl, sym, ap, ◌∙◌, arith, mod-lt, ◌^◌, not, eqb, ◌∷◌, take, drop, Ok, Some, ◌++◌, Err, rules}
+pub use Rattle.std.proofs.Common.{◌≡◌, ◌≢◌, ℕ, zero, suc, ◌+◌, ◌-◌, ◌*◌, ◌/◌, ◌%◌, ◌<◌, ◌≤◌, ◌==◌, inl, inr, true, false, List, [], length, map, get_or, All, if◌then◌else◌, refl, sym, ap, ◌∙◌, arith, mod-lt, ◌^◌, not, eqb, ◌∷◌, take, drop, Ok, Some, ◌++◌, Err, rules, nat_lt}
 pub use Rattle.whole_text.proofs.Common.{take_rest, take_all, is_ascii_digit, digits_value}
 pub use Rattle.quad_form.proofs.Common.{nat_tests, length-append, get_or_append_left, get_or-append_right, append_assoc, append-nil, length-take, take_more, Entry, IsCoupler, elements}
 pub use Rattle.std.specs.List.{count_by, sum_by, range_with_len, slice_range, position_or_len, list_all, concat}

@@ -2,7 +2,7 @@
 --
 -- The chain of a node goes down a column of cells to the diagonal, and from there along the row: the
 -- triangle of Choi 2011, Minor-embedding in adiabatic quantum computation II.
-use Rattle.std.specs.Prelude.{◌≡◌, ℕ, ◌+◌, ◌-◌, ◌*◌, ◌/◌, ◌%◌, List, ◌++◌, length, map, min}
+use Rattle.std.specs.Prelude.{◌≡◌, ℕ, ◌+◌, ◌-◌, ◌*◌, ◌/◌, ◌%◌, List, ◌++◌, length, map, min, nat_lt}
 use Rattle.std.specs.List.{range_with_len}
 use Rattle.chimera_graph.specs.declared.chimera.Chimera.{Chimera}
 use Rattle.chimera_graph.specs.Graph.{qubits_of, index_of, place_of}
@@ -49,4 +49,5 @@ clique_of graph nodes = map (clique_chain graph) (range_with_len 0 nodes)
 abbrev pub IsForClique : Chimera → ℕ → List (List ℕ) → Type 0
 IsForClique graph nodes map =
     (f : IsingContent) → IsIsing f → length f.fields ≡ nodes
-    → IsValid (λ a b. are_joined (place_of graph a) (place_of graph b)) (qubits_of graph) f map
+    → IsValid (λ a b. are_joined (place_of graph a) (place_of graph b))
+    (λ q. nat_lt q (qubits_of graph)) f map

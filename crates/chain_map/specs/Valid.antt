@@ -1,5 +1,5 @@
 -- Which maps of chains embed an Ising form in a graph.
-use Rattle.std.specs.Prelude.{◌≡◌, ◌≢◌, ℕ, ◌≤◌, ◌<◌, true, List, [], length, All}
+use Rattle.std.specs.Prelude.{◌≡◌, ◌≢◌, ℕ, ◌≤◌, Bool, true, List, [], length, All}
 use Rattle.bits_model.specs.declared.output.Entry.{Entry}
 use Rattle.bits_model.specs.Walks.{IsConnected}
 use Rattle.ising_form.specs.Isings.{IsingContent}
@@ -17,10 +17,10 @@ IsCoupled joined chains c =
 
 -- a valid embedding: a chain for each node, none empty and each connected by joins inside it, of
 -- qubits that exist and occur once, and a join for each coupling
-pub record IsValid (joined : Joins) (qubits : ℕ) (f : IsingContent) (chains : List (List ℕ)) : Type 0 where
+pub record IsValid (joined : Joins) (exists : ℕ → Bool) (f : IsingContent) (chains : List (List ℕ)) : Type 0 where
   pub counted : length chains ≡ length f.fields
   pub filled : All (λ chain. chain ≢ []) chains
-  pub within : All (λ chain. All (λ q. q < qubits) chain) chains
+  pub within : All (λ chain. All (λ q. exists q ≡ true) chain) chains
   pub once : (q : ℕ) → occurrences q chains ≤ 1
   pub connected : All (IsConnected joined) chains
   pub coupled : All (IsCoupled joined chains) f.couplings

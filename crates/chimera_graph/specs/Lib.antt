@@ -2,5 +2,4 @@ pub mod Shape
 pub mod Places
 pub mod laws
 pub mod Graph
-pub mod Spans
 pub mod Lines

@@ -1,28 +1,14 @@
 //! The joins of the Chimera graph, and where they can be.
 ghost use Rattle.std.specs.Prelude.{◌≡◌};
-ghost use Rattle.chimera_graph.specs.Lines.{place_at};
 
 use crate::chimera::Chimera;
-use crate::hardware::Hardware;
-use crate::place::{Place, are_joined};
-use crate::span::Span;
-
-/// The same place in another cell.
-fn place_at(place: Place, row: u32, col: u32) -> Place
-    ensures { result ≡ place_at place row col }
-{
-    Place {
-        row,
-        col,
-        side: place.side,
-        at: place.at,
-    }
-}
+use crate::place::are_joined;
+use hardware::{Hardware, Others, Span};
 
 impl Chimera {
     ghost use Rattle.std.specs.Prelude.{◌+◌, ◌<◌, ◌^◌, true};
     ghost use Rattle.chimera_graph.specs.Graph.{qubits_of, place_of};
-    ghost use Rattle.chimera_graph.specs.Lines.{facing_of};
+    ghost use Rattle.chimera_graph.specs.Lines.{facing_of, step_of};
     ghost use Rattle.chimera_graph.specs.Places.{are_joined};
 
     /// The first qubit of the other side of a qubit's cell, by one division.
@@ -50,27 +36,46 @@ impl Chimera {
         let start = self.across(a);
         start <= b && b - start < self.shore
     }
+
+    /// How far apart the numbers of a qubit and of its neighbours in its line are.
+    fn step(&self, a: u32) -> u32
+        requires { a < qubits_of self.now }
+        ensures { result ≡ step_of self.now a }
+    {
+        if a / self.shore % 2 == 0 {
+            2 * self.cols * self.shore
+        } else {
+            2 * self.shore
+        }
+    }
 }
 
 impl Hardware for Chimera {
+    ghost use Rattle.std.specs.Prelude.{nat_lt};
     ghost use Rattle.chimera_graph.specs.Graph.{qubits_of, place_of};
-    ghost use Rattle.chimera_graph.specs.Lines.{facing_of, before_of, after_of};
+    ghost use Rattle.chimera_graph.specs.Lines.{facing_of, others_of, other_of};
     ghost use Rattle.chimera_graph.specs.Places.{are_joined};
     ghost use Rattle.chimera_graph.specs.laws.Joins.{are_joined-comm, are_joined-self};
-    ghost use Rattle.chimera_graph.specs.laws.Findable.{joins_findable};
+    ghost use Rattle.chimera_graph.specs.laws.Findable.{joins_findable, others_ordered, below_exists, exists_below};
 
     ghost qubits = { qubits_of };
+
+    ghost exists = { λ graph q. nat_lt q (qubits_of graph) };
 
     ghost joined = { λ graph a b. are_joined (place_of graph a) (place_of graph b) };
 
     ghost facing = { facing_of };
 
-    ghost before = { before_of };
+    ghost others = { others_of };
 
-    ghost after = { after_of };
+    ghost other = { other_of };
 
     fn qubits(&self) -> u32 {
         2 * self.rows * self.cols * self.shore
+    }
+
+    fn exists(&self, a: u32) -> bool {
+        a < self.qubits()
     }
 
     fn joined(&self, a: u32, b: u32) -> bool {
@@ -86,34 +91,23 @@ impl Hardware for Chimera {
         }
     }
 
-    /// In the cell before, along its column or row.
-    fn before(&self, a: u32) -> Option<u32> {
+    /// Its neighbours in its column or row.
+    fn others(&self, a: u32) -> Others {
         let place = self.place(a);
-        if place.side == 0 {
-            if place.row == 0 {
-                return None;
-            }
-            return Some(self.index(place_at(place, place.row - 1, place.col)));
+        let (first, last) = if place.side == 0 {
+            (place.row == 0, place.row + 1 == self.rows)
+        } else {
+            (place.col == 0, place.col + 1 == self.cols)
+        };
+        Others {
+            start: if first { 1 } else { 0 },
+            end: if last { 1 } else { 2 },
         }
-        if place.col == 0 {
-            return None;
-        }
-        Some(self.index(place_at(place, place.row, place.col - 1)))
     }
 
-    /// In the cell after, along its column or row.
-    fn after(&self, a: u32) -> Option<u32> {
-        let place = self.place(a);
-        if place.side == 0 {
-            if place.row + 1 == self.rows {
-                return None;
-            }
-            return Some(self.index(place_at(place, place.row + 1, place.col)));
-        }
-        if place.col + 1 == self.cols {
-            return None;
-        }
-        Some(self.index(place_at(place, place.row, place.col + 1)))
+    fn other(&self, a: u32, k: usize) -> u32 {
+        let step = self.step(a);
+        if k == 0 { a - step } else { a + step }
     }
 
     ghost few = { λ graph. graph.shape.few };
@@ -121,6 +115,12 @@ impl Hardware for Chimera {
     ghost symmetric = { λ graph a b. are_joined-comm (place_of graph a) (place_of graph b) };
 
     ghost irreflexive = { λ graph a. are_joined-self (place_of graph a) };
+
+    ghost below = { λ graph a. exists_below a (qubits_of graph) };
+
+    ghost existing = { λ graph a b below _. below_exists a (qubits_of graph) below };
+
+    ghost ordered = { others_ordered };
 
     ghost findable = { joins_findable };
 }

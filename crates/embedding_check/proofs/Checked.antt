@@ -1,6 +1,6 @@
 -- What a check gives is what an embedding keeps: parents by distances make a tree, and the least joined
 -- pairs stand between their chains.
-use Rattle.embedding_check.proofs.Common.{nat_tests, ◌≡◌, ℕ, zero, suc, ◌≤◌, ◌^◌, ◌⊎◌, inl, inr, true, List, [], ◌∷◌, length, drop, sym, arith, AllZip, IsingContent, IsIsing, Joins, is_in, first_of, WalksTo, HasDistance, Embedding, IsEmbedding, IsTree, IsTie, parent_in, climbed, IsParent, AreParents, IsValid, IsChecked}
+use Rattle.embedding_check.proofs.Common.{Bool, ◌<◌, nat_tests, ◌≡◌, ℕ, zero, suc, ◌≤◌, ◌^◌, ◌⊎◌, inl, inr, true, List, [], ◌∷◌, length, drop, sym, arith, AllZip, IsingContent, IsIsing, Joins, is_in, first_of, WalksTo, HasDistance, Embedding, IsEmbedding, IsTree, IsTie, parent_in, climbed, IsParent, AreParents, IsValid, IsChecked}
 
 -- ---- distances
 
@@ -87,15 +87,16 @@ each_zip R S weaker (x ∷ xs) [] all = all
 each_zip R S weaker (x ∷ xs) (y ∷ ys) all = (weaker x y all.0, each_zip R S weaker xs ys all.1)
 
 -- a checked embedding of a valid map keeps what an embedding keeps
-pub checked_embeds : (joined : Joins) (qubits : ℕ) (f : IsingContent) (chains : List (List ℕ)) (e : Embedding)
-    → qubits ≤ 2 ^ 20 → IsIsing f → IsValid joined qubits f chains → IsChecked joined qubits f chains e
-    → IsEmbedding e
-checked_embeds joined qubits f chains e few kept valid checked = record {
+pub checked_embeds : (joined : Joins) (exists : ℕ → Bool) (qubits : ℕ) (f : IsingContent) (chains : List (List ℕ))
+    (e : Embedding) → qubits ≤ 2 ^ 20 → ((q : ℕ) → exists q ≡ true → q < qubits) → IsIsing f
+    → IsValid joined exists f chains → IsChecked joined qubits f chains e → IsEmbedding e
+checked_embeds joined exists qubits f chains e few law kept valid checked = record {
   ising = rw checked.ising kept;
   counted = rw (checked.chains, checked.ising) valid.counted;
   filled = rw checked.chains valid.filled;
   few = omega (arith, few, checked.qubits);
-  within = rw (checked.qubits, checked.chains) valid.within;
+  within = rw (checked.qubits, checked.chains)
+      (λ k d h j e' low. law _ (valid.within k d h j e' low));
   once = λ q. rw checked.chains (valid.once q);
   trees = each_zip _ _ (parents_tree joined) e.chains e.parents checked.parents;
   placed = each_zip _ _ (λ c place p. p.crossing.between) e.ising.couplings e.places checked.places;

@@ -23,19 +23,21 @@ pub use Rattle.chain_map.specs.declared.faults.EmbedFault.{EmbedFault}
 pub use Rattle.chain_map.specs.declared.faults.CheckAnswer.{CheckAnswer}
 pub use Rattle.chain_map.specs.Faults.{IfFault}
 pub use Rattle.chain_map.proofs.Occurrences.{occurrences_more, occurrences-take-le, occurrences-chain-le}
-pub use Rattle.chimera_graph.specs.declared.span.Span.{Span}
-pub use Rattle.chimera_graph.specs.Spans.{CanBeJoined, IsFaced}
+pub use Rattle.hardware.specs.declared.span.Span.{Span}
+pub use Rattle.hardware.specs.Others.{IsFaced}
+pub use Rattle.hardware.specs.declared.hardware.Others.{Others}
+pub use Rattle.hardware.specs.Others.{IsOther, IsOneOf, CanBeJoined}
 pub use Rattle.bits_model.specs.Entries.{in_rows, rows_of}
 pub use Rattle.bits_model.proofs.EntryRows.{joined_rows, rows_before, rows_more, rows_all}
 pub use Rattle.embedding_check.specs.Distances.{HasDistance, IsParent, AreParents}
 pub use Rattle.embedding_check.specs.Embeddings.{Embedding, IsEmbedding, IsTree, IsTie, parent_in, climbed}
 pub use Rattle.embedding_check.specs.Checked.{IsChecked, IsPlace, IsBefore, IsPlaceOf, ArePlaces}
 pub use Rattle.embedding_check.specs.Search.{qubit_at, IsDone, IsSortedChain, Found, waits_at, parent_at, NoneJoined, IsFirst, LevelTakes, IsSearched, IsWithin, AtLevel, emptied, taken, Moves, Takes, Spreads, waiting}
-pub use Rattle.embedding_check.specs.Least.{IsPlaceIn, IsLeast, IsLeastPair, IsAhead, IsFacedAhead, IsNumberedAhead, IsArrow}
-pub use Rattle.embedding_check.specs.Faults.{NamesUncoupled, IsFaultAmong, IsFault, IsFirstAt, Exists, IsNew, IsReachedAt, IsUncoupled, number_at, IsInside, IsApart, AreSearchable, IsLinked}
+pub use Rattle.embedding_check.specs.Least.{IsPlaceIn, IsLeast, IsLeastPair, IsAhead, IsFacedAhead, IsNumberedAhead, IsOtherAhead, IsArrow}
+pub use Rattle.embedding_check.specs.Faults.{NamesUncoupled, IsFault, IsFirstAt, Exists, IsNew, IsReachedAt, IsUncoupled, number_at, IsInside, IsApart, AreSearchable, IsLinked}
 pub use Rattle.embedding_check.specs.declared.noted.Mark.{Mark}
 pub use Rattle.embedding_check.specs.Owners.{AreOwners, owner_of, nobody, IsRun}
-pub use Rattle.embedding_check.specs.Noted.{marked_pair, noted_at, Notes, ordered, IsChainJoin, IsJoin, IsRunJoin, IsSpanJoin, AreNotedTo, AreNotedFrom, IsQubitJoin, IsNumberJoin, AreNoted}
+pub use Rattle.embedding_check.specs.Noted.{marked_pair, noted_at, Notes, ordered, IsChainJoin, IsJoin, IsRunJoin, IsSpanJoin, AreNotedTo, AreNotedFrom, IsQubitJoin, IsNumberJoin, IsOthersJoin, AreNoted}
 pub use Rattle.embedding_check.specs.Marks.{marked}
 pub use Rattle.embedding_check.specs.Reached.{IsFirstBad}
 pub use Rattle.embedding_check.specs.Steps.{AreSteps}

@@ -1,5 +1,5 @@
 -- From the passes to a valid embedding, or to the first fault.
-use Rattle.embedding_check.proofs.Common.{ChainCount, EmptyChain, TooManyNodes, NoSuchQubit, Repeated, Disconnected, NoCoupler, IsFaultAmong, ◌≡◌, ◌≢◌, ℕ, zero, suc, ◌+◌, ◌<◌, ◌≤◌, ◌==◌, if◌then◌else◌, pos, inl, inr, Bool, true, ◌&&◌, ◌||◌, List, [], ◌∷◌, ◌++◌, length, get_or, All, refl, sym, ap, subst, ◌∙◌, arith, AllZip, cases_eq, get_or_append_left, get_or-append_seam, sum_by-take-le, sum_by_more, Entry, IsingContent, EmbedFault, CheckAnswer, Joins, is_in, chain_of, occurrences, IsCrossing, IsValid, qubit_at, IsSortedChain, IsPlaceIn, IfFault, IsNew, number_at, IsApart, AreSearchable, Option, occurrences_more, occurrences-take-le, both_ways, is_in_at, get_or_default}
+use Rattle.embedding_check.proofs.Common.{ChainCount, EmptyChain, TooManyNodes, NoSuchQubit, Repeated, Disconnected, NoCoupler, ◌≡◌, ◌≢◌, ℕ, zero, suc, ◌+◌, ◌<◌, ◌≤◌, ◌==◌, if◌then◌else◌, pos, inl, inr, Bool, true, ◌&&◌, ◌||◌, List, [], ◌∷◌, ◌++◌, length, get_or, All, refl, sym, ap, subst, ◌∙◌, arith, AllZip, cases_eq, get_or_append_left, get_or-append_seam, sum_by-take-le, sum_by_more, Entry, IsingContent, EmbedFault, CheckAnswer, Joins, is_in, chain_of, occurrences, IsCrossing, IsValid, qubit_at, IsSortedChain, IsPlaceIn, IfFault, IsFault, IsNew, number_at, IsApart, AreSearchable, Option, occurrences_more, occurrences-take-le, both_ways, is_in_at, get_or_default}
 use Rattle.embedding_check.proofs.Noting.{least_pair_same}
 use Rattle.chain_map.specs.declared.faults.CheckAnswer.TheVariants.{Fault, NoMemory}
 use Rattle.embedding_check.proofs.Sorting.{at_of_in, same_test}
@@ -83,11 +83,11 @@ some_of_full [] full = absurd (full refl)
 some_of_full (q ∷ chain) full = omega arith
 
 -- chains that are apart can be searched
-pub searchable : (qubits : ℕ) (f : IsingContent) (map : List (List ℕ)) → IsApart (λ q. q < qubits) f map
-    → AreSearchable qubits map
-searchable qubits f map apart = record {
+pub searchable : (exists : ℕ → Bool) (qubits : ℕ) (f : IsingContent) (map : List (List ℕ))
+    → ((q : ℕ) → exists q ≡ true → q < qubits) → IsApart exists f map → AreSearchable qubits map
+searchable exists qubits f map law apart = record {
   filled = λ u below. some_of_full (chain_of map u) (apart.inside.listed.filled u [] below);
-  within = λ u below j low. apart.inside.within u [] below j 0 low;
+  within = λ u below j low. law (number_at map u j) (apart.inside.within u [] below j 0 low);
   once = apart.once;
 }
 
@@ -102,19 +102,18 @@ new_of_once map once u below j low =
     let more = sum_by_more (λ p. if p == q then 1 else 0) (chain_of map u) j 0 low in
     omega (arith, once q, ap {B = ℕ} (λ (b : Bool). if b then 1 else 0) (same_test q q refl))
 
-pub fault_among_invalid : (joined : Joins) (qubits : ℕ) (IsQubit : ℕ → Type 0) (f : IsingContent) (map : List (List ℕ))
-    (x : EmbedFault) → IsFaultAmong joined IsQubit f map x → IsValid joined qubits f map
-    → All (λ chain. All IsQubit chain) map → ⊥
-fault_among_invalid joined qubits IsQubit f map (ChainCount n) h valid all = h.1 valid.counted
-fault_among_invalid joined qubits IsQubit f map (EmptyChain v) h valid all =
+pub fault_invalid : (joined : Joins) (exists : ℕ → Bool) (f : IsingContent) (map : List (List ℕ))
+    (x : EmbedFault) → IsFault joined exists f map x → IsValid joined exists f map → ⊥
+fault_invalid joined exists f map (ChainCount n) h valid = h.1 valid.counted
+fault_invalid joined exists f map (EmptyChain v) h valid =
     h.1.bad (valid.filled v [] h.1.below)
-fault_among_invalid joined qubits IsQubit f map (NoSuchQubit v q) h valid all =
-    h.1.1.place.bad (all v [] h.1.1.chain.below h.1.0 0 h.1.1.place.below)
-fault_among_invalid joined qubits IsQubit f map (Repeated q) h valid all =
+fault_invalid joined exists f map (NoSuchQubit v q) h valid =
+    h.1.1.place.bad (valid.within v [] h.1.1.chain.below h.1.0 0 h.1.1.place.below)
+fault_invalid joined exists f map (Repeated q) h valid =
     h.1.2.place.bad (new_of_once map valid.once h.1.0 h.1.2.chain.below h.1.1 h.1.2.place.below)
-fault_among_invalid joined qubits IsQubit f map (Disconnected v q) h valid all =
+fault_invalid joined exists f map (Disconnected v q) h valid =
     h.1.1.place.bad (valid.connected v [] h.1.1.chain.below h.1.0 0 h.1.1.place.below)
-fault_among_invalid joined qubits IsQubit f map (NoCoupler u v) h valid all =
+fault_invalid joined exists f map (NoCoupler u v) h valid =
     let e : Entry = record { first = 0; second = 0; weight = pos 0 } in
     h.1.1.bad e (valid.coupled h.1.0 e h.1.1.below)
-fault_among_invalid joined qubits IsQubit f map (TooManyNodes n m) h valid all = h
+fault_invalid joined exists f map (TooManyNodes n m) h valid = h

@@ -1,6 +1,7 @@
 -- The least joined pair between two chains.
 -- Noted pairs: each is the least of what was noted before and of what is new. Runs of qubits with one
 -- owner, and pairs that are not less than what is noted.
+use Rattle.embedding_check.proofs.Common.{Others, IsOtherAhead}
 use Rattle.embedding_check.proofs.Common.{nat_tests, ◌≡◌, ℕ, ◌<◌, ◌≤◌, ◌⊎◌, inl, inr, true, false, List, length, refl, sym, subst, arith, Option, Some, None, cases_eq, cases_lt, Span, CanBeJoined, Joins, IsCrossing, qubit_at, IsLeast, IsLeastPair, IsAhead, IsFacedAhead, IsNumberedAhead, IsArrow, IsPlaceIn, IsBefore, is_in_at, ◌&&◌, map, get_or, set, ◌∙◌, or_cases, and_parts, same_Some, get_or-map, get_or-set_same, get_or-set_other, length-map, length-set, is_in, chain_of, Mark, AreOwners, marked_pair, noted_at, Notes, ordered, IsChainJoin, IfSome, IsJoin, IsRunJoin, IsSpanJoin, AreNotedTo, AreNotedFrom, IsFaced}
 use Rattle.embedding_check.proofs.Taking.{rising_weak}
 use Rattle.embedding_check.proofs.Sorting.{at_of_in}
@@ -57,15 +58,19 @@ pub least_same : (S T : ℕ → Type 0) (r : Option ℕ) → ((b : ℕ) → S b 
 least_same S T None to from least = λ b t. least b (from b t)
 least_same S T (Some r) to from least = (to r least.0, λ b t. least.1 b (from b t))
 
-pub ahead_ways : (joined : Joins) (a : ℕ) (chain : List ℕ) (span : Span) (before after r : Option ℕ)
-    → ((b : ℕ) → IsAhead joined a chain b → CanBeJoined span before after b)
-    → IsLeast (λ b. IsFacedAhead joined a chain span b ⊎ (IsNumberedAhead joined a chain before b ⊎ IsNumberedAhead joined a chain after b)) r
+pub ahead_ways : (joined : Joins) (a : ℕ) (chain : List ℕ) (span : Span) (others : Others) (other : ℕ → ℕ) (r : Option ℕ)
+    → ((b : ℕ) → IsAhead joined a chain b → CanBeJoined span others other b)
+    → IsLeast (λ b. IsFacedAhead joined a chain span b ⊎ IsOtherAhead joined a chain others other b) r
     → IsLeast (IsAhead joined a chain) r
-ahead_ways joined a chain span before after r findable least =
-    least_same
-    (λ b. IsFacedAhead joined a chain span b ⊎ (IsNumberedAhead joined a chain before b ⊎ IsNumberedAhead joined a chain after b))
-    (IsAhead joined a chain) r (λ b p. grind (arith, nat_tests))
-    (λ b h. let ways = findable b h in grind (arith, nat_tests)) least
+ahead_ways joined a chain span others other r findable least =
+    least_same (λ b. IsFacedAhead joined a chain span b ⊎ IsOtherAhead joined a chain others other b)
+    (IsAhead joined a chain) r (λ b. elim [
+      | inl x ↦ x.ahead
+      | inr x ↦ x.ahead
+    ]) (λ b h. elim (findable b h) [
+      | inl faced ↦ inl (record { ahead = h; faced = faced })
+      | inr is ↦ inr (record { ahead = h; is = is })
+    ]) least
 
 -- ---- arrows
 

@@ -1,4 +1,5 @@
 -- What one qubit and what a level takes: nothing at first, one position more, one qubit more.
+use Rattle.embedding_check.proofs.Common.{Others, IsOneOf, waiting}
 use Rattle.embedding_check.proofs.Common.{nat_tests, ◌≡◌, ℕ, ◌+◌, ◌<◌, ◌≤◌, inl, inr, Bool, true, false, List, [], ◌∷◌, length, if◌then◌else◌, sym, ap, ◌∙◌, arith, cases_eq, get_or-set_same, get_or-set_other, length-set, length-append, Contains-append_left, Contains-push, Contains-push_cases, sum_by-set, Option, Some, Span, CanBeJoined, Joins, Found, waits_at, parent_at, qubit_at, taken, Moves, Takes, Spreads, IsFirst, LevelTakes, clash, cases_Bool, IsDone, below_more}
 
 -- ---- one position
@@ -148,22 +149,41 @@ rising_weak qs rising i j le below = let up = rising i j in grind (arith, nat_te
 
 -- ---- all that one qubit is joined to
 
-pub spreads : (joined : Joins) (qs : List ℕ) (q from : ℕ) (span : Span) (before after : Option ℕ) (s t u v : Found)
+-- what q is done with it stays done with
+pub done_stays : (joined : Joins) (qs : List ℕ) (q : ℕ) (s t : Found) (i : ℕ) → Takes joined qs q s t
+    → i < length qs → IsDone joined qs q s i → IsDone joined qs q t i
+done_stays joined qs q s t i takes h done = λ is. done (waits_before joined qs q s t i takes h is)
+
+-- nothing is taken
+pub takes_none : (joined : Joins) (qs : List ℕ) (q : ℕ) (s : Found) → Takes joined qs q s s
+takes_none joined qs q s = record {
+  moves = record {
+    waits = λ i. length s.waits;
+    parents = λ i. length s.parents;
+    listed = λ i c. inl c;
+    keeps = λ i c. c;
+    lists = λ i h is not. absurd cc;
+    counted = λ i. waiting s + length s.next;
+  };
+  each = λ i h. inl (record { waits = λ j. waits_at s i; parent = λ j. parent_at s i });
+}
+
+pub spreads : (joined : Joins) (qs : List ℕ) (q from : ℕ) (span : Span) (others : Others) (other : ℕ → ℕ) (s t u : Found)
     → ((i : ℕ) → i < from → qubit_at qs i < span.start) → Takes joined qs q s t
     → ((i : ℕ) → from ≤ i → i < length qs → qubit_at qs i < span.end → IsDone joined qs q t i) → Takes joined qs q t u
-    → ((i : ℕ) → i < length qs → before ≡ Some (qubit_at qs i) → IsDone joined qs q u i) → Takes joined qs q u v
-    → ((i : ℕ) → i < length qs → after ≡ Some (qubit_at qs i) → IsDone joined qs q v i)
-    → ((i : ℕ) → i < length qs → joined q (qubit_at qs i) ≡ true → CanBeJoined span before after (qubit_at qs i))
-    → Spreads joined qs q s v
-spreads joined qs q from span before after s t u v start one span_done two before_done three after_done findable = record {
-  takes = takes_both joined qs q s u v (takes_both joined qs q s t u one two) three;
-  all = λ i h is.
-      let is_u = waits_before joined qs q u v i three h is in
-      let is_t = waits_before joined qs q t u i two h is_u in
-      let low = start i in
-      let faced = span_done i in
-      let this = before_done i h in
-      let that = after_done i h in
-      let ways = findable i h in
-      grind (arith, nat_tests);
+    → ((i : ℕ) → i < length qs → IsOneOf others other (qubit_at qs i) → IsDone joined qs q u i)
+    → ((i : ℕ) → i < length qs → joined q (qubit_at qs i) ≡ true → CanBeJoined span others other (qubit_at qs i))
+    → Spreads joined qs q s u
+spreads joined qs q from span others other s t u start one span_done two others_done findable = record {
+  takes = takes_both joined qs q s t u one two;
+  all = λ i h is. elim (cases_Bool (joined q (qubit_at qs i))) [
+    | inl linked ↦ elim (findable i h linked) [
+      | inl faced ↦
+          let is_t = waits_before joined qs q t u i two h is in
+          let low = start i in
+          span_done i (grind (arith, nat_tests)) h faced.below is_t
+      | inr is_one ↦ others_done i h is_one is
+    ]
+    | inr apart ↦ apart
+  ];
 }

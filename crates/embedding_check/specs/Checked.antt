@@ -1,5 +1,5 @@
 -- What a check gives: the map with its parents and places on the graph.
-use Rattle.std.specs.Prelude.{◌≡◌, ℕ, ◌≤◌, ◌<◌, ◌⊎◌, List, ◌++◌}
+use Rattle.std.specs.Prelude.{◌≡◌, ℕ, ◌≤◌, ◌<◌, ◌⊎◌, Bool, List, ◌++◌}
 use Rattle.std.specs.List.{AllZip}
 use Rattle.bits_model.specs.declared.output.Entry.{Entry}
 use Rattle.ising_form.specs.Isings.{IsingContent, IsIsing}
@@ -33,8 +33,8 @@ AddsPlaces joined chains row old new =
     → ArePlaces joined chains (before ++ row) new
 
 -- valid chains of a form, with the parents of each and the places of the couplings
-pub record IsLaidOut (joined : Joins) (n : ℕ) (f : IsingContent) (chains up : List (List ℕ)) (pairs : List (ℕ × ℕ)) : Type 0 where
-  pub valid : IsValid joined n f chains
+pub record IsLaidOut (joined : Joins) (exists : ℕ → Bool) (f : IsingContent) (chains up : List (List ℕ)) (pairs : List (ℕ × ℕ)) : Type 0 where
+  pub valid : IsValid joined exists f chains
   pub parents : AllZip (AreParents joined) chains up
   pub places : ArePlaces joined chains f.couplings pairs
   pub form : IsIsing f

@@ -1,5 +1,5 @@
 -- Which fault a map of chains has first.
-use Rattle.std.specs.Prelude.{◌≡◌, ◌≢◌, ℕ, ◌+◌, ◌<◌, ◌≤◌, ◌==◌, List, [], length, take, All, count_by, Option, Some, None}
+use Rattle.std.specs.Prelude.{◌≡◌, ◌≢◌, ℕ, ◌+◌, ◌<◌, ◌≤◌, ◌==◌, Bool, true, List, [], length, take, All, count_by, Option, Some, None}
 use Rattle.chain_map.specs.Valid.{IsCoupled}
 use Rattle.std.specs.List.{slice_index_or}
 use Rattle.bits_model.specs.declared.output.Entry.{Entry}
@@ -28,8 +28,8 @@ pub record IsFirstAt (map : List (List ℕ)) (Good : ℕ → ℕ → Type 0) (v 
 -- ---- what each pass asks of a place
 
 -- the number at the place is a qubit of the graph
-abbrev pub Exists : ℕ → List (List ℕ) → ℕ → ℕ → Type 0
-Exists qubits map u j = number_at map u j < qubits
+abbrev pub Exists : (ℕ → Bool) → List (List ℕ) → ℕ → ℕ → Type 0
+Exists exists map u j = exists (number_at map u j) ≡ true
 
 -- how often a number is listed before a place
 abbrev pub listed_before : ℕ → List (List ℕ) → ℕ → ℕ → ℕ
@@ -55,25 +55,26 @@ pub record IsFilled (f : IsingContent) (map : List (List ℕ)) : Type 0 where
   pub filled : All (λ chain. chain ≢ []) map
 
 -- .. and all their qubits exist
-pub record IsInside (IsQubit : ℕ → Type 0) (f : IsingContent) (map : List (List ℕ)) : Type 0 where
+pub record IsInside (exists : ℕ → Bool) (f : IsingContent) (map : List (List ℕ)) : Type 0 where
   pub listed : IsFilled f map
-  pub within : All (λ chain. All IsQubit chain) map
+  pub within : All (λ chain. All (λ q. exists q ≡ true) chain) map
 
 -- .. and no qubit is listed twice
-pub record IsApart (IsQubit : ℕ → Type 0) (f : IsingContent) (map : List (List ℕ)) : Type 0 where
-  pub inside : IsInside IsQubit f map
+pub record IsApart (exists : ℕ → Bool) (f : IsingContent) (map : List (List ℕ)) : Type 0 where
+  pub inside : IsInside exists f map
   pub once : (q : ℕ) → occurrences q map ≤ 1
 
 -- .. and each chain is connected: a walk inside it leads from its first qubit to each of its own
-pub record IsLinked (joined : Joins) (IsQubit : ℕ → Type 0) (f : IsingContent) (map : List (List ℕ)) : Type 0 where
-  pub apart : IsApart IsQubit f map
+pub record IsLinked (joined : Joins) (exists : ℕ → Bool) (f : IsingContent) (map : List (List ℕ)) : Type 0 where
+  pub apart : IsApart exists f map
   pub connected : All (λ chain. All (IsReached joined chain) chain) map
 
--- what the searches ask of chains: none is empty, all their qubits exist, and none is listed twice
+-- what the searches ask of chains: none is empty, and none of their numbers, all below the number of
+-- qubits, is listed twice
 pub record AreSearchable (qubits : ℕ) (chains : List (List ℕ)) : Type 0 where
   pub filled : (u : ℕ) → u < length chains → 0 < length (chain_of chains u)
   pub within : (u : ℕ) → u < length chains → (j : ℕ) → j < length (chain_of chains u)
-      → Exists qubits chains u j
+      → number_at chains u j < qubits
   pub once : (q : ℕ) → occurrences q chains ≤ 1
 
 -- ---- the faults
@@ -97,25 +98,20 @@ abbrev pub NamesUncoupled : Joins → List Entry → List (List ℕ) → EmbedFa
 NamesUncoupled joined couplings map f =
     (u : ℕ) × (v : ℕ) × (k : ℕ) × IsUncoupled joined couplings map u v k × (f ≡ NoCoupler u v)
 
--- the map breaks what the fault names, first at its place, and keeps all that is asked before that,
--- where these qubits exist and these are joined
-abbrev pub IsFaultAmong : Joins → (ℕ → Type 0) → IsingContent → List (List ℕ) → EmbedFault → Type 0
-IsFaultAmong joined IsQubit f map (ChainCount n) = (n ≡ length map) × (length map ≢ length f.fields)
-IsFaultAmong joined IsQubit f map (EmptyChain v) =
+-- the map breaks what the fault names, first at its place, and keeps all that is asked before that
+abbrev pub IsFault : Joins → (ℕ → Bool) → IsingContent → List (List ℕ) → EmbedFault → Type 0
+IsFault joined exists f map (ChainCount n) = (n ≡ length map) × (length map ≢ length f.fields)
+IsFault joined exists f map (EmptyChain v) =
     IsCounted f map × IsFirstBad (length map) (λ u. chain_of map u ≢ []) v
-IsFaultAmong joined IsQubit f map (NoSuchQubit v q) =
+IsFault joined exists f map (NoSuchQubit v q) =
     IsFilled f map
-    × ((k : ℕ) × IsFirstAt map (λ u j. IsQubit (number_at map u j)) v k × (number_at map v k ≡ q))
-IsFaultAmong joined IsQubit f map (Repeated q) =
-    IsInside IsQubit f map
+    × ((k : ℕ) × IsFirstAt map (Exists exists map) v k × (number_at map v k ≡ q))
+IsFault joined exists f map (Repeated q) =
+    IsInside exists f map
     × ((v : ℕ) × (k : ℕ) × IsFirstAt map (IsNew map) v k × (number_at map v k ≡ q))
-IsFaultAmong joined IsQubit f map (Disconnected v q) =
-    IsApart IsQubit f map
+IsFault joined exists f map (Disconnected v q) =
+    IsApart exists f map
     × ((k : ℕ) × IsFirstAt map (IsReachedAt joined map) v k × (number_at map v k ≡ q))
-IsFaultAmong joined IsQubit f map (NoCoupler u v) =
-    IsLinked joined IsQubit f map × ((k : ℕ) × IsUncoupled joined f.couplings map u v k)
-IsFaultAmong joined IsQubit f map (TooManyNodes n m) = ⊥
-
--- the same, where all numbers below this one are those of qubits
-abbrev pub IsFault : Joins → ℕ → IsingContent → List (List ℕ) → EmbedFault → Type 0
-IsFault joined qubits f map fault = IsFaultAmong joined (λ q. q < qubits) f map fault
+IsFault joined exists f map (NoCoupler u v) =
+    IsLinked joined exists f map × ((k : ℕ) × IsUncoupled joined f.couplings map u v k)
+IsFault joined exists f map (TooManyNodes n m) = ⊥

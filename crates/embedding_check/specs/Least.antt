@@ -1,11 +1,13 @@
 -- The least joined pairs between two chains.
 use Rattle.std.specs.Prelude.{◌≡◌, ℕ, ◌<◌, ◌≤◌, true, List, Option, Some, None}
-use Rattle.chimera_graph.specs.declared.span.Span.{Span}
-use Rattle.chimera_graph.specs.Spans.{IsFaced}
+use Rattle.hardware.specs.declared.span.Span.{Span}
+use Rattle.hardware.specs.Others.{IsFaced}
 use Rattle.chain_map.specs.Chains.{Joins}
 use Rattle.bits_model.specs.Walks.{is_in}
 use Rattle.chain_map.specs.Valid.{IsCrossing}
 use Rattle.embedding_check.specs.Checked.{IsBefore}
+use Rattle.hardware.specs.declared.hardware.Others.{Others}
+use Rattle.hardware.specs.Others.{IsOneOf}
 
 -- the least number for which S holds, where there is one
 abbrev pub IsLeast : (ℕ → Type 0) → Option ℕ → Type 0
@@ -32,6 +34,11 @@ pub record IsFacedAhead (joined : Joins) (a : ℕ) (chain : List ℕ) (span : Sp
 pub record IsNumberedAhead (joined : Joins) (a : ℕ) (chain : List ℕ) (number : Option ℕ) (b : ℕ) : Type 0 where
   pub ahead : IsAhead joined a chain b
   pub is : number ≡ Some b
+
+-- an other of a, above it, that is a qubit of the chain and joined to a
+pub record IsOtherAhead (joined : Joins) (a : ℕ) (chain : List ℕ) (others : Others) (other : ℕ → ℕ) (b : ℕ) : Type 0 where
+  pub ahead : IsAhead joined a chain b
+  pub is : IsOneOf others other b
 
 -- a join from the first chain up to the second
 pub record IsArrow (joined : Joins) (c d : List ℕ) (p : ℕ × ℕ) : Type 0 where

@@ -2,6 +2,7 @@ pub mod Embeddings
 pub mod Distances
 pub mod Checked
 pub mod Faults
+pub mod Fabrics
 pub mod Reached
 pub mod Search
 pub mod Steps

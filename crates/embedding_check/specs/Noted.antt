@@ -1,12 +1,14 @@
 -- The least joined pairs that are noted from one node to later ones.
 use Rattle.std.specs.Prelude.{◌≡◌, ℕ, ◌<◌, ◌≤◌, ◌⊎◌, ◌==◌, true, List, length, Option, Some, None, nat_lt, if◌then◌else◌}
 use Rattle.std.specs.List.{slice_index_or}
-use Rattle.chimera_graph.specs.declared.span.Span.{Span}
-use Rattle.chimera_graph.specs.Spans.{IsFaced}
+use Rattle.hardware.specs.declared.span.Span.{Span}
+use Rattle.hardware.specs.Others.{IsFaced}
 use Rattle.embedding_check.specs.declared.noted.Mark.{Mark}
 use Rattle.chain_map.specs.Chains.{Joins, chain_of}
 use Rattle.embedding_check.specs.Owners.{owner_of}
 use Rattle.embedding_check.specs.Checked.{IsBefore}
+use Rattle.hardware.specs.declared.hardware.Others.{Others}
+use Rattle.hardware.specs.Others.{IsOneOf}
 use Rattle.embedding_check.specs.Least.{IsLeastPair, IsPlaceIn}
 
 -- a pair is noted in the turn of its mark alone
@@ -49,6 +51,11 @@ IsSpanJoin joined owners node a span v p =
 abbrev pub IsNumberJoin : Joins → List ℕ → ℕ → ℕ → Option ℕ → ℕ → ℕ × ℕ → Type 0
 IsNumberJoin joined owners node a number v p =
     (b : ℕ) × (number ≡ Some b) × IsJoin joined owners node a b v p
+
+-- the joins of a to its others
+abbrev pub IsOthersJoin : Joins → List ℕ → ℕ → ℕ → Others → (ℕ → ℕ) → ℕ → ℕ × ℕ → Type 0
+IsOthersJoin joined owners node a others other v p =
+    (b : ℕ) × IsOneOf others other b × IsJoin joined owners node a b v p
 
 -- all joins of a
 abbrev pub IsQubitJoin : Joins → List ℕ → ℕ → ℕ → ℕ → ℕ × ℕ → Type 0

@@ -1,5 +1,5 @@
 //! The check of a map of chains.
-ghost use Rattle.std.specs.Prelude.{◌≡◌, ◌<◌, IfOk, IfErr};
+ghost use Rattle.std.specs.Prelude.{◌≡◌, IfOk, IfErr};
 ghost use Rattle.chain_map.specs.Faults.{IfFault};
 ghost use Rattle.chain_map.specs.Valid.{IsValid};
 ghost use Rattle.embedding_check.specs.Checked.{IsChecked, IsLaidOut};
@@ -12,7 +12,7 @@ use crate::places::all_places;
 use crate::search::sorted_chains;
 use bits_model::ChainList;
 use chain_map::{ChainMap, CheckAnswer, EmbedFault};
-use chimera_graph::Hardware;
+use hardware::Hardware;
 use ising_form::Ising;
 use std::alloc::Global;
 
@@ -25,9 +25,9 @@ fn check_apart<H: Hardware>(
     map: &ChainMap,
 ) -> Result<(), CheckAnswer>
     ensures apart { IfOk result (λ _.
-        IsApart (λ q. q < H.qubits hardware.now) ising.now map.now) }
+        IsApart (H.exists hardware.now) ising.now map.now) }
     ensures fault { IfErr result (λ e. IfFault e
-        (IsFault (H.joined hardware.now) (H.qubits hardware.now) ising.now map.now)) }
+        (IsFault (H.joined hardware.now) (H.exists hardware.now) ising.now map.now)) }
 {
     if map.len() != ising.fields.as_slice().len() {
         return Err(CheckAnswer::Fault(EmbedFault::ChainCount(map.len())));
@@ -36,9 +36,8 @@ fn check_apart<H: Hardware>(
         Some(node) => return Err(CheckAnswer::Fault(EmbedFault::EmptyChain(node))),
         None => {}
     }
-    let qubits = hardware.qubits();
-    check_inside(map, qubits)?;
-    check_once(alloc, map, qubits)
+    check_inside(hardware, map)?;
+    check_once(alloc, map, hardware.qubits())
 }
 
 /// The parents of chains and the places of the couplings, or the first fault.
@@ -49,12 +48,12 @@ fn parents_and_places<H: Hardware>(
     chains: &ChainList,
     sorted: &ChainList,
 ) -> Result<(ChainList, PairList), CheckAnswer>
-    requires apart { IsApart (λ q. q < H.qubits hardware.now) ising.now chains.now }
+    requires apart { IsApart (H.exists hardware.now) ising.now chains.now }
     requires sorted { AreSorted chains.now sorted.now }
-    ensures laid { IfOk result (λ r. IsLaidOut (H.joined hardware.now) (H.qubits hardware.now)
+    ensures laid { IfOk result (λ r. IsLaidOut (H.joined hardware.now) (H.exists hardware.now)
         ising.now chains.now r.0 r.1) }
     ensures fault { IfErr result (λ e. IfFault e
-        (IsFault (H.joined hardware.now) (H.qubits hardware.now) ising.now chains.now)) }
+        (IsFault (H.joined hardware.now) (H.exists hardware.now) ising.now chains.now)) }
 {
     let parents = all_parents(alloc, hardware, chains, sorted)?;
     let places = all_places(alloc, hardware, &ising.couplings, chains, sorted)?;
@@ -77,10 +76,10 @@ fn laid_out<H: Hardware>(
     map: &ChainMap,
 ) -> Result<Layout, CheckAnswer>
     ensures same { IfOk result (λ l. l.chains ≡ map.now) }
-    ensures laid { IfOk result (λ l. IsLaidOut (H.joined hardware.now) (H.qubits hardware.now)
+    ensures laid { IfOk result (λ l. IsLaidOut (H.joined hardware.now) (H.exists hardware.now)
         ising.now l.chains l.parents l.places) }
     ensures fault { IfErr result (λ e. IfFault e
-        (IsFault (H.joined hardware.now) (H.qubits hardware.now) ising.now map.now)) }
+        (IsFault (H.joined hardware.now) (H.exists hardware.now) ising.now map.now)) }
 {
     check_apart(alloc, hardware, ising, map)?;
     let chains = qubits_of(alloc, map)?;
@@ -102,13 +101,13 @@ pub fn check<H: Hardware>(
     map: &ChainMap,
 ) -> Result<Embedded, CheckAnswer>
     ensures valid { IfOk result (λ _.
-        IsValid (H.joined hardware.now) (H.qubits hardware.now) ising map.now) }
+        IsValid (H.joined hardware.now) (H.exists hardware.now) ising map.now) }
     ensures checked { IfOk result
         (IsChecked (H.joined hardware.now) (H.qubits hardware.now) ising map.now) }
     ensures invalid { IfErr result (λ e. IfFault e (λ _.
-        IsValid (H.joined hardware.now) (H.qubits hardware.now) ising map.now → ⊥)) }
+        IsValid (H.joined hardware.now) (H.exists hardware.now) ising map.now → ⊥)) }
     ensures fault { IfErr result (λ e. IfFault e
-        (IsFault (H.joined hardware.now) (H.qubits hardware.now) ising map.now)) }
+        (IsFault (H.joined hardware.now) (H.exists hardware.now) ising map.now)) }
 {
     let layout = laid_out(alloc, hardware, &ising, map)?;
     Ok(Embedded {

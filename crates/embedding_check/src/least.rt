@@ -8,12 +8,13 @@ ghost use Rattle.embedding_check.specs.Least.{
   IsAhead,
   IsFacedAhead,
   IsNumberedAhead,
+  IsOtherAhead,
   IsArrow,
   IsPlaceIn,
 };
 
 use crate::search::position_of;
-use chimera_graph::{Hardware, Span};
+use hardware::{Hardware, Span};
 
 /// The lesser of two numbers.
 fn lesser(x: Option<u32>, y: Option<u32>) -> Option<u32>
@@ -77,6 +78,23 @@ fn numbered<H: Hardware>(hardware: &H, a: u32, chain: &[u32], number: Option<u32
     }
 }
 
+/// The least qubit of a chain that is above a qubit, joined to it, and one of its others.
+fn least_other<H: Hardware>(hardware: &H, a: u32, chain: &[u32]) -> Option<u32>
+    requires qubit { a < H.qubits hardware.now }
+    requires within { All (λ q. q < H.qubits hardware.now) chain.now }
+    requires rising { IsRising chain.now }
+    ensures { IsLeast (IsOtherAhead (H.joined hardware.now) a chain.now
+        (H.others hardware.now a) (H.other hardware.now a)) result }
+{
+    let others = hardware.others(a);
+    let mut least = None;
+    for k in others.start..others.end {
+        let one = numbered(hardware, a, chain, Some(hardware.other(a, k)));
+        least = lesser(least, one);
+    }
+    least
+}
+
 /// The least qubit of a chain that is above a qubit and joined to it.
 fn least_ahead<H: Hardware>(hardware: &H, a: u32, chain: &[u32]) -> Option<u32>
     requires qubit { a < H.qubits hardware.now }
@@ -85,13 +103,9 @@ fn least_ahead<H: Hardware>(hardware: &H, a: u32, chain: &[u32]) -> Option<u32>
     ensures { IsLeast (IsAhead (H.joined hardware.now) a chain.now) result }
 {
     let span = hardware.facing(a);
-    let before = hardware.before(a);
-    let after = hardware.after(a);
     let faced = least_faced(hardware, a, chain, span);
-    let one = numbered(hardware, a, chain, before);
-    let other = numbered(hardware, a, chain, after);
-    let of_line = lesser(one, other);
-    lesser(faced, of_line)
+    let of_others = least_other(hardware, a, chain);
+    lesser(faced, of_others)
 }
 
 /// The least join from a chain up to another.

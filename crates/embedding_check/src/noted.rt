@@ -5,7 +5,7 @@
 //! several qubits of the chain face is gone over for the first of them. The table is emptied for
 //! the next chain without going over it: a mark says in which turn its pair was noted.
 ghost use Rattle.std.specs.Prelude.{◌≡◌, ◌≤◌, ◌<◌, ℕ, true, false, length, All, Option, Some, None, IfOk, IfSome};
-ghost use Rattle.chimera_graph.specs.declared.span.Span.{Span};
+ghost use Rattle.hardware.specs.declared.span.Span.{Span};
 ghost use Rattle.embedding_check.specs.Checked.{IsBefore};
 ghost use Rattle.embedding_check.specs.Least.{IsLeastPair};
 ghost use Rattle.embedding_check.specs.Noted.{
@@ -17,6 +17,7 @@ ghost use Rattle.embedding_check.specs.Noted.{
   IsRunJoin,
   IsSpanJoin,
   IsNumberJoin,
+  IsOthersJoin,
   IsQubitJoin,
   IsChainJoin,
   AreNotedTo,
@@ -25,7 +26,7 @@ ghost use Rattle.embedding_check.specs.Noted.{
 
 use crate::owners::Owned;
 use base::NoMemory;
-use chimera_graph::{Hardware, Span};
+use hardware::{Hardware, Span};
 use std::alloc::Global;
 use std::marker::Model;
 
@@ -297,6 +298,19 @@ impl Noted {
         }
     }
 
+    /// Notes the joins of a qubit to its others.
+    fn note_others<H: Hardware>(&mut self, hardware: &H, owners: &Owned, node: u32, a: u32)
+        requires owners { length owners.now ≡ H.qubits hardware.now }
+        requires qubit { a < H.qubits hardware.now }
+        ensures { Notes (IsOthersJoin (H.joined hardware.now) owners.now node a
+            (H.others hardware.now a) (H.other hardware.now a)) self.old self.new }
+    {
+        let others = hardware.others(a);
+        for k in others.start..others.end {
+            self.note_number(hardware, owners, node, a, Some(hardware.other(a, k)));
+        }
+    }
+
     /// Notes all joins of a qubit. It takes and gives a qubit and a span for whose joins that is done
     /// already.
     fn note_qubit<H: Hardware>(
@@ -315,8 +329,7 @@ impl Noted {
         ensures done { IfSome result (λ p. AreNotedFrom self.new owners.now node p.0 p.1) }
     {
         let next = self.note_faced(hardware, owners, node, a, done);
-        self.note_number(hardware, owners, node, a, hardware.before(a));
-        self.note_number(hardware, owners, node, a, hardware.after(a));
+        self.note_others(hardware, owners, node, a);
         next
     }
 

@@ -1,5 +1,5 @@
 //! The passes over a map, one for each fault.
-ghost use Rattle.std.specs.Prelude.{◌≡◌, ◌≢◌, ◌==◌, ◌+◌, ◌≤◌, ◌<◌, ◌^◌, ℕ, [], length, count_by, All, Option, Some, None, IfOk, OnOk, IfErr, IfSome};
+ghost use Rattle.std.specs.Prelude.{◌≡◌, ◌≢◌, ◌==◌, ◌+◌, ◌≤◌, ◌<◌, ◌^◌, ℕ, true, [], length, count_by, All, Option, Some, None, IfOk, OnOk, IfErr, IfSome};
 ghost use Rattle.std.specs.List.{slice_index_or, AllZip};
 ghost use Rattle.chain_map.specs.Chains.{chain_of, occurrences};
 ghost use Rattle.chain_map.specs.Faults.{IfFault};
@@ -21,7 +21,7 @@ use crate::search::{Parents, parents_of};
 use base::NoMemory;
 use bits_model::ChainList;
 use chain_map::{ChainMap, CheckAnswer, EmbedFault};
-use chimera_graph::Hardware;
+use hardware::{Hardware, is_qubit};
 use std::alloc::Global;
 
 /// The least node with an empty chain.
@@ -36,29 +36,31 @@ pub fn first_empty(map: &ChainMap) -> Option<usize>
     None
 }
 
-/// The first number of a chain that is not below `qubits`.
-fn first_unknown(chain: &[u64], qubits: u32) -> Option<usize>
-    ensures { IsFound (length chain.now) (λ j. slice_index_or chain.now j 0 < qubits) result }
+/// The first number of a chain that is none of a qubit.
+fn first_unknown<H: Hardware>(hardware: &H, chain: &[u64]) -> Option<usize>
+    ensures { IsFound (length chain.now)
+        (λ j. H.exists hardware.now (slice_index_or chain.now j 0) ≡ true) result }
 {
     for k in 0..chain.len() {
-        if chain[k] >= qubits as u64 {
+        if !is_qubit(hardware, chain[k]) {
             return Some(k);
         }
     }
     None
 }
 
-/// Whether each number of a map is a qubit, or the first one that is not.
-pub(crate) fn check_inside(map: &ChainMap, qubits: u32) -> Result<(), CheckAnswer>
+/// Whether each number of a map is one of a qubit, or the first one that is not.
+pub(crate) fn check_inside<H: Hardware>(hardware: &H, map: &ChainMap) -> Result<(), CheckAnswer>
     ensures within { IfOk result (λ _. (u : ℕ) → u < length map.now
-        → (j : ℕ) → j < length (chain_of map.now u) → Exists qubits map.now u j) }
+        → (j : ℕ) → j < length (chain_of map.now u)
+        → Exists (H.exists hardware.now) map.now u j) }
     ensures fault { IfErr result (λ e. IfFault e (λ f. (v : ℕ) × (k : ℕ)
-        × IsFirstAt map.now (Exists qubits map.now) v k
+        × IsFirstAt map.now (Exists (H.exists hardware.now) map.now) v k
         × (f ≡ EmbedFault.NoSuchQubit v (number_at map.now v k)))) }
 {
     for node in 0..map.len() {
         let chain = map.chain(node);
-        match first_unknown(chain, qubits) {
+        match first_unknown(hardware, chain) {
             Some(k) => return Err(CheckAnswer::Fault(EmbedFault::NoSuchQubit(node, chain[k]))),
             None => {}
         }
@@ -103,7 +105,7 @@ fn first_repeated(seen: &mut [bool], map: &ChainMap) -> Option<(usize, usize)>
 /// Whether each qubit occurs once, or the first one that was listed before.
 pub(crate) fn check_once(alloc: Global, map: &ChainMap, qubits: u32) -> Result<(), CheckAnswer>
     requires { (u : ℕ) → u < length map.now → (j : ℕ) → j < length (chain_of map.now u)
-        → Exists qubits map.now u j }
+        → number_at map.now u j < qubits }
     ensures once { IfOk result (λ _. (q : ℕ) → occurrences q map.now ≤ 1) }
     ensures fault { IfErr result (λ e. IfFault e (λ f. (v : ℕ) × (k : ℕ)
         × IsFirstAt map.now (IsNew map.now) v k

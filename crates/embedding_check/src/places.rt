@@ -8,7 +8,7 @@ ghost use Rattle.quad_form.specs.Quads.{IsCoupler};
 ghost use Rattle.chain_map.specs.Chains.{chain_of, occurrences};
 ghost use Rattle.chain_map.specs.Faults.{IfFault};
 ghost use Rattle.embedding_check.specs.Checked.{ArePlaces, AddsPlaces};
-ghost use Rattle.embedding_check.specs.Faults.{NamesUncoupled, AreSearchable, Exists};
+ghost use Rattle.embedding_check.specs.Faults.{NamesUncoupled, AreSearchable, number_at};
 ghost use Rattle.embedding_check.specs.Search.{AreSorted, IsSortedChain};
 ghost use Rattle.embedding_check.specs.Least.{IsPlaceIn};
 ghost use Rattle.embedding_check.specs.Owners.{AreOwners};
@@ -21,7 +21,7 @@ use crate::owners::{Owned, owners_of};
 use base::Items;
 use bits_model::{ChainList, CouplerList, Row};
 use chain_map::{CheckAnswer, EmbedFault};
-use chimera_graph::{Hardware, Span};
+use hardware::{Hardware, Span};
 use std::alloc::Global;
 
 /// How many qubits the chains of a row's couplings have, each with the first node's own chain: what
@@ -51,7 +51,8 @@ fn runs_in(owners: &Owned, span: Span, most: u64) -> u64
 }
 
 /// Whether it costs at most so much to go over all joins of a chain. A span that several of its
-/// qubits face one after another is gone over once, and so is a run of qubits with one owner.
+/// qubits face one after another is gone over once, and so is a run of qubits with one owner. The
+/// others of a qubit count where it faces no span, as those of a line are few.
 fn is_noting_cheap<H: Hardware>(hardware: &H, owners: &Owned, chain: &[u32], cost: u64) -> bool
     requires within { All (λ q. q < H.qubits hardware.now) chain.now }
     requires few { length owners.now < 2 ^ 32 }
@@ -60,7 +61,10 @@ fn is_noting_cheap<H: Hardware>(hardware: &H, owners: &Owned, chain: &[u32], cos
     let mut last = Span { start: 0, end: 0 };
     for qubit in chain {
         let span = hardware.facing(*qubit);
-        let steps = if span == last {
+        let steps = if span.start == span.end {
+            let others = hardware.others(*qubit);
+            (others.end.saturating_sub(others.start) as u64).saturating_add(1)
+        } else if span == last {
             1
         } else {
             runs_in(owners, span, left)
@@ -86,7 +90,7 @@ fn note_row<H: Hardware>(
     requires nodes { All (IsCoupler (length chains.now)) row.now }
     requires some { 0 < length row.now }
     requires within { (u : ℕ) → u < length chains.now → (j : ℕ) → j < length (chain_of chains.now u)
-        → Exists (H.qubits hardware.now) chains.now u j }
+        → number_at chains.now u j < H.qubits hardware.now }
     requires owners { AreOwners chains.now owners.now }
     requires all { length owners.now ≡ H.qubits hardware.now }
     requires len { length noted.old ≡ length chains.now }
@@ -117,7 +121,7 @@ fn place_of<H: Hardware>(
     requires upward { first < second }
     requires node { second < length chains.now }
     requires within { (u : ℕ) → u < length chains.now → (j : ℕ) → j < length (chain_of chains.now u)
-        → Exists (H.qubits hardware.now) chains.now u j }
+        → number_at chains.now u j < H.qubits hardware.now }
     requires len { length sorted.now ≡ length chains.now }
     requires sorted { (u : ℕ) → u < length chains.now
         → IsSortedChain (chain_of chains.now u) (chain_of sorted.now u) }
@@ -149,7 +153,7 @@ fn push_places<H: Hardware>(
 ) -> Result<(), CheckAnswer>
     requires nodes { All (IsCoupler (length chains.now)) row.now }
     requires within { (u : ℕ) → u < length chains.now → (j : ℕ) → j < length (chain_of chains.now u)
-        → Exists (H.qubits hardware.now) chains.now u j }
+        → number_at chains.now u j < H.qubits hardware.now }
     requires len { length sorted.now ≡ length chains.now }
     requires sorted { (u : ℕ) → u < length chains.now
         → IsSortedChain (chain_of chains.now u) (chain_of sorted.now u) }

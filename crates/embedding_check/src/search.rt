@@ -7,6 +7,7 @@ ghost use Rattle.std.specs.Prelude.{◌≡◌, ◌==◌, count_by, ◌+◌, ◌�
 ghost use Rattle.std.specs.List.Sorted.{IsNonDecreasing, IsPermutation};
 ghost use Rattle.bits_model.specs.Walks.{first_of};
 ghost use Rattle.chain_map.specs.Chains.{Joins, chain_of, occurrences};
+ghost use Rattle.hardware.specs.Others.{IsOneOf};
 ghost use Rattle.embedding_check.specs.Reached.{AreFound};
 ghost use Rattle.embedding_check.specs.Search.{
   Found,
@@ -27,7 +28,7 @@ ghost use Rattle.embedding_check.specs.Search.{
 use crate::waiting::Waiting;
 use base::NoMemory;
 use bits_model::ChainList;
-use chimera_graph::Hardware;
+use hardware::Hardware;
 use std::alloc::Global;
 use std::marker::Model;
 use std::mem;
@@ -173,6 +174,30 @@ impl Search {
         }
     }
 
+    /// Reaches the waiting positions of the others of a qubit that are joined to it.
+    fn take_others<H: Hardware>(
+        &mut self,
+        hardware: &H,
+        sorted: &[u32],
+        qubit: u32,
+    ) -> Result<(), NoMemory>
+        requires same { length self.old.waits ≡ length sorted.now }
+        requires qubit { qubit < H.qubits hardware.now }
+        requires within { All (λ q. q < H.qubits hardware.now) sorted.now }
+        requires rising { IsRising sorted.now }
+        ensures takes { OnOk result
+            (Takes (H.joined hardware.now) sorted.now qubit self.old self.new) }
+        ensures done { OnOk result ((i : ℕ) → i < length sorted.now
+            → IsOneOf (H.others hardware.now qubit) (H.other hardware.now qubit) (qubit_at sorted.now i)
+            → IsDone (H.joined hardware.now) sorted.now qubit self.new i) }
+    {
+        let others = hardware.others(qubit);
+        for k in others.start..others.end {
+            self.take_number(hardware, sorted, qubit, Some(hardware.other(qubit, k)))?;
+        }
+        Ok(())
+    }
+
     /// IsReached all waiting positions that are joined to a qubit.
     fn spread<H: Hardware>(
         &mut self,
@@ -189,10 +214,7 @@ impl Search {
         let faced = hardware.facing(qubit);
         let from = position_of(sorted, faced.start);
         self.take_span(hardware, sorted, qubit, from, faced.end)?;
-        let before = hardware.before(qubit);
-        self.take_number(hardware, sorted, qubit, before)?;
-        let after = hardware.after(qubit);
-        self.take_number(hardware, sorted, qubit, after)?;
+        self.take_others(hardware, sorted, qubit)?;
         Ok(())
     }
 

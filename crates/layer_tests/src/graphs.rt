@@ -1,7 +1,8 @@
 //! The joins of two small graphs, against lists made by hand, and the sizes that are taken.
 ghost use Rattle.std.specs.Prelude.{◌<◌};
 
-use chimera_graph::{Chimera, Hardware, Place};
+use chimera_graph::{Chimera, Place};
+use hardware::Hardware;
 
 /// The first qubit at whose join with a the graph and the list differ. The list has each join once.
 fn difference_at<H: Hardware>(graph: &H, joins: &[(u32, u32)], a: u32) -> Option<u32>

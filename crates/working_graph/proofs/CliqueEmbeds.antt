@@ -1,6 +1,6 @@
 -- The chains of a clique, with all qubits but the last as parents and the least joined pair of each
 -- coupling, are what a check of the chains gives.
-use Rattle.working_graph.proofs.Common.{eqb-true, ◌≡◌, ℕ, suc, ◌*◌, ◌/◌, ◌%◌, ◌<◌, ◌≤◌, ◌==◌, List, [], ◌∷◌, length, map, get_or, All, refl, ap, ◌∙◌, arith, mod-lt, AllZip, length-map-range_with_len, div-add-mod', Entry, IsCoupler, IsingContent, IsIsing, Chimera, qubits_of, clique_places, spot_of, down_qubit, along_qubit, clique_chain, clique_of, path_len, cell_of, cells_rise, chain_at_node, clique_valid, AreParents, Embedding, IsEmbedding, IsPlace, IsPlaceOf, IsChecked, checked_embeds, but_last, place_of_spots, clique_place, joined_on, eqb-false, cond_both}
+use Rattle.working_graph.proofs.Common.{nat_lt, exists_below, eqb-true, ◌≡◌, ℕ, suc, ◌*◌, ◌/◌, ◌%◌, ◌<◌, ◌≤◌, ◌==◌, List, [], ◌∷◌, length, map, get_or, All, refl, ap, ◌∙◌, arith, mod-lt, AllZip, length-map-range_with_len, div-add-mod', Entry, IsCoupler, IsingContent, IsIsing, Chimera, qubits_of, clique_places, spot_of, down_qubit, along_qubit, clique_chain, clique_of, path_len, cell_of, cells_rise, chain_at_node, clique_valid, AreParents, Embedding, IsEmbedding, IsPlace, IsPlaceOf, IsChecked, checked_embeds, but_last, place_of_spots, clique_place, joined_on, eqb-false, cond_both}
 use Rattle.working_graph.proofs.CliquePaths.{path_parents, clique_path}
 use Rattle.working_graph.proofs.LeastMeetings.{same_cell, other_cell}
 
@@ -104,6 +104,6 @@ made_checked graph f e kept fits made = record {
 pub made_embeds : (graph : Chimera) (f : IsingContent) (e : Embedding) → IsIsing f
     → length f.fields ≤ clique_places graph → IsMade graph f e → IsEmbedding e
 made_embeds graph f e kept fits made =
-    checked_embeds (joined_on graph) (qubits_of graph) f (clique_of graph (length f.fields)) e
-    graph.shape.few kept (clique_valid graph (length f.fields) fits f kept refl)
+    checked_embeds (joined_on graph) (λ q. nat_lt q (qubits_of graph)) (qubits_of graph) f
+    (clique_of graph (length f.fields)) e graph.shape.few (λ q. exists_below q (qubits_of graph)) kept (clique_valid graph (length f.fields) fits f kept refl)
     (made_checked graph f e kept fits made)

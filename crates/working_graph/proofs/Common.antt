@@ -4,7 +4,8 @@ pub use Rattle.embedding_check.proofs.Common.{IsInside, ordered, ChainCount, Dis
 pub use Rattle.chain_map.specs.declared.spot.Spot.{Spot}
 pub use Rattle.chain_map.proofs.Common.{Plain, nat_tests, Entry, IsCoupler, Chimera, qubits_of, place_of, index_of, IsPlaceIn, chain_of, occurrences, Joins, is_in, IsWalk, end_of, IsConnected, Place, are_joined, min-le_left, IsCrossing, Result, TextFault, words_none, skipped, slice_none, TextAnswer, after_front, err_from_is_err_and, lines_from, line_cut, line_last}
 pub use Rattle.std.proofs.lemmas.Bool.{cond_both, and_from, or_left, or_right, cases_Bool, false_from_ne_true, ne_eqb, eqb-false, ltb-true, ltb-false, and_parts, cases_eq, cases_lt, eqb-true, or_cases, and_left}
-pub use Rattle.working_graph.specs.Index.{AreRising, pair_number, has_pair, coupler_number, numbers_of}
+pub use Rattle.part_lists.specs.Pairs.{AreRising, is_coupler, pair_number}
+pub use Rattle.working_graph.specs.Index.{has_pair, coupler_number, numbers_of}
 pub use Rattle.std.specs.List.{AllZip, list_all, list_any, slice_range, position_or_len, sum_by, range_with_len, count_by}
 pub use Rattle.std.proofs.lemmas.List.FromFn.{length-map-range_with_len, sum_by-map-range_with_len_more, map-range_with_len_more}
 pub use Rattle.std.proofs.lemmas.Nat.{div-add-mod', div-mul-add, mod-mul-add, mul-add-lt}
@@ -17,20 +18,20 @@ unfoldable pub use Rattle.std.specs.List.Sorted.{IsStrictlySortedBy}
 pub use Rattle.std.proofs.lemmas.List.{length-replicate, append-nil, get_or-set_same, get_or-set_other, length-map, length-take, map-append, take_all, append_assoc, length-append, get_or_append_left, get_or-map, get_or-take, take_more, take_rest, length-set}
 pub use Rattle.bits_model.specs.Entries.{node_entries}
 pub use Rattle.bits_model.specs.Output.{entry_cmp, weight_total}
-pub use Rattle.embedding_check.proofs.Faulty.{all_of_places, fault_among_invalid, if_fault}
-pub use Rattle.working_graph.specs.Fabrics.{Fabric, AllExist, IsValidOn}
-pub use Rattle.working_graph.specs.Working.{WorkingGraph, exists_in, joined_in, fabric_of, is_qubit, is_coupler}
-pub use Rattle.working_graph.specs.Faults.{ExistsAt, IsFaultOn}
+pub use Rattle.embedding_check.proofs.Faulty.{all_of_places, fault_invalid, if_fault}
+pub use Rattle.hardware.specs.Fabrics.{Fabric}
+pub use Rattle.embedding_check.specs.Fabrics.{IsValidOn}
+pub use Rattle.working_graph.specs.Working.{WorkingGraph, exists_in, joined_in, fabric_of, is_qubit}
 pub use Rattle.std.proofs.lemmas.List.Folds.{Any-from_list_any, list_all_at, list_any-append, list_any_at, list_any_none}
 pub use Rattle.chimera_graph.proofs.Numbering.{index_below, number_again}
 pub use Rattle.embedding_check.proofs.Sorting.{same_test, at_of_in}
 pub use Rattle.working_graph.specs.Places.{first_across, is_cut, AreTaken, AreMarked, IsParted, are_linked, are_coupled, is_whole, is_free, is_marked, taken_of, taken_places, working_clique, is_cut_at, IsForWorkingClique}
 pub use Rattle.std.proofs.Math.Seq.{get_or-append_seam, take-append_seam}
 pub use Rattle.std.proofs.lemmas.List.Sorted.{list_any-IsPermutation, searched}
-pub use Rattle.working_graph.specs.declared.parts.DeadPart.{DeadPart}
-pub use Rattle.working_graph.specs.DeadLists.{IsPartOf, qubit_at, joined_at}
-unfoldable pub use Rattle.working_graph.specs.DeadLists.{rest_at, part_at, parts_of_words, dead_parts}
+pub use Rattle.part_lists.specs.declared.parts.Part.{Part}
+pub use Rattle.working_graph.specs.DeadLists.{IsPartOf, dead_parts}
 pub use Rattle.chimera_graph.specs.laws.Joins.{are_joined-comm}
+pub use Rattle.chimera_graph.specs.laws.Findable.{exists_below}
 pub use Rattle.whole_text.specs.Tokens.{Word, word, words, is_blank, is_comment, pieces_of_line}
 unfoldable pub use Rattle.whole_text.specs.Tokens.{tokens_of_line, tokens_from, tokens_of}
 pub use Rattle.whole_text.specs.Steps.{◌>>=◌, fault, Fails}

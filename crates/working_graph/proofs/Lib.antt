@@ -4,9 +4,6 @@ pub mod EmptyForm
 pub mod WorkingCliques
 pub mod Meetings
 pub mod FreePlaces
-pub mod FaultsOn
-pub mod LineRows
-pub mod PartRows
 pub mod IndexedParts
 pub mod CliquePaths
 pub mod LeastMeetings

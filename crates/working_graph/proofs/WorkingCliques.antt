@@ -9,7 +9,7 @@
 -- A whole place is a path of the working graph, and two that are taken have a join. That its
 -- numbers are below those of the graph and none is listed twice is so on the whole graph.
 use Rattle.working_graph.proofs.Common.{and_parts, cases_Bool, nat_tests, ◌≡◌, ℕ, zero, suc, ◌+◌, ◌-◌, ◌<◌, ◌≤◌, inl, inr, Bool, true, List, [], ◌∷◌, ◌++◌, length, map, take, get_or, if◌then◌else◌, refl, sym, ap, ◌∙◌, arith, sum_by, range_with_len, sum_by-map-range_with_len_more, cases_lt, append-nil, append_assoc, length-append, get_or_append_left, get_or-append_seam, take-append_seam, sum_by-append, sum_by-cons, Fabric, AreTaken, is_whole, is_free, taken_of, AllPass-from_list_all, cond_both, ◌≢◌, ◌/◌, ◌%◌, ◌==◌, All, count_by, list_any, list_all, length-map, length-take, get_or-map, get_or-take, sum_by-take-le, is_in, IsConnected, IsCoupler, qubits_of, Joins, occurrences, IsCrossing, clique_places, clique_chain, clique_of, path_len, cell_of, occurrences-sum, path_connected, default_free, WorkingGraph, exists_in, joined_in, fabric_of, are_linked, are_coupled, taken_places, working_clique, IsForWorkingClique, joined_in-comm, joined_in-self, Any-from_list_any, is_in_at, ordered, crossing_at}
-use Rattle.working_graph.proofs.EmptyForm.{clique_once, clique_within}
+use Rattle.working_graph.proofs.EmptyForm.{clique_once}
 
 -- ---- what is taken
 
@@ -184,22 +184,18 @@ working_clique_valid w nodes fits =
     λ P is v d inside.
     let low : v < nodes = omega (arith, inside, len) in
     rw (chain_at w nodes v d fits low) (is v low) in
-    λ f ising counted. (
-      record {
-        counted = len ∙ sym counted;
-        filled = each (λ chain. chain ≢ []) (λ v low none. omega (arith, long v low, ap length none));
-        within = each (λ chain. All (λ q. q < qubits_of graph) chain)
-            (λ v low. clique_within graph (on_place w v) (below v low));
-        once = working_once w nodes;
-        connected = each (IsConnected (joined_in w)) (λ v low. whole_connected (fabric_of w) (F v) (whole v low));
-        coupled = λ k d inside.
-            let c = get_or f.couplings k d in
-            let is : IsCoupler nodes c = rw (← counted) (ising.couplings k d inside) in
-            let low : c.first < nodes = omega (arith, is.upward, is.within) in
-            let crossing = coupled_crossing w (F c.first) (F c.second)
-            (taken.coupled c.first c.second is.upward (omega (arith, is.within, fits))) in
-            (crossing.0, rw (chain_at w nodes c.second [] fits is.within, chain_at w nodes c.first [] fits low) crossing.1);
-      },
-      each (λ chain. All (λ q. exists_in w q ≡ true) chain)
-          (λ v low. whole_exists (fabric_of w) (F v) (whole v low)),
-    )
+    λ f ising counted. record {
+      counted = len ∙ sym counted;
+      filled = each (λ chain. chain ≢ []) (λ v low none. omega (arith, long v low, ap length none));
+      within = each (λ chain. All (λ q. exists_in w q ≡ true) chain)
+          (λ v low. whole_exists (fabric_of w) (F v) (whole v low));
+      once = working_once w nodes;
+      connected = each (IsConnected (joined_in w)) (λ v low. whole_connected (fabric_of w) (F v) (whole v low));
+      coupled = λ k d inside.
+          let c = get_or f.couplings k d in
+          let is : IsCoupler nodes c = rw (← counted) (ising.couplings k d inside) in
+          let low : c.first < nodes = omega (arith, is.upward, is.within) in
+          let crossing = coupled_crossing w (F c.first) (F c.second)
+          (taken.coupled c.first c.second is.upward (omega (arith, is.within, fits))) in
+          (crossing.0, rw (chain_at w nodes c.second [] fits is.within, chain_at w nodes c.first [] fits low) crossing.1);
+    }

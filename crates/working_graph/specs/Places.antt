@@ -5,10 +5,11 @@ use Rattle.bits_model.specs.Walks.{is_in}
 use Rattle.ising_form.specs.Isings.{IsingContent, IsIsing}
 use Rattle.chain_map.specs.Chains.{Joins}
 use Rattle.chain_map.specs.Cliques.{clique_places, down_qubit, along_qubit, clique_chain}
-use Rattle.working_graph.specs.Fabrics.{Fabric, IsValidOn}
+use Rattle.hardware.specs.Fabrics.{Fabric}
+use Rattle.embedding_check.specs.Fabrics.{IsValidOn}
 use Rattle.chimera_graph.specs.declared.chimera.Chimera.{Chimera}
-use Rattle.working_graph.specs.Working.{WorkingGraph, is_coupler, fabric_of}
-use Rattle.working_graph.specs.Index.{pair_number}
+use Rattle.working_graph.specs.Working.{WorkingGraph, fabric_of}
+use Rattle.part_lists.specs.Pairs.{is_coupler, pair_number}
 
 -- each next two are joined
 abbrev pub are_linked : Joins → List ℕ → Bool

@@ -1,32 +1,28 @@
 -- The working graph: what is left of a Chimera graph without its dead qubits and couplers.
-use Rattle.std.specs.Prelude.{ℕ, ◌==◌, Bool, false, not, ◌&&◌, ◌||◌, List, [], nat_lt}
+use Rattle.std.specs.Prelude.{ℕ, ◌==◌, Bool, false, not, ◌&&◌, List, [], nat_lt}
 use Rattle.std.specs.List.{list_any}
 use Rattle.chimera_graph.specs.declared.chimera.Chimera.{Chimera}
 use Rattle.chimera_graph.specs.Graph.{qubits_of, place_of}
 use Rattle.chimera_graph.specs.Places.{are_joined}
 use Rattle.chain_map.specs.Chains.{Joins}
-use Rattle.working_graph.specs.declared.parts.DeadPart.{DeadPart}
-use Rattle.working_graph.specs.declared.parts.DeadPart.TheVariants.{Qubit, Coupler}
-use Rattle.working_graph.specs.Fabrics.{Fabric}
+use Rattle.part_lists.specs.declared.parts.Part.{Part}
+use Rattle.part_lists.specs.declared.parts.Part.TheVariants.{Qubit, Coupler}
+use Rattle.part_lists.specs.Pairs.{is_coupler}
+use Rattle.hardware.specs.Fabrics.{Fabric}
 
 -- a graph, and its qubits and couplers that are dead
 pub record WorkingGraph : Type 0 where
   pub graph : Chimera
-  pub parts : List DeadPart
+  pub parts : List Part
 
 -- nothing of a graph is dead
 abbrev pub whole_graph : Chimera → WorkingGraph
 whole_graph graph = record { graph = graph; parts = [] }
 
 -- it is this dead qubit
-abbrev pub is_qubit : ℕ → DeadPart → Bool
+abbrev pub is_qubit : ℕ → Part → Bool
 is_qubit q (Qubit a) = a == q
 is_qubit q (Coupler a b) = false
-
--- it is the dead coupler of these two, in either order
-abbrev pub is_coupler : ℕ → ℕ → DeadPart → Bool
-is_coupler p q (Qubit a) = false
-is_coupler p q (Coupler a b) = ((a == p) && (b == q)) || ((a == q) && (b == p))
 
 -- a qubit of the working graph is a qubit of the graph that is not dead
 abbrev pub exists_in : WorkingGraph → ℕ → Bool

@@ -5,23 +5,23 @@ ghost use Rattle.working_graph.specs.DeadLists.{IsPartOf};
 ghost use Rattle.working_graph.specs.Index.{coupler_number, numbers_of};
 ghost use Rattle.working_graph.specs.Working.{is_qubit};
 
-use crate::parts::DeadPart;
-use crate::working::pair_number;
 use base::NoMemory;
-use chimera_graph::{Chimera, Hardware};
+use chimera_graph::Chimera;
+use hardware::Hardware;
+use part_lists::{Part, pair_number};
 use std::alloc::Global;
 use std::cmp::{max, min};
 
 /// Marks a part, where it is a qubit.
-fn mark(marks: &mut [bool], part: DeadPart)
+fn mark(marks: &mut [bool], part: Part)
     requires { (q : ℕ) → is_qubit q part ≡ true → q < length marks.old }
     ensures len { length marks.new ≡ length marks.old }
     ensures marked { (q : ℕ) → slice_index_or marks.new q false
         ≡ (slice_index_or marks.old q false || is_qubit q part) }
 {
     match part {
-        DeadPart::Qubit(qubit) => marks[qubit as usize] = true,
-        DeadPart::Coupler(_, _) => {}
+        Part::Qubit(qubit) => marks[qubit as usize] = true,
+        Part::Coupler(_, _) => {}
     }
 }
 
@@ -29,7 +29,7 @@ fn mark(marks: &mut [bool], part: DeadPart)
 pub(crate) fn marks_of(
     alloc: Global,
     graph: &Chimera,
-    parts: &[DeadPart],
+    parts: &[Part],
 ) -> Result<Vec<bool>, NoMemory>
     requires { All (IsPartOf graph.now) parts.now }
     ensures { IfOk result (λ marks. (q : ℕ)
@@ -43,12 +43,12 @@ pub(crate) fn marks_of(
 }
 
 /// Adds the number of a part, where it is a coupler.
-fn push_number(numbers: &mut Vec<u64>, part: DeadPart) -> Result<(), NoMemory>
+fn push_number(numbers: &mut Vec<u64>, part: Part) -> Result<(), NoMemory>
     ensures { OnOk result (numbers.new.items ≡ numbers.old.items ++ coupler_number part) }
 {
     match part {
-        DeadPart::Qubit(_) => Ok(()),
-        DeadPart::Coupler(a, b) => {
+        Part::Qubit(_) => Ok(()),
+        Part::Coupler(a, b) => {
             numbers.push(pair_number(min(a, b), max(a, b)))?;
             Ok(())
         }
@@ -56,7 +56,7 @@ fn push_number(numbers: &mut Vec<u64>, part: DeadPart) -> Result<(), NoMemory>
 }
 
 /// The numbers of the couplers among these parts.
-pub(crate) fn numbers_of(alloc: Global, parts: &[DeadPart]) -> Result<Vec<u64>, NoMemory>
+pub(crate) fn numbers_of(alloc: Global, parts: &[Part]) -> Result<Vec<u64>, NoMemory>
     ensures { IfOk result (λ numbers. numbers.items ≡ numbers_of parts.now) }
 {
     let mut numbers = Vec::new(alloc);

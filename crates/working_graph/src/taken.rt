@@ -16,7 +16,7 @@ use crate::parting::is_parted;
 use crate::working::Working;
 use base::NoMemory;
 use chain_map::{ChainMap, clique_places, diagonal_of, fill_chain, path_qubit, spot_of};
-use chimera_graph::Hardware;
+use hardware::Hardware;
 use std::alloc::Global;
 
 /// Whether all qubits of a place work. They are looked at on the way, without a list of them.

@@ -14,8 +14,9 @@ use crate::clique_chains::{clique_chains, path_parents};
 use crate::clique_places::all_places;
 use bits_model::ChainList;
 use chain_map::{CheckAnswer, EmbedFault, clique_places};
-use chimera_graph::{Chimera, Hardware};
+use chimera_graph::Chimera;
 use embedding_check::{Embedded, PairList};
+use hardware::Hardware;
 use ising_form::Ising;
 use std::alloc::Global;
 

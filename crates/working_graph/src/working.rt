@@ -1,12 +1,12 @@
 //! What is left of a Chimera graph.
-ghost use Rattle.std.specs.Prelude.{◌≡◌, ◌==◌, false};
+ghost use Rattle.std.specs.Prelude.{◌≡◌, false};
 ghost use Rattle.std.specs.List.{list_any, slice_index_or};
-ghost use Rattle.working_graph.specs.Index.{pair_number, AreRising};
+ghost use Rattle.part_lists.specs.Pairs.{AreRising};
 
 use crate::index::{marks_of, numbers_of};
-use crate::parts::DeadPart;
 use base::NoMemory;
-use chimera_graph::{Chimera, Hardware};
+use chimera_graph::Chimera;
+use part_lists::{Part, has_number, pair_number};
 use radix_sort::sorted_keys;
 use std::alloc::Global;
 use std::cmp::{max, min};
@@ -19,7 +19,7 @@ use std::marker::Model;
 #[derive(Drop)]
 pub struct Working {
     graph: Chimera,
-    parts: Vec<DeadPart>,
+    parts: Vec<Part>,
     dead: Vec<bool>,
     cut: Vec<u64>,
 }
@@ -35,13 +35,6 @@ impl Model for Working {
     ghost invariant = { λ w. IsIndex w.parts.items w.dead.items w.cut.items };
 }
 
-/// The number of a pair.
-pub(crate) fn pair_number(low: u32, high: u32) -> u64
-    ensures { result ≡ pair_number low high }
-{
-    u64::from(low) * (1 << 32) + u64::from(high)
-}
-
 /// Whether a qubit is marked; where there are too few marks, it is not.
 fn is_marked(marks: &[bool], qubit: u32) -> bool
     ensures { result ≡ slice_index_or marks.now qubit false }
@@ -52,27 +45,13 @@ fn is_marked(marks: &[bool], qubit: u32) -> bool
     }
 }
 
-/// Whether a number is one of numbers in order.
-fn has_number(numbers: &[u64], number: u64) -> bool
-    requires { AreRising numbers.now }
-    ensures { result ≡ list_any (λ n. n == number) numbers.now }
-{
-    if numbers.is_empty() {
-        return false;
-    }
-    match numbers.binary_search(&number) {
-        Ok(_) => true,
-        Err(_) => false,
-    }
-}
-
 impl Working {
     ghost use Rattle.std.specs.Prelude.{◌<◌, ◌^◌, ℕ, All, IfOk};
-    ghost use Rattle.chimera_graph.specs.Graph.{qubits_of};
     ghost use Rattle.working_graph.specs.Index.{has_pair};
     ghost use Rattle.working_graph.specs.DeadLists.{IsPartOf};
     ghost use Rattle.working_graph.specs.Places.{is_cut};
-    ghost use Rattle.working_graph.specs.Working.{exists_in, whole_graph};
+    ghost use Rattle.working_graph.specs.Working.{is_qubit, whole_graph};
+
     /// The whole graph: nothing of it is dead.
     pub fn whole(alloc: Global, graph: Chimera) -> Working
         ensures { result ≡ whole_graph graph }
@@ -89,7 +68,7 @@ impl Working {
     pub(crate) fn without(
         alloc: Global,
         graph: Chimera,
-        parts: Vec<DeadPart>,
+        parts: Vec<Part>,
     ) -> Result<Working, NoMemory>
         requires { All (IsPartOf graph) parts.items }
         ensures { IfOk result (λ w. w ≡ record { graph = graph; parts = parts.items }) }
@@ -112,12 +91,11 @@ impl Working {
         self.graph
     }
 
-    /// Whether a qubit of the graph is one of the working graph.
-    pub fn exists(&self, qubit: u32) -> bool
-        requires { qubit < qubits_of self.now.graph }
-        ensures { result ≡ exists_in self.now qubit }
+    /// Whether a qubit is dead.
+    pub(crate) fn is_dead(&self, qubit: u32) -> bool
+        ensures { result ≡ list_any (is_qubit qubit) self.now.parts }
     {
-        !is_marked(&self.dead, qubit)
+        is_marked(&self.dead, qubit)
     }
 
     /// Whether the coupler of two qubits is dead.

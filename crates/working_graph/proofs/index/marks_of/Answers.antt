@@ -1,7 +1,7 @@
 use Rattle.std.proofs.Common.{ℕ, ◌≡◌, length, drop, ap, arith}
 use Rattle.std.proofs.lemmas.List.Folds.{list_any_more}
 use Rattle.std.proofs.Math.Seq.{take-append_seam}
-use Rattle.working_graph.specs.declared.parts.DeadPart.TheVariants.{Qubit}
+use Rattle.part_lists.specs.declared.parts.Part.TheVariants.{Qubit}
 use Rattle.working_graph.specs.Working.{is_qubit}
 use Rattle.working_graph.proofs.IndexedParts.{dead_below}
 use Rattle.working_graph.proofs.index.marks_of.Goals as goal

@@ -1,6 +1,6 @@
 use Rattle.std.proofs.Common.{[], take, get_or}
 use Rattle.std.proofs.lemmas.List.{take_more, flat_map_more}
-use Rattle.working_graph.specs.declared.parts.DeadPart.TheVariants.{Qubit}
+use Rattle.part_lists.specs.declared.parts.Part.TheVariants.{Qubit}
 use Rattle.working_graph.proofs.Common.{coupler_number}
 use Rattle.working_graph.proofs.index.numbers_of.Goals as goal
 

@@ -1,0 +1,4 @@
+pub mod Common
+pub mod LineRows
+pub mod PartRows
+pub mod Rising
