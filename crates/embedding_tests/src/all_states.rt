@@ -12,6 +12,7 @@ use chain_map::{ChainMap, CheckAnswer, clique_map};
 use chimera_graph::Chimera;
 use embedding_check::{Embedded, check};
 use form_steps::{Layer, Lowered};
+use hardware::Hardware;
 use ising_form::Ising;
 use std::alloc::Global;
 use std::test::Fail;
@@ -20,11 +21,11 @@ use working_graph::clique_embedded;
 /// How many models and couplings there were, and how many states with some broken and some tied
 /// chain.
 #[derive(Clone, Copy, Debug, PartialEq, Eq)]
-struct Seen {
-    models: u64,
-    couplings: u64,
-    broken: u64,
-    tied: u64,
+pub(crate) struct Seen {
+    pub models: u64,
+    pub couplings: u64,
+    pub broken: u64,
+    pub tied: u64,
 }
 
 const NOTHING: Seen = Seen {
@@ -251,9 +252,9 @@ fn seen_of_answer(
 }
 
 /// What is seen of a drawn form on the chains of a map, if the map is valid.
-fn seen_on(
+fn seen_on<H: Hardware>(
     alloc: Global,
-    graph: &Chimera,
+    graph: &H,
     form: Option<Ising>,
     map: &ChainMap,
 ) -> Result<Outcome, NoMemory>
@@ -267,9 +268,9 @@ fn seen_on(
 }
 
 /// What is seen of a drawn form on the chains of a map.
-fn seen_of_drawn_on(
+fn seen_of_drawn_on<H: Hardware>(
     alloc: Global,
-    graph: &Chimera,
+    graph: &H,
     dice: &mut Dice,
     nodes: u32,
     map: &ChainMap,
@@ -280,9 +281,9 @@ fn seen_of_drawn_on(
 
 /// What is seen of a drawn form on chains that grow. Forms with too few couplings to join all nodes
 /// are refused.
-fn seen_of_drawn(
+fn seen_of_drawn<H: Hardware>(
     alloc: Global,
-    graph: &Chimera,
+    graph: &H,
     dice: &mut Dice,
     nodes: u32,
 ) -> Result<Outcome, NoMemory> {
@@ -295,16 +296,17 @@ fn seen_of_drawn(
 }
 
 /// What is seen of ten models of one to four nodes on a graph.
-fn seen_of_ten(alloc: Global, shape: (u32, u32, u32), seed: u64) -> Result<Option<Seen>, NoMemory> {
-    let Some(graph) = Chimera::new(shape.0, shape.1, shape.2) else {
-        return Ok(None);
-    };
+pub(crate) fn seen_of_ten<H: Hardware>(
+    alloc: Global,
+    graph: &H,
+    seed: u64,
+) -> Result<Option<Seen>, NoMemory> {
     let mut dice = Dice { state: seed };
     let mut seen = NOTHING;
     for _ in 0..20_000 {
         if seen.models < 10 {
             let nodes = 1 + (seen.models % 4) as u32;
-            match seen_of_drawn(alloc, &graph, &mut dice, nodes)? {
+            match seen_of_drawn(alloc, graph, &mut dice, nodes)? {
                 Outcome::Held(more) => seen.add(more),
                 Outcome::Refused => {}
                 Outcome::Failed => return Ok(None),
@@ -317,7 +319,8 @@ fn seen_of_ten(alloc: Global, shape: (u32, u32, u32), seed: u64) -> Result<Optio
 #[test]
 fn all_states_of_drawn_models(rt: HostRuntime) -> Result<(), Fail> {
     for (seed, shape) in [(1, (1, 1, 4)), (2, (1, 2, 2)), (3, (2, 2, 2))] {
-        let seen = seen_of_ten(rt.alloc(), shape, seed)?.ok_or("not as read")?;
+        let graph = Chimera::new(shape.0, shape.1, shape.2).ok_or("no graph")?;
+        let seen = seen_of_ten(rt.alloc(), &graph, seed)?.ok_or("not as read")?;
         assert!(rt; seen.models == 10 && seen.couplings > 10, "{seen:?}");
         assert!(rt; seen.broken > 500 && seen.tied > 100, "{seen:?}");
     }

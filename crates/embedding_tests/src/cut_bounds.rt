@@ -13,6 +13,7 @@ use chimera_graph::Chimera;
 use cut_chains::{CutChains, CutLink};
 use embedding_check::{Embedded, check};
 use form_steps::Lowered;
+use hardware::Hardware;
 use ising_form::Ising;
 use std::alloc::Global;
 use std::test::Fail;
@@ -200,7 +201,12 @@ fn seen_of(alloc: Global, embedded: &Embedded, map: &ChainMap) -> Result<Outcome
 }
 
 /// What is seen of a form on the chains of a map.
-fn seen_on(alloc: Global, graph: &Chimera, form: Ising, map: &ChainMap) -> Result<Outcome, NoMemory>
+fn seen_on<H: Hardware>(
+    alloc: Global,
+    graph: &H,
+    form: Ising,
+    map: &ChainMap,
+) -> Result<Outcome, NoMemory>
     requires { IsSmall form }
 {
     match check(alloc, graph, form, map) {
@@ -211,9 +217,9 @@ fn seen_on(alloc: Global, graph: &Chimera, form: Ising, map: &ChainMap) -> Resul
 }
 
 /// What is seen of a drawn form on the chains of a map.
-fn seen_of_form(
+fn seen_of_form<H: Hardware>(
     alloc: Global,
-    graph: &Chimera,
+    graph: &H,
     form: Option<Ising>,
     map: &ChainMap,
 ) -> Result<Outcome, NoMemory>
@@ -226,9 +232,9 @@ fn seen_of_form(
 }
 
 /// The same of a form that is drawn.
-fn seen_of_drawn_on(
+fn seen_of_drawn_on<H: Hardware>(
     alloc: Global,
-    graph: &Chimera,
+    graph: &H,
     dice: &mut Dice,
     nodes: u32,
     map: &ChainMap,
@@ -238,9 +244,9 @@ fn seen_of_drawn_on(
 }
 
 /// What is seen of a drawn form on chains that grow.
-fn seen_of_drawn(
+fn seen_of_drawn<H: Hardware>(
     alloc: Global,
-    graph: &Chimera,
+    graph: &H,
     dice: &mut Dice,
     nodes: u32,
 ) -> Result<Outcome, NoMemory> {
@@ -249,15 +255,16 @@ fn seen_of_drawn(
 }
 
 /// How many states of ten forms of one to three nodes lie below what they are read as.
-fn below_in_ten(alloc: Global, shape: (u32, u32, u32), seed: u64) -> Result<Option<u64>, NoMemory> {
-    let Some(graph) = Chimera::new(shape.0, shape.1, shape.2) else {
-        return Ok(None);
-    };
+pub(crate) fn below_in_ten<H: Hardware>(
+    alloc: Global,
+    graph: &H,
+    seed: u64,
+) -> Result<Option<u64>, NoMemory> {
     let mut dice = Dice { state: seed };
     let (mut forms, mut count): (u32, u64) = (0, 0);
     for _ in 0..20_000 {
         if forms < 10 {
-            match seen_of_drawn(alloc, &graph, &mut dice, 1 + forms % 3)? {
+            match seen_of_drawn(alloc, graph, &mut dice, 1 + forms % 3)? {
                 Outcome::Held(below) => {
                     forms += 1;
                     count = count.wrapping_add(below);
@@ -279,7 +286,8 @@ fn least_states_have_no_broken_chain(rt: HostRuntime) -> Result<(), Fail> {
         (4, (2, 2, 1)),
     ];
     for (seed, shape) in rows {
-        let below = below_in_ten(rt.alloc(), shape, seed)?.ok_or("not as read")?;
+        let graph = Chimera::new(shape.0, shape.1, shape.2).ok_or("no graph")?;
+        let below = below_in_ten(rt.alloc(), &graph, seed)?.ok_or("not as read")?;
         assert!(rt; below > 0, "{shape:?}");
     }
     Ok(())

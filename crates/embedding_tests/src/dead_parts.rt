@@ -5,27 +5,28 @@ use crate::plain::{first_empty, first_fault, parent, place};
 use crate::random::{Dice, random_map};
 use base::NoMemory;
 use chain_map::{ChainMap, CheckAnswer, EmbedFault};
-use chimera_graph::{Chimera, Hardware};
-use embedding_check::Embedded;
+use chimera_graph::Chimera;
+use embedding_check::{Embedded, check};
+use hardware::Hardware;
 use std::alloc::Global;
 use std::test::Fail;
-use working_graph::{Working, check_working, clique_working, read_dead};
+use working_graph::{Working, clique_working, read_dead};
 
 // ---- dead lists
 
-/// Dead parts of a graph of fewer than 64 qubits: a bit for each qubit, and the couplers.
+/// Parts of a graph of fewer than 64 qubits: a bit for each qubit, and the couplers.
 #[derive(Drop)]
-struct Parts {
-    qubits: u64,
-    couplers: Vec<(u32, u32)>,
+pub(crate) struct Parts {
+    pub qubits: u64,
+    pub couplers: Vec<(u32, u32)>,
 }
 
 impl Parts {
-    fn names(&self, qubit: u32) -> bool {
+    pub(crate) fn names(&self, qubit: u32) -> bool {
         qubit < 64 && (self.qubits >> qubit) % 2 == 1
     }
 
-    fn cuts(&self, a: u32, b: u32) -> bool {
+    pub(crate) fn cuts(&self, a: u32, b: u32) -> bool {
         for coupler in self.couplers.iter() {
             if *coupler == (a, b) || *coupler == (b, a) {
                 return true;
@@ -91,8 +92,8 @@ fn put_parts(text: &mut Vec<u8>, parts: &Parts) -> Result<(), NoMemory> {
     Ok(())
 }
 
-/// The dead list that names these parts, the couplers first.
-fn text_of(alloc: Global, parts: &Parts) -> Result<Vec<u8>, NoMemory> {
+/// The list that names these parts, the couplers first.
+pub(crate) fn text_of(alloc: Global, parts: &Parts) -> Result<Vec<u8>, NoMemory> {
     let mut text = Vec::new(alloc);
     put_parts(&mut text, parts)?;
     Ok(text)
@@ -279,26 +280,26 @@ fn has_clique(
 // ---- maps
 
 /// Whether these are the parents of a chain, from its second qubit on.
-fn are_parents(working: &Working, chain: &[u64], parents: &[u32]) -> bool {
+fn are_parents<H: Hardware>(hardware: &H, chain: &[u64], parents: &[u32]) -> bool {
     for (at, qubit) in chain.iter().enumerate() {
         let found = if at == 0 {
             None
         } else {
             parents.get(at - 1).map(|p| *p as u64)
         };
-        if at > 0 && parent(working, chain, at, *qubit) != found {
+        if at > 0 && parent(hardware, chain, at, *qubit) != found {
             return false;
         }
     }
     parents.len() < chain.len()
 }
 
-fn has_parents(working: &Working, map: &ChainMap, embedded: &Embedded) -> bool {
+fn has_parents<H: Hardware>(hardware: &H, map: &ChainMap, embedded: &Embedded) -> bool {
     for node in 0..map.len() {
         if embedded.parents().len() <= node {
             return false;
         }
-        if !are_parents(working, map.chain(node), embedded.parents().list(node)) {
+        if !are_parents(hardware, map.chain(node), embedded.parents().list(node)) {
             return false;
         }
     }
@@ -306,19 +307,29 @@ fn has_parents(working: &Working, map: &ChainMap, embedded: &Embedded) -> bool {
 }
 
 /// Whether the coupling of a number has its place between two chains.
-fn has_place(working: &Working, first: &[u64], second: &[u64], found: Option<&(u32, u32)>) -> bool {
+fn has_place<H: Hardware>(
+    hardware: &H,
+    first: &[u64],
+    second: &[u64],
+    found: Option<&(u32, u32)>,
+) -> bool {
     let found = found.map(|p| (p.0 as u64, p.1 as u64));
-    found.is_some() && place(working, first, second) == found
+    found.is_some() && place(hardware, first, second) == found
 }
 
-fn has_places(working: &Working, map: &ChainMap, couplings: &[Row], embedded: &Embedded) -> bool {
+fn has_places<H: Hardware>(
+    hardware: &H,
+    map: &ChainMap,
+    couplings: &[Row],
+    embedded: &Embedded,
+) -> bool {
     for (k, (first, second, _)) in couplings.iter().enumerate() {
         let (u, v) = (*first as usize, *second as usize);
         if u >= map.len() || v >= map.len() {
             return false;
         }
         let found = embedded.places().as_slice().get(k);
-        if !has_place(working, map.chain(u), map.chain(v), found) {
+        if !has_place(hardware, map.chain(u), map.chain(v), found) {
             return false;
         }
     }
@@ -347,8 +358,8 @@ fn first_dead(parts: &Parts, qubits: u32, map: &ChainMap) -> Option<EmbedFault> 
 
 /// Whether a map was taken, where this is the fault that a plain search finds; none where the answer
 /// is another.
-fn taken(
-    working: &Working,
+pub(crate) fn taken<H: Hardware>(
+    hardware: &H,
     couplings: &[Row],
     map: &ChainMap,
     wanted: Option<EmbedFault>,
@@ -357,8 +368,8 @@ fn taken(
     let (alike, is_taken) = match answer {
         Ok(embedded) => (
             wanted.is_none()
-                && has_parents(working, map, embedded)
-                && has_places(working, map, couplings, embedded),
+                && has_parents(hardware, map, embedded)
+                && has_places(hardware, map, couplings, embedded),
             true,
         ),
         Err(CheckAnswer::Fault(fault)) => (wanted == Some(*fault), false),
@@ -368,7 +379,7 @@ fn taken(
 }
 
 /// The couplings of up to three nodes, in a row.
-const IN_A_ROW: [Row; 2] = [(0, 1, 1), (1, 2, 1)];
+pub(crate) const IN_A_ROW: [Row; 2] = [(0, 1, 1), (1, 2, 1)];
 
 /// The same of a map of up to three nodes, one after another of which are coupled.
 fn map_taken(
@@ -385,7 +396,7 @@ fn map_taken(
     let Some(form) = coupled_form(alloc, nodes, couplings)? else {
         return Ok(None);
     };
-    let answer = check_working(alloc, working, form, map);
+    let answer = check(alloc, working, form, map);
     Ok(taken(working, couplings, map, wanted, &answer))
 }
 

@@ -7,7 +7,7 @@ use crate::plain::meets;
 use crate::random::Dice;
 use base::NoMemory;
 use chain_map::ChainMap;
-use chimera_graph::Hardware;
+use hardware::Hardware;
 use ising_form::Ising;
 use std::alloc::Global;
 

@@ -1,6 +1,6 @@
 //! Tests of chain maps on graphs with dead parts, over random maps, against a plain search. And tests
-//! of the layers of chains, over all states of small models, against plain arithmetic, and of the
-//! sort of keys, against that of std.
+//! of the layers of chains, over all states of small models, against plain arithmetic, of graphs that
+//! are given as lists, and of the sort of keys, against that of std.
 //!
 //! The crate is a library without items. It stands above what it tests, so that no library is proved
 //! once more with its tests.
@@ -20,6 +20,8 @@ mod drawn;
 mod forms;
 #[cfg(test)]
 mod keys;
+#[cfg(test)]
+mod listed;
 #[cfg(test)]
 mod plain;
 #[cfg(test)]

@@ -1,10 +1,15 @@
 //! What a map is on a graph, by a plain search over walks and pairs.
 use crate::forms::Row;
 use chain_map::{ChainMap, EmbedFault};
-use chimera_graph::Hardware;
+use hardware::Hardware;
+
+/// Whether a number is one of a qubit.
+pub(crate) fn exists<H: Hardware>(hardware: &H, number: u64) -> bool {
+    number < hardware.qubits() as u64 && hardware.exists(number as u32)
+}
 
 /// Whether two numbers are joined qubits.
-fn are_joined<H: Hardware>(hardware: &H, a: u64, b: u64) -> bool {
+pub(crate) fn are_joined<H: Hardware>(hardware: &H, a: u64, b: u64) -> bool {
     let qubits = hardware.qubits() as u64;
     a < qubits && b < qubits && hardware.joined(a as u32, b as u32)
 }
@@ -116,18 +121,18 @@ pub(crate) fn first_empty(map: &ChainMap) -> Option<EmbedFault> {
 }
 
 /// The first number of a chain that is none of a qubit.
-fn unknown_in(chain: &[u64], qubits: u32) -> Option<u64> {
+fn unknown_in<H: Hardware>(hardware: &H, chain: &[u64]) -> Option<u64> {
     for number in chain {
-        if *number >= qubits as u64 {
+        if !exists(hardware, *number) {
             return Some(*number);
         }
     }
     None
 }
 
-fn first_unknown(map: &ChainMap, qubits: u32) -> Option<EmbedFault> {
+fn first_unknown<H: Hardware>(hardware: &H, map: &ChainMap) -> Option<EmbedFault> {
     for node in 0..map.len() {
-        if let Some(number) = unknown_in(map.chain(node), qubits) {
+        if let Some(number) = unknown_in(hardware, map.chain(node)) {
             return Some(EmbedFault::NoSuchQubit(node, number));
         }
     }
@@ -201,7 +206,7 @@ pub(crate) fn first_fault<H: Hardware>(
         return Some(EmbedFault::ChainCount(map.len()));
     }
     first_empty(map)
-        .or(first_unknown(map, hardware.qubits()))
+        .or(first_unknown(hardware, map))
         .or(first_repeated(map))
         .or(first_unreached(hardware, map))
         .or(first_uncoupled(hardware, map, couplings))

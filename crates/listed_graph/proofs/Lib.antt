@@ -1,0 +1,3 @@
+pub mod Common
+pub mod Counts
+pub mod Joined

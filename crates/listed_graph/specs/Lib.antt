@@ -1,0 +1,4 @@
+pub mod Complete
+pub mod Parts
+pub mod Rows
+pub mod laws
