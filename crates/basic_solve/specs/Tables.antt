@@ -6,7 +6,7 @@ use Rattle.std.specs.List.{slice_index_or, All, AllByRecursion, sum_by}
 use Rattle.base.specs.Sums.{if_so, total_by}
 use Rattle.bits_model.specs.Output.{bit_at, entry_energy, is_node, times_spin, weight_total}
 use Rattle.bits_model.specs.Walks.{is_in}
-use Rattle.bits_model.specs.declared.output.Kind.TheVariants.{Qubo, Ising, Chimera}
+use Rattle.bits_model.specs.declared.output.Kind.TheVariants.{Qubo, Ising, Qubits}
 use Rattle.bits_model.specs.declared.output.Entry.{Entry}
 use Rattle.bits_model.specs.declared.output.Kind.{Kind}
 
@@ -93,14 +93,14 @@ AreOf w es = AllByRecursion (λ e. (e.first ≤ w) × (e.second ≡ w)) es
 abbrev pub base_of : Kind → Bool → Entry → ℤ
 base_of Qubo bit e = if_so (bit && is_node e) e.weight
 base_of Ising bit e = times_spin bit (cond (is_node e) e.weight (neg_ℤ e.weight))
-base_of (Chimera rows cols shore) bit e =
+base_of (Qubits graph) bit e =
     times_spin bit (cond (is_node e) e.weight (neg_ℤ e.weight))
 
 -- what such an entry adds besides where the other node has 1
 abbrev pub step_of : Kind → Bool → Entry → ℤ
 step_of Qubo bit e = if_so bit e.weight
 step_of Ising bit e = times_spin bit (pos 2 *ℤ e.weight)
-step_of (Chimera rows cols shore) bit e = times_spin bit (pos 2 *ℤ e.weight)
+step_of (Qubits graph) bit e = times_spin bit (pos 2 *ℤ e.weight)
 
 -- what such an entry adds besides for a state
 abbrev pub step_at : Kind → Bool → List Bool → Entry → ℤ

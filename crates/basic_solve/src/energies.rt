@@ -15,7 +15,7 @@ fn base_of(kind: Kind, bit: bool, entry: &Entry) -> i128
     let own = entry.first == entry.second;
     match kind {
         Kind::Qubo => if bit && own { entry.weight } else { 0 },
-        Kind::Ising | Kind::Chimera { .. } => {
+        Kind::Ising | Kind::Qubits(_) => {
             times_spin(bit, if own { entry.weight } else { -entry.weight })
         }
     }
@@ -28,7 +28,7 @@ pub(crate) fn step_of(kind: Kind, bit: bool, entry: &Entry) -> i128
 {
     match kind {
         Kind::Qubo => if bit { entry.weight } else { 0 },
-        Kind::Ising | Kind::Chimera { .. } => {
+        Kind::Ising | Kind::Qubits(_) => {
             if bit {
                 2 * entry.weight
             } else {

@@ -9,7 +9,9 @@ use Rattle.base.specs.declared.costs.Cost.TheVariants.{Whole}
 use Rattle.base.specs.declared.costs.Figures.{Figures}
 use Rattle.bits_model.specs.declared.output.Entry.{Entry}
 use Rattle.bits_model.specs.declared.output.Kind.{Kind}
-use Rattle.bits_model.specs.declared.output.Kind.TheVariants.{Qubo, Ising, Chimera}
+use Rattle.bits_model.specs.declared.output.Kind.TheVariants.{Qubo, Ising, Qubits}
+use Rattle.bits_model.specs.declared.output.Graph.{Graph}
+use Rattle.bits_model.specs.declared.output.Graph.TheVariants.{Chimera, Listed}
 use Rattle.base.specs.Costs.{Form}
 use Rattle.form_steps.specs.Relations.{Decoding}
 
@@ -68,11 +70,16 @@ pub record IsChained (qubits : ℕ) (m : Written) : Type 0 where
   pub listed : (q : ℕ) → has_node m.entries q ≡ is_chained m.chains q
   pub enough : m.variables ≤ length m.chains
 
+-- how many qubits the graph has
+abbrev pub qubits_of : Graph → ℕ
+qubits_of (Chimera rows cols shore) = 2 * rows * cols * shore
+qubits_of (Listed qubits) = qubits
+
 -- what is asked of each kind
 abbrev pub FitsKind : Kind → Written → Type 0
 FitsKind Qubo m = IsPlain m
 FitsKind Ising m = IsPlain m
-FitsKind (Chimera rows cols shore) m = IsChained (2 * rows * cols * shore) m
+FitsKind (Qubits graph) m = IsChained (qubits_of graph) m
 
 -- a well-formed model: a unit and a scale of at least 1, entries in order, none twice, of nodes
 -- that it has, and what its kind asks
@@ -116,7 +123,7 @@ spins_energy y e =
 abbrev pub entry_energy : Kind → List Bool → Entry → ℤ
 entry_energy Qubo y e = bits_energy y e
 entry_energy Ising y e = spins_energy y e
-entry_energy (Chimera rows cols shore) y e = spins_energy y e
+entry_energy (Qubits graph) y e = spins_energy y e
 
 -- the energies of its states
 abbrev pub form_of : Written → Form
@@ -144,7 +151,7 @@ majority y chain =
 abbrev pub read_off : Kind → ℕ → List (List ℕ) → List Bool → List Bool
 read_off Qubo variables chains y = take variables y
 read_off Ising variables chains y = take variables y
-read_off (Chimera rows cols shore) variables chains y = map (majority y) (take variables chains)
+read_off (Qubits graph) variables chains y = map (majority y) (take variables chains)
 
 -- the decoding of a written model
 abbrev pub decoding_of : Written → Decoding

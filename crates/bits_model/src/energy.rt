@@ -63,7 +63,7 @@ fn entry_energy(kind: Kind, y: &[bool], entry: &Entry) -> i128
 {
     match kind {
         Kind::Qubo => bits_energy(y, entry),
-        Kind::Ising | Kind::Chimera { .. } => spins_energy(y, entry),
+        Kind::Ising | Kind::Qubits(_) => spins_energy(y, entry),
     }
 }
 

@@ -27,7 +27,7 @@ pub use form_steps::{
 };
 pub use laws::{laws_of_pairs, laws_of_rows};
 pub use nodes::{NodeEntries, NodeWeights};
-pub use output::{Entry, Kind, OutputModel};
+pub use output::{Entry, Graph, Kind, OutputModel};
 pub use pair_numbers::pair_number;
 pub use reading_off::majority;
 pub use row::Row;

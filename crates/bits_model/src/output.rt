@@ -8,13 +8,21 @@ use base::{Cost, Costed, Figures};
 use std::alloc::Global;
 use std::marker::Model;
 
+/// The graph of a model on qubits: a Chimera graph with these numbers of rows, columns and qubits on
+/// a shore, or one that is given as a list of couplers, with this number of qubits.
+#[derive(Clone, Copy, Debug, PartialEq, Eq)]
+pub enum Graph {
+    Chimera { rows: u32, cols: u32, shore: u32 },
+    Listed { qubits: u32 },
+}
+
 /// Which solver the model is for: a QUBO, an Ising model, or an Ising model on the qubits of a
-/// Chimera graph with these numbers of rows, columns and qubits on a shore.
+/// graph.
 #[derive(Clone, Copy, Debug, PartialEq, Eq)]
 pub enum Kind {
     Qubo,
     Ising,
-    Chimera { rows: u32, cols: u32, shore: u32 },
+    Qubits(Graph),
 }
 
 /// The weight of a node, where both numbers are equal, or of a coupler, where the first is less.

@@ -72,7 +72,7 @@ impl OutputModel {
     {
         match self.kind {
             Kind::Qubo | Kind::Ising => read_bits(y, x),
-            Kind::Chimera { .. } => read_chains(&self.chains, y, x),
+            Kind::Qubits(_) => read_chains(&self.chains, y, x),
         }
     }
 }

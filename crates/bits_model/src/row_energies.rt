@@ -72,6 +72,6 @@ pub fn energy_of(kind: Kind, y: &[bool], entries: &EntryList) -> i128
 {
     match kind {
         Kind::Qubo => nodes_energy(y, &entries.nodes) + rows_energy(y, &entries.couplers),
-        Kind::Ising | Kind::Chimera { .. } => total_energy(kind, y, entries),
+        Kind::Ising | Kind::Qubits(_) => total_energy(kind, y, entries),
     }
 }

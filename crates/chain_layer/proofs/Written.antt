@@ -17,7 +17,7 @@ field_of_unchained e kept q none =
     let get_past = get_or_past (image e).fields q (pos 0) in grind (arith, nat_tests)
 
 pub image_fits_output : ImageFitsOutput
-image_fits_output e rows cols shore variables kept same enough = record {
+image_fits_output e graph variables kept same enough = record {
   sized = length-map-range_with_len (field_at (all_shares e)) 0 e.qubits ∙ same;
   placed = subst (λ n. All (λ chain. All (λ q. q < n) chain) e.chains) same kept.within;
   filled = kept.filled;
@@ -26,7 +26,7 @@ image_fits_output e rows cols shore variables kept same enough = record {
 }
 
 pub read_off_the_chains : ReadOffTheChains
-read_off_the_chains link rows cols shore variables y = sym (take-map (majority y) variables link.chains)
+read_off_the_chains link graph variables y = sym (take-map (majority y) variables link.chains)
 
 -- ---- joined qubits
 

@@ -1,7 +1,8 @@
 -- What a model on the qubits of a graph asks of an image.
-use Rattle.std.specs.Prelude.{◌≡◌, ℕ, ◌*◌, ◌≤◌, true, Bool, List, length, take, All}
-use Rattle.bits_model.specs.declared.output.Kind.TheVariants.{Chimera}
-use Rattle.bits_model.specs.Output.{read_off}
+use Rattle.std.specs.Prelude.{◌≡◌, ℕ, ◌≤◌, true, Bool, List, length, take, All}
+use Rattle.bits_model.specs.declared.output.Graph.{Graph}
+use Rattle.bits_model.specs.declared.output.Kind.TheVariants.{Qubits}
+use Rattle.bits_model.specs.Output.{qubits_of, read_off}
 use Rattle.ising_form.specs.Isings.{IsingContent}
 use Rattle.ising_form.specs.Outputs.{FitsOutput}
 use Rattle.chain_map.specs.Chains.{Joins}
@@ -11,12 +12,11 @@ use Rattle.chain_layer.specs.declared.link.ChainLink.{ChainLink}
 use Rattle.chain_layer.specs.Image.{image, decoding}
 
 -- A model of the image can be written on the chains of its source, on a graph with as many qubits.
--- A graph of `rows` times `cols` cells has two shores of `shore` qubits a cell. The source's own
--- variables are the first `variables` of the chains.
+-- The source's own variables are the first `variables` of the chains.
 abbrev pub ImageFitsOutput : Type 0
-ImageFitsOutput = (e : Embedding) (rows cols shore variables : ℕ) → IsEmbedding e
-    → e.qubits ≡ 2 * rows * cols * shore → variables ≤ length e.chains
-    → FitsOutput (Chimera rows cols shore) e.chains variables (image e)
+ImageFitsOutput = (e : Embedding) (graph : Graph) (variables : ℕ) → IsEmbedding e
+    → e.qubits ≡ qubits_of graph → variables ≤ length e.chains
+    → FitsOutput (Qubits graph) e.chains variables (image e)
 
 -- Where a check gave the parents and places, each coupling of the image is on joined qubits. So
 -- each tie and each placed coupling stands on an edge of the graph, and the model can be loaded as
@@ -29,6 +29,6 @@ ImageIsJoined = (joined : Joins) (n : ℕ) (f : IsingContent) (map : List (List 
 -- What is read off such a model are the first bits of what the link decodes. The other chains stand
 -- for nodes that the translation added, and are left out.
 abbrev pub ReadOffTheChains : Type 0
-ReadOffTheChains = (link : ChainLink) (rows cols shore variables : ℕ) (y : List Bool)
-    → read_off (Chimera rows cols shore) variables link.chains y
+ReadOffTheChains = (link : ChainLink) (graph : Graph) (variables : ℕ) (y : List Bool)
+    → read_off (Qubits graph) variables link.chains y
     ≡ take variables ((decoding link).decoded y)

@@ -1,5 +1,5 @@
 -- States by new numbers, and their energies.
-use Rattle.elimination_order.proofs.Common.{ints, eqb-true, nat_tests, ◌≡◌, ℕ, ◌<◌, ℤ, ◌+ℤ◌, Bool, true, false, ◌&&◌, cond, refl, sym, ap, subst, ◌∙◌, arith, List, [], ◌∷◌, length, map, cases_lt, length-map, get_or-map, ext_get_or, recursion_from_All, AllByRecursion, energy, if_so, total_by, total_by-map, total_by-IsPermutation, IsLeastState, bool_cmp, slice_cmp, Entry, Kind, Written, IsPlaced, IsWellFormed, bit_at, entry_energy, form_of, is_node, times_spin, IsFirstLeast, AreNumbers, IsRenumbered, IsFirstLeastBy, at_place, bits_by, renumbered, Greater, Qubo, Ising, Chimera}
+use Rattle.elimination_order.proofs.Common.{ints, eqb-true, nat_tests, ◌≡◌, ℕ, ◌<◌, ℤ, ◌+ℤ◌, Bool, true, false, ◌&&◌, cond, refl, sym, ap, subst, ◌∙◌, arith, List, [], ◌∷◌, length, map, cases_lt, length-map, get_or-map, ext_get_or, recursion_from_All, AllByRecursion, energy, if_so, total_by, total_by-map, total_by-IsPermutation, IsLeastState, bool_cmp, slice_cmp, Entry, Kind, Written, IsPlaced, IsWellFormed, bit_at, entry_energy, form_of, is_node, times_spin, IsFirstLeast, AreNumbers, IsRenumbered, IsFirstLeastBy, at_place, bits_by, renumbered, Greater, Qubo, Ising, Qubits}
 
 -- ---- numbers
 
@@ -14,7 +14,7 @@ numbers-flip n names numbers are = grind (arith, are)
 abbrev pair_energy : Kind → Bool → Bool → Bool → ℤ → ℤ
 pair_energy Qubo node p q w = if_so (p && q) w
 pair_energy Ising node p q w = cond node (times_spin p w) (times_spin p (times_spin q w))
-pair_energy (Chimera rows cols shore) node p q w =
+pair_energy (Qubits graph) node p q w =
     cond node (times_spin p w) (times_spin p (times_spin q w))
 
 entry-pair : (kind : Kind) (y : List Bool) (e : Entry) → entry_energy kind y e

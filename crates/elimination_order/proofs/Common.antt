@@ -26,5 +26,5 @@ pub use Rattle.std.proofs.lemmas.List.FromFn.{fill_by_all, length-range_with_len
 pub use Rattle.basic_solve.specs.Widths.{IsFirstWider, IsWithinWidth, after, coupled, names_both, width, without}
 pub use Rattle.whole_text.specs.TokenTexts.{words_of, word_of}
 pub use Rattle.std.proofs.lemmas.Result.{IfOk-weaker, err_from_is_err_and}
-pub use Rattle.bits_model.specs.declared.output.Kind.TheVariants.{Qubo, Ising, Chimera}
+pub use Rattle.bits_model.specs.declared.output.Kind.TheVariants.{Qubo, Ising, Qubits}
 pub use Rattle.std.proofs.Math.Bool.{or-false}

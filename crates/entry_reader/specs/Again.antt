@@ -14,7 +14,7 @@ use Rattle.entry_reader.specs.Entries.{Listing, reading}
 abbrev pub layout_of : Kind → Layout
 layout_of kinds.Qubo = Qubo
 layout_of kinds.Ising = Ising
-layout_of (kinds.Chimera rows cols shore) = Ising
+layout_of (kinds.Qubits graph) = Ising
 
 -- an entry of a model, as a text lists it
 abbrev pub listed_of : Entry → Listed

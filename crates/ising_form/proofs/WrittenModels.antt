@@ -1,6 +1,6 @@
 -- The models of an Ising form: they are well formed, and have the form's energies but for the constant.
-use Rattle.ising_form.proofs.Common.{nat_tests, ◌≡◌, ◌⊎◌, ℕ, ◌<◌, ◌≤◌, Bool, ℤ, pos, ◌≤ℤ◌, List, ◌++◌, length, All, refl, sym, subst, arith, ints, recursion_from_All, All-from_recursion, total_by, total_by-append, Figures, Entry, Kind, Form, Decoding, Relaxes, IsMultiple, IsWellFormed, IsPlaced, decoding_of, entry_energy, spins_energy, read_off, weight_total, node_entries, RelaxesAsWritten, nodes_ordered, couplers_up, all_placed, has_each_node, all_nonzero, moved_relaxes, counted_coprime, IsingContent, IsIsing, entries_of, form_of, FitsOutput, AreNodes, is_on_chain, written_nodes, written_entries, written_of, ising_unit, reduced, IsReducedAsWritten}
-use Rattle.bits_model.specs.declared.output.Kind.TheVariants.{Qubo, Ising, Chimera}
+use Rattle.ising_form.proofs.Common.{nat_tests, ◌≡◌, ◌⊎◌, ℕ, ◌<◌, ◌≤◌, Bool, ℤ, pos, ◌≤ℤ◌, List, ◌++◌, length, All, refl, sym, subst, arith, ints, recursion_from_All, All-from_recursion, total_by, total_by-append, Figures, Entry, Graph, Kind, Form, Decoding, IsMultiple, IsWellFormed, IsPlaced, decoding_of, entry_energy, spins_energy, read_off, weight_total, node_entries, RelaxesAsWritten, nodes_ordered, couplers_up, all_placed, has_each_node, all_nonzero, counted_coprime, IsingContent, IsIsing, entries_of, form_of, FitsOutput, AreNodes, is_on_chain, written_nodes, written_entries, written_of, ising_unit, reduced, IsReducedAsWritten, PenaltyScope, RelaxesBy, StaysAbove, StaysAsWritten, moved_by, moved_stays}
+use Rattle.bits_model.specs.declared.output.Kind.TheVariants.{Qubo, Ising, Qubits}
 use Rattle.ising_form.proofs.ChainedNodes.{AreUnchained, AllRec-filter, sorted-filter, chained_listed, chained_energy, all_from_chained, chained_total}
 use Rattle.ising_form.proofs.ReducedForms.{weights}
 
@@ -25,7 +25,7 @@ written_is_well_formed f variables figures unit Ising chains ising fits scale on
     enough = fits.1;
   };
 }
-written_is_well_formed f variables figures unit (Chimera rows cols shore) chains ising fits scale one =
+written_is_well_formed f variables figures unit (Qubits graph) chains ising fits scale one =
     record {
       unit = one;
       scale = scale;
@@ -50,9 +50,9 @@ written_is_well_formed f variables figures unit (Chimera rows cols shore) chains
 
 -- ---- its energies
 
-unchained_from : (f : IsingContent) (rows cols shore : ℕ) (chains : List (List ℕ)) (variables : ℕ)
-    → FitsOutput (Chimera rows cols shore) chains variables f → AreUnchained chains 0 f.fields
-unchained_from f rows cols shore chains variables fits k not = grind (arith, nat_tests)
+unchained_from : (f : IsingContent) (graph : Graph) (chains : List (List ℕ)) (variables : ℕ)
+    → FitsOutput (Qubits graph) chains variables f → AreUnchained chains 0 f.fields
+unchained_from f graph chains variables fits k not = grind (arith, nat_tests)
 
 -- the entries of a model have the energy of all entries
 pub written_energy : (f : IsingContent) (variables : ℕ) (kind : Kind) (chains : List (List ℕ))
@@ -61,22 +61,34 @@ pub written_energy : (f : IsingContent) (variables : ℕ) (kind : Kind) (chains 
     ≡ total_by (spins_energy y) (entries_of f)
 written_energy f variables Qubo chains fits y = absurd fits
 written_energy f variables Ising chains fits y = refl
-written_energy f variables (Chimera rows cols shore) chains fits y =
+written_energy f variables (Qubits graph) chains fits y =
     grind (arith, nat_tests, total_by-append, chained_energy, unchained_from)
 
 pub written_total : (f : IsingContent) (kind : Kind) (chains : List (List ℕ))
     → weight_total (written_entries kind chains f) ≤ weight_total (entries_of f)
 written_total f kind chains = grind (arith, nat_tests, chained_total)
 
-pub written_relaxes : (source : Form) (f : IsingContent) (d : Decoding) (variables : ℕ)
+pub written_relaxes : (scope : PenaltyScope) (source : Form) (f : IsingContent) (d : Decoding)
+    (variables : ℕ) (figures : Figures) (unit : ℤ) (kind : Kind) (chains : List (List ℕ))
+    → FitsOutput kind chains variables f → (unit ≡ pos 1) ⊎ (f.constant ≡ pos 0)
+    → ((y : List Bool) → d.decoded y ≡ read_off kind variables chains y)
+    → RelaxesBy scope source (form_of f) d unit figures
+    → RelaxesAsWritten scope source (written_of f variables figures unit kind chains)
+written_relaxes scope source f d variables n unit kind chains fits counted same p =
+    let m = written_of f variables n unit kind chains in
+    moved_by scope source (length f.fields) (λ y. total_by (spins_energy y) (entries_of f))
+    (λ y. total_by (entry_energy kind y) m.entries) f.constant d (decoding_of m) n unit counted same
+    (written_energy f variables kind chains fits) p
+
+pub written_stays : (source : Form) (f : IsingContent) (d : Decoding) (variables : ℕ)
     (figures : Figures) (unit : ℤ) (kind : Kind) (chains : List (List ℕ))
     → FitsOutput kind chains variables f → (unit ≡ pos 1) ⊎ (f.constant ≡ pos 0)
     → ((y : List Bool) → d.decoded y ≡ read_off kind variables chains y)
-    → Relaxes source (form_of f) d unit figures
-    → RelaxesAsWritten source (written_of f variables figures unit kind chains)
-written_relaxes source f d variables n unit kind chains fits counted same p =
+    → StaysAbove source (form_of f) d unit figures
+    → StaysAsWritten source (written_of f variables figures unit kind chains)
+written_stays source f d variables n unit kind chains fits counted same p =
     let m = written_of f variables n unit kind chains in
-    moved_relaxes source (length f.fields) (λ y. total_by (spins_energy y) (entries_of f))
+    moved_stays source (length f.fields) (λ y. total_by (spins_energy y) (entries_of f))
     (λ y. total_by (entry_energy kind y) m.entries) f.constant d (decoding_of m) n unit counted same
     (written_energy f variables kind chains fits) p
 
@@ -89,17 +101,17 @@ all_counted : (P : ℤ → Type 0) (f : IsingContent) (variables : ℕ) (kind : 
     → All (λ (e : Entry). P e.weight) (entries_of f)
 all_counted P f variables Qubo chains of_zero fits all = absurd fits
 all_counted P f variables Ising chains of_zero fits all = all
-all_counted P f variables (Chimera rows cols shore) chains of_zero fits all =
+all_counted P f variables (Qubits graph) chains of_zero fits all =
     All-from_recursion _ _
     (all_from_chained P chains 0 f.fields f.couplings of_zero
-    (unchained_from f rows cols shore chains variables fits) (recursion_from_All _ _ all))
+    (unchained_from f graph chains variables fits) (recursion_from_All _ _ all))
 
 all_written : (P : ℤ → Type 0) (f : IsingContent) (kind : Kind) (chains : List (List ℕ))
     → All (λ (e : Entry). P e.weight) (entries_of f)
     → All (λ (e : Entry). P e.weight) (written_entries kind chains f)
 all_written P f Qubo chains all = all
 all_written P f Ising chains all = all
-all_written P f (Chimera rows cols shore) chains all =
+all_written P f (Qubits graph) chains all =
     All-from_recursion _ _
     (AllRec-filter (λ (e : Entry). P e.weight) (is_on_chain chains) (node_entries 0 f.fields) f.couplings
     (recursion_from_All _ _ all))

@@ -1,12 +1,12 @@
 -- The models that are written for Ising forms.
-use Rattle.std.specs.Prelude.{◌≡◌, ◌≢◌, ℕ, ◌*◌, ◌≤◌, ◌<◌, ℤ, pos, neg_ℤ, Bool, false, List, [], ◌++◌, length, All}
+use Rattle.std.specs.Prelude.{◌≡◌, ◌≢◌, ℕ, ◌≤◌, ◌<◌, ℤ, pos, neg_ℤ, Bool, false, List, [], ◌++◌, length, All}
 use Rattle.std.specs.List.{filter, slice_index_or}
 use Rattle.base.specs.declared.costs.Figures.{Figures}
 use Rattle.bits_model.specs.declared.output.Entry.{Entry}
 use Rattle.bits_model.specs.declared.output.Kind.{Kind}
-use Rattle.bits_model.specs.declared.output.Kind.TheVariants.{Qubo, Ising, Chimera}
+use Rattle.bits_model.specs.declared.output.Kind.TheVariants.{Qubo, Ising, Qubits}
 use Rattle.base.specs.Figures.{figures_moved}
-use Rattle.bits_model.specs.Output.{Written, is_chained}
+use Rattle.bits_model.specs.Output.{Written, is_chained, qubits_of}
 use Rattle.quad_form.specs.Quads.{node_entries}
 use Rattle.ising_form.specs.Isings.{IsingContent, entries_of}
 
@@ -28,8 +28,8 @@ pub record IsOnChains (qubits : ℕ) (chains : List (List ℕ)) (variables : ℕ
 abbrev pub FitsOutput : Kind → List (List ℕ) → ℕ → IsingContent → Type 0
 FitsOutput Qubo chains variables f = ⊥
 FitsOutput Ising chains variables f = (chains ≡ []) × (variables ≤ length f.fields)
-FitsOutput (Chimera rows cols shore) chains variables f =
-    IsOnChains (2 * rows * cols * shore) chains variables f
+FitsOutput (Qubits graph) chains variables f =
+    IsOnChains (qubits_of graph) chains variables f
 
 -- the mark of the node of an entry
 abbrev pub is_marked : List Bool → Entry → Bool
@@ -43,21 +43,21 @@ is_on_chain chains e = is_chained chains e.first
 abbrev pub AreNodes : Kind → List (List ℕ) → ℕ → Type 0
 AreNodes Qubo chains n = Unit {0}
 AreNodes Ising chains n = Unit {0}
-AreNodes (Chimera rows cols shore) chains n = All (λ chain. All (λ q. q < n) chain) chains
+AreNodes (Qubits graph) chains n = All (λ chain. All (λ q. q < n) chain) chains
 
 -- The entries of nodes, on a graph those of chained qubits alone. A qubit without a chain is not
 -- written.
 abbrev pub written_nodes : Kind → List (List ℕ) → List ℤ → List Entry
 written_nodes Qubo chains fields = node_entries 0 fields
 written_nodes Ising chains fields = node_entries 0 fields
-written_nodes (Chimera rows cols shore) chains fields =
+written_nodes (Qubits graph) chains fields =
     filter (is_on_chain chains) (node_entries 0 fields)
 
 -- the entries of nodes, on a graph those of chained qubits alone, and then those of couplers
 abbrev pub written_entries : Kind → List (List ℕ) → IsingContent → List Entry
 written_entries Qubo chains f = entries_of f
 written_entries Ising chains f = entries_of f
-written_entries (Chimera rows cols shore) chains f =
+written_entries (Qubits graph) chains f =
     filter (is_on_chain chains) (node_entries 0 f.fields) ++ f.couplings
 
 -- the model of a form, in a unit: entries carry no constant, and so it is taken off the offset and

@@ -101,6 +101,6 @@ pub fn nodes_for(
 {
     match kind {
         Kind::Qubo | Kind::Ising => Ok(NodeWeights::numbered(fields.into_vec())),
-        Kind::Chimera { .. } => chained_nodes(alloc, fields.into_vec(), chains),
+        Kind::Qubits(_) => chained_nodes(alloc, fields.into_vec(), chains),
     }
 }

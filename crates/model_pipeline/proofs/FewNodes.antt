@@ -5,7 +5,7 @@
 -- m² sets. A set with k complements is multiplied out to 2^k sets of no more literals; the counted
 -- bits have the same factor, and for a constraint, whose products of two have twice the
 -- complements, its square.
-use Rattle.model_pipeline.proofs.Common.{◌≡◌, ℕ, suc, ◌+◌, ◌-◌, ◌*◌, ◌^◌, ◌≤◌, Bool, true, false, leb, List, [], ◌∷◌, ◌++◌, length, map, pos, ◌*ℤ◌, refl, sym, ap, ◌∙◌, arith, if◌then◌else◌, nat_le, sum_by, mul-le-mul_left, mul-le-mul_right, pow_mono, nat_tests, sum_by-cons, sum_by-append, pow-add, Literal, Product, Clause, Constraint, Normal, ProblemContent, penalty, factor, product_bits, clause_bits, constraint_bits, constraint_degree, most_complements, summands, slack_bits, auxiliary_bits, Term, scaled, product_terms, products_with, complements, sets_sum, sets_sum-cons, sets_sum-with_additions, AreFew, sets_sum-contributions, length-union, clause_term, plain_terms, contributions, product_term, square_terms, slack_form, constraint_terms, opposites_length, AreShort, length-slack_form, slack_form-short, square_is, complements-opposites, few-square, few-slack_form, excess, terms_of, zero, cond, int_lt, High, TableContent, nodes_for, new_nodes, substituted, run, length-image, low_terms_of, NodesAreFew, cases_Bool, inl, inr}
+use Rattle.model_pipeline.proofs.Common.{◌≡◌, ℕ, suc, ◌+◌, ◌-◌, ◌*◌, ◌^◌, ◌≤◌, Bool, true, false, leb, List, [], ◌∷◌, ◌++◌, length, map, pos, ◌*ℤ◌, refl, sym, ap, ◌∙◌, arith, if◌then◌else◌, nat_le, sum_by, mul-le-mul_left, mul-le-mul_right, pow_mono, nat_tests, sum_by-cons, sum_by-append, pow-add, Literal, Product, Clause, Constraint, Normal, ProblemContent, penalty, factor, product_bits, clause_bits, constraint_bits, constraint_degree, most_complements, summands, slack_bits, auxiliary_bits, Term, scaled, product_terms, products_with, complements, sets_sum, sets_sum-cons, sets_sum-with_additions, AreFew, sets_sum-contributions, length-union, own, rest, clause_term, clause_terms, plain_terms, contributions, product_term, square_terms, slack_form, constraint_terms, opposites_length, AreShort, length-slack_form, slack_form-short, square_is, complements-opposites, few-square, few-slack_form, excess, terms_of, zero, cond, int_lt, High, TableContent, nodes_for, new_nodes, substituted, run, length-image, low_terms_of, NodesAreFew, cases_Bool, inl, inr}
 use Rattle.model_pipeline.proofs.Standing.{terms_width}
 use Rattle.problem_form.specs.declared.limits.Normal.TheVariants as normals
 use Rattle.term_table.specs.MultipliedOut as multiplied
@@ -107,13 +107,13 @@ products-counted normal [] = refl
 products-counted normal (t ∷ ts) =
     let rest0 = products-counted normal ts in simp sum_by-cons (grind (arith, nat_tests, sets_sum-cons))
 
-clauses-counted : (normal : Normal) (n : ℕ) (cs : List Clause)
-    → sets_sum (counted normal) (map (clause_term n) cs) ≡ sum_by (clause_bits normal) cs
-clauses-counted normal n [] = refl
-clauses-counted normal n (c ∷ cs) =
-    sets_sum-cons (counted normal) (clause_term n c) (map (clause_term n) cs)
+clauses-counted : (normal : Normal) (n : ℕ) (ns : List ℕ) (cs : List Clause)
+    → sets_sum (counted normal) (clause_terms n ns cs) ≡ sum_by (clause_bits normal) cs
+clauses-counted normal n ns [] = refl
+clauses-counted normal n ns (c ∷ cs) =
+    sets_sum-cons (counted normal) (clause_term (own n ns) c) (clause_terms n (rest ns) cs)
     ∙ (λ i. factor normal (complements-opposites c.literals i) * (opposites_length c.literals i - 2)
-    + clauses-counted normal n cs i) ∙ sym (sum_by-cons (clause_bits normal) c cs)
+    + clauses-counted normal n (rest ns) cs i) ∙ sym (sum_by-cons (clause_bits normal) c cs)
 
 -- ---- constraints
 
@@ -140,16 +140,16 @@ constraint-counted normals.Multilinear n first k =
     let left = mul-le-mul_left (2 ^ (2 * m)) (constraint-past n first k) in
     omega (arith, multilinear-few (2 * m) ts few, summands-scaled k (each_past k))
 
-constraints-counted : (normal : Normal) (n first : ℕ) (ks : List Constraint)
-    → sets_sum (counted normal) (constraint_terms n first ks) + sum_by slack_bits ks
+constraints-counted : (normal : Normal) (n : ℕ) (ns : List ℕ) (first : ℕ) (ks : List Constraint)
+    → sets_sum (counted normal) (constraint_terms n ns first ks) + sum_by slack_bits ks
     ≤ sum_by (constraint_bits normal) ks
-constraints-counted normal n first [] = omega arith
-constraints-counted normal n first (k ∷ ks) =
-    let both = counted-append normal (square_terms n (slack_form first k))
-    (constraint_terms n (first + slack_bits k) ks) in
-    let constraints_counted = constraints-counted normal n (first + slack_bits k) ks in
+constraints-counted normal n ns first [] = omega arith
+constraints-counted normal n ns first (k ∷ ks) =
+    let both = counted-append normal (square_terms (own n ns) (slack_form first k))
+    (constraint_terms n (rest ns) (first + slack_bits k) ks) in
+    let constraints_counted = constraints-counted normal n (rest ns) (first + slack_bits k) ks in
     let sum = sum_by-cons (constraint_bits normal) k ks in
-    omega (arith, constraint-counted normal n first k, sum_by-cons slack_bits k ks)
+    omega (arith, constraint-counted normal (own n ns) first k, sum_by-cons slack_bits k ks)
 
 -- ---- the whole
 
@@ -158,12 +158,13 @@ contributions-counted : (normal : Normal) (p : ProblemContent)
     ≤ auxiliary_bits normal p
 contributions-counted normal p =
     let products = map product_term p.objective in
-    let clauses = map (clause_term (penalty p)) p.clauses in
+    let clauses = clause_terms (penalty p) p.penalties.clauses p.clauses in
     let both = counted-append normal (plain_terms p)
-    (constraint_terms (penalty p) p.variables p.constraints) in
+    (constraint_terms (penalty p) p.penalties.constraints p.variables p.constraints) in
     let sets = sets_sum-cons (counted normal) ([], p.constant) (products ++ clauses) in
-    let clauses_counted = clauses-counted normal (penalty p) p.clauses in
-    let constraints_counted = constraints-counted normal (penalty p) p.variables p.constraints in
+    let clauses_counted = clauses-counted normal (penalty p) p.penalties.clauses p.clauses in
+    let constraints_counted =
+    constraints-counted normal (penalty p) p.penalties.constraints p.variables p.constraints in
     omega (arith, counted-append normal products clauses, products-counted normal p.objective)
 
 past-rises : (a b : ℕ) → a ≤ b → a - 2 ≤ b - 2

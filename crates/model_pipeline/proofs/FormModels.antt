@@ -1,5 +1,5 @@
 -- Numbers that are small where others are: moved ones, and the unit of a form.
-use Rattle.model_pipeline.proofs.Common.{◌≤◌, inl, inr, ℕ, ◌+◌, ◌*◌, ◌++◌, ℤ, pos, ◌+ℤ◌, ◌≤ℤ◌, List, ap, arith, unsigned_abs, neg_ℤ, sum_by, mul-le-mul_right, ints, sum_by-append, Entry, weight_total, node_entries, weights_of, sizes_of_weights, greatest_within, unit_of, greatest_divides, none_or_within, unit_of_nothing, AreBounded, Figures, FitsFigures, FitsSigned, figures_moved, fits_signed_from_abs, to_z-of_z, w128, ◌-ℤ◌, ◌<◌, ◌^◌, ◌≡◌, ◌⊎◌, ◌*ℤ◌, [], length, refl, length-map, All-nil, UnitChoice, Form, Decoding, Reduces, HasUnit, reduces_after_relaxes, ProblemContent, form_of, upper, QuadContent, IsQuad, quad_total, counted_in, quad_unit, IsingContent, IsIsing, ising_total, ising_unit, IsModelOf, qubo_model, chained_model, Stands, One, Reduce, Qubo, Ising, of_z, to_z}
+use Rattle.model_pipeline.proofs.Common.{◌≤◌, inl, inr, ℕ, ◌+◌, ◌*◌, ◌++◌, ℤ, pos, ◌+ℤ◌, ◌≤ℤ◌, List, ap, arith, unsigned_abs, neg_ℤ, sum_by, mul-le-mul_right, ints, sum_by-append, Entry, weight_total, node_entries, weights_of, sizes_of_weights, greatest_within, unit_of, greatest_divides, none_or_within, unit_of_nothing, AreBounded, Figures, FitsFigures, FitsSigned, figures_moved, fits_signed_from_abs, to_z-of_z, w128, ◌-ℤ◌, ◌<◌, ◌^◌, ◌≡◌, ◌⊎◌, ◌*ℤ◌, [], length, refl, length-map, All-nil, UnitChoice, Form, Decoding, Reduces, HasUnit, reduces_after_by, reduces_stays_above, ProblemContent, form_of, upper, QuadContent, IsQuad, quad_total, counted_in, quad_unit, IsingContent, IsIsing, ising_total, ising_unit, IsModelOf, qubo_model, chained_model, Stands, One, Reduce, Qubo, Ising, of_z, to_z}
 use Rattle.bits_model.specs.declared.output.Kind.TheVariants as kinds
 use Rattle.quad_form.specs.Quads as quads
 use Rattle.quad_form.specs.Units as units
@@ -105,7 +105,11 @@ HasFigures a p n most = AreFigures a (a *ℤ upper p) n most
 stands_reduced : (p : ProblemContent) (f g : Form) (d : Decoding) (u : ℤ) (n : Figures) (b : ℤ)
     → Stands p f d (pos 1) n → Reduces f g u b → Stands p g d u (figures_moved n b)
 stands_reduced p f g d u n b stands reduces = record {
-  relaxes = reduces_after_relaxes stands.relaxes reduces;
+  unit = reduces.positive;
+  positive = stands.positive;
+  relaxes = λ scope allowed.
+      reduces_after_by scope (form_of p) f g d n u b (stands.relaxes scope allowed) reduces;
+  stays = reduces_stays_above stands.stays reduces;
   decodes = stands.decodes;
 }
 
@@ -135,12 +139,14 @@ module _ (p : ProblemContent) (own : ℕ) (d : Decoding) where
           unit = omega (arith, low);
           figures = figures_bounded _ _ _ _ moved (omega (arith, ints)) (omega arith);
         };
-        well_formed = written_quads.written_is_well_formed q own n u quad least stands.relaxes.positive stands.relaxes.unit;
+        well_formed = written_quads.written_is_well_formed q own n u quad least stands.positive stands.unit;
         variables = refl;
         scale = has.scale;
         threshold = omega (arith, ints, moved.threshold, ap (λ s. s *ℤ upper p) moved.scale);
         unit = unit;
-        relaxes = written_quads.written_relaxes (form_of p) q d p.variables n u counted stands.decodes stands.relaxes;
+        relaxes = λ scope allowed.
+            written_quads.written_relaxes scope (form_of p) q d p.variables n u counted stands.decodes (stands.relaxes scope allowed);
+        stays = written_quads.written_stays (form_of p) q d p.variables n u counted stands.decodes stands.stays;
       }
 
   -- in the unit that is chosen
@@ -192,12 +198,15 @@ module _ (p : ProblemContent) (own : ℕ) (d : Decoding) where
           unit = omega (arith, low);
           figures = figures_bounded _ _ _ _ moved (omega (arith, ints)) (omega arith);
         };
-        well_formed = written_isings.written_is_well_formed f own n u kinds.Ising [] ising (refl, least) stands.relaxes.positive stands.relaxes.unit;
+        well_formed = written_isings.written_is_well_formed f own n u kinds.Ising [] ising (refl, least) stands.positive stands.unit;
         variables = refl;
         scale = has.scale;
         threshold = omega (arith, ints, moved.threshold, ap (λ s. s *ℤ upper p) moved.scale);
         unit = unit;
-        relaxes = written_isings.written_relaxes (form_of p) f d p.variables n u kinds.Ising [] (refl, enough) counted stands.decodes stands.relaxes;
+        relaxes = λ scope allowed.
+            written_isings.written_relaxes scope (form_of p) f d p.variables n u kinds.Ising [] (refl, enough) counted stands.decodes (stands.relaxes scope allowed);
+        stays =
+            written_isings.written_stays (form_of p) f d p.variables n u kinds.Ising [] (refl, enough) counted stands.decodes stands.stays;
       }
 
   -- in the unit that is chosen

@@ -1,5 +1,5 @@
 -- What is known of the qubits that there are, and of chains that can stand on them.
-use Rattle.model_pipeline.proofs.Common.{◌≡◌, ◌≤◌, ◌<◌, ℕ, ◌^◌, true, List, length, All, refl, arith, nat_lt, nat_tests, IsingContent, IsIsing, Chimera, qubits_of, place_of, are_joined-comm, EmbedFault, IsValid, clique_valid, IsFault, AllExist, IsValidOn, IsFaultOn, joined_in-comm, working_clique_valid, Qubits, ChainSource, chains_of, clique_in, fabric_in, graph_in, places_in, whole_fabric, CanStandAt, inr, ℤ, ◌*ℤ◌, ap, sym, subst, ◌∙◌, IfOk, Result, ints, Figures, UnitChoice, Written, scale_of, Choices, ProblemContent, form_of, upper, figures, QuadContent, IsQuad, coupled, length-fields, image_is_ising, total-image, ChainStrength, Fabric, Site, CanStandBy, AreSmall, IsQubitModelOf, ising_figures, IsQuadratized, IsIsingOf, ising_of, site_chains, IsGraphModelOf, IsFormAt, IsOnQubits, IsMadeOf}
+use Rattle.model_pipeline.proofs.Common.{◌≡◌, ◌≤◌, ◌<◌, ℕ, ◌^◌, true, List, length, All, refl, arith, nat_tests, IsingContent, IsIsing, Chimera, Graph, HasNumbers, qubits_of, place_of, are_joined-comm, clique_valid, IsValidOn, joined_in-comm, working_clique_valid, Qubits, ChainSource, chains_of, clique_in, fabric_in, graph_in, in_numbers, places_in, CanStandAt, inr, ℤ, ◌*ℤ◌, ap, sym, subst, ◌∙◌, IfOk, Result, ints, Figures, UnitChoice, Written, scale_of, Choices, ProblemContent, form_of, upper, figures, QuadContent, IsQuad, coupled, length-fields, image_is_ising, total-image, ChainStrength, Fabric, Site, CanStandBy, AreSmall, IsQubitModelOf, ising_figures, IsQuadratized, IsIsingOf, ising_of, site_chains, IsGraphModelOf, IsFormAt, IsOnQubits, IsMadeOf}
 use Rattle.model_pipeline.specs.declared.site.ChainSource.TheVariants.{Clique, Map}
 use Rattle.ising_form.proofs.Images.{size-image}
 use Rattle.model_pipeline.proofs.Standing.{ising_figures_are_stated, spins_stand}
@@ -11,6 +11,14 @@ use Rattle.ising_form.specs.Spins as spins
 pub sized_in : (qubits : Qubits) → (fabric_in qubits).qubits ≡ qubits_of (graph_in qubits)
 sized_in qubits = grind (arith, nat_tests)
 
+-- the numbers of a graph fit their fields: none of them is greater than the number of qubits
+chimera_numbers : (graph : Chimera) → HasNumbers (in_numbers graph)
+chimera_numbers graph = grind (arith, nat_tests)
+
+pub numbers_in : (qubits : Qubits) → HasNumbers (graph_in qubits)
+numbers_in (which.All graph) = chimera_numbers graph
+numbers_in (which.Working w) = chimera_numbers w.graph
+
 pub joined_both_ways : (qubits : Qubits) (a b : ℕ)
     → (fabric_in qubits).joined a b ≡ (fabric_in qubits).joined b a
 joined_both_ways (which.All graph) a b = are_joined-comm (place_of graph a) (place_of graph b)
@@ -19,24 +27,8 @@ joined_both_ways (which.Working w) a b = joined_in-comm w a b
 pub few_in : (qubits : Qubits) → (fabric_in qubits).qubits ≤ 2 ^ 20
 few_in qubits = grind (arith, nat_tests)
 
--- ---- maps on all qubits of a graph
-
-below_is : (q n : ℕ) → q < n → nat_lt q n ≡ true
-below_is q n low = grind (arith, nat_tests)
-
-all_below : (graph : Chimera) (map : List (List ℕ))
-    → All (λ chain. All (λ q. q < qubits_of graph) chain) map → AllExist (whole_fabric graph) map
-all_below graph map within = λ v c h j d l. below_is _ (qubits_of graph) (within v c h j d l)
-
--- a valid map is one of qubits that there are
-pub whole_valid : (graph : Chimera) (f : IsingContent) (map : List (List ℕ))
-    → IsValid (whole_fabric graph).joined (qubits_of graph) f map → IsValidOn (whole_fabric graph) f map
-whole_valid graph f map valid = (valid, all_below graph map valid.within)
-
--- so a fault is the same there
-pub whole_fault : (graph : Chimera) (f : IsingContent) (map : List (List ℕ)) (x : EmbedFault)
-    → IsFault (whole_fabric graph).joined (qubits_of graph) f map x → IsFaultOn (whole_fabric graph) f map x
-whole_fault graph f is x h = grind (arith, nat_tests)
+pub below_in : (qubits : Qubits) (q : ℕ) → (fabric_in qubits).exists q ≡ true → q < (fabric_in qubits).qubits
+below_in qubits q h = grind (arith, nat_tests)
 
 -- ---- chains that can stand
 
@@ -45,7 +37,7 @@ pub clique_in_valid : (qubits : Qubits) (f : IsingContent) → IsIsing f
     → length f.fields ≤ places_in qubits
     → IsValidOn (fabric_in qubits) f (clique_in qubits (length f.fields))
 clique_in_valid (which.All graph) f ising fits =
-    whole_valid graph f _ (clique_valid graph (length f.fields) fits f ising refl)
+    clique_valid graph (length f.fields) fits f ising refl
 clique_in_valid (which.Working w) f ising fits =
     working_clique_valid w (length f.fields) fits f ising refl
 
@@ -82,7 +74,7 @@ spun_as p q n f m kept made form figured = grind (arith, nat_tests, spun_stands)
 
 -- ---- its model on the qubits of a graph
 
-module _ (p : ProblemContent) (own : ℕ) (choice : UnitChoice) (ties : ChainStrength) (graph : Chimera)
+module _ (p : ProblemContent) (own : ℕ) (choice : UnitChoice) (ties : ChainStrength) (graph : Graph)
     (fabric : Fabric) (map : List (List ℕ)) (m : Written) (f : IsingContent) where
   -- the figures are small
   small : IsIsingOf p f (ising_figures (figures p)) → AreSmall (ising_figures (figures p))
@@ -106,9 +98,11 @@ module _ (p : ProblemContent) (own : ℕ) (choice : UnitChoice) (ties : ChainStr
         threshold = omega (arith, ints, of.threshold, ap (λ (a : ℤ). a *ℤ upper p) of.scale);
         unit = of.unit;
         embedded = of.embedded;
-        stands =
-            of.stands (form_of p) spun.stands.0 p.variables spun.enough stands.decodes refl
-            stands.relaxes;
+        stands = λ scope allowed.
+            of.stands scope (form_of p) spun.stands.0 p.variables spun.enough stands.decodes refl
+            (stands.relaxes scope allowed);
+        stays =
+            of.stays (form_of p) spun.stands.0 p.variables spun.enough stands.decodes refl stands.stays;
       }
 
   -- with the figures of the Ising form

@@ -1,8 +1,8 @@
 -- The state that the steps extend an assignment to has the least energy of those that decode to it.
 use Rattle.model_pipeline.proofs.Common.{nat_tests, ◌≡◌, pos, Bool, List, length, take, sym, ap, ◌∙◌, subst, arith, None, IfOk, Result, take-take, BitsLink, first_bits, Extends, ExtendsLeast, figures_after, least-trans, Choices, Normal, High, ProblemContent, form_of, IsNormal, limit_fault, TableContent, figures, penalty_extends, multilinear_extends, mono_reaches, rosen_reaches, flat_keeps, flat_reaches, low_terms_of, quad_by, terms_of, low_extension, extension_by, extension_of, ExtendsLeastBy, IsLeastExtension, LowFits, ◌≤◌, ℕ, take-map, Kind, Written, read_off, read_off_the_chains, FirstAreDecoded, LeastExtends, AreLinks, ReadOffIsDecoded, StepLinks, quad_decoding, steps_decoding, Monomial, Rosenberg}
 use Rattle.problem_form.specs.declared.limits.Normal.TheVariants.{Literal, Multilinear}
-use Rattle.model_pipeline.proofs.Standing.{problem_has_quad, figures-still, low_keeps, low_source, steps, term_link, terms_width, flat_link, low_link}
-use Rattle.bits_model.specs.declared.output.Kind.TheVariants.{Qubo, Ising, Chimera}
+use Rattle.model_pipeline.proofs.Standing.{problem_has_quad, figures-still, low_keeps, steps, term_link, flat_link, low_link, steps-first}
+use Rattle.bits_model.specs.declared.output.Kind.TheVariants.{Qubo, Ising, Qubits}
 use Rattle.term_table.specs.Tables as tables
 use Rattle.penalty_layer.specs.Penalty as penalty
 use Rattle.quad_form.specs.Quads as quads
@@ -26,11 +26,6 @@ low_reaches Monomial b t x fits width = mono_reaches b t x fits width
 low_reaches Rosenberg b t x fits width = rosen_reaches b t x fits width
 
 module _ (normal : Normal) (high : High) (p : ProblemContent) where
-  -- the steps decode a state to its first bits
-  pub steps-first : (a b c : BitsLink) → penalty.Fits a p → LowFits high b (terms_of normal p)
-      → (y : List Bool) → (steps a b c).decoded y ≡ take p.variables y
-  steps-first a b c fits_a fits_b y = grind (arith, nat_tests, low_source, terms_width, take-take)
-
   extends_by_steps : (a b c : BitsLink) (x : List Bool) → penalty.Fits a p
       → LowFits high b (terms_of normal p) → flat.Fits c (low_terms_of high (terms_of normal p))
       → length x ≡ p.variables → ExtendsLeastBy normal high p x (extension_by normal high p x)
@@ -49,7 +44,7 @@ module _ (normal : Normal) (high : High) (p : ProblemContent) where
       ap (λ n. figures_after n (pos 1) (pos 0)) (figures-still (figures p)) ∙ figures-still (figures p) in
       let least : ExtendsLeast f g (steps a b c) (figures p) x y =
       subst (λ n. ExtendsLeast f g (steps a b c) n x y) still whole in
-      let alike = steps-first a b c fits_a fits_b in
+      let alike = steps-first normal high p a b c fits_a fits_b in
       record {
         width = least.width;
         decodes = sym (alike y) ∙ least.decodes;
@@ -86,9 +81,9 @@ module _ (choices : Choices) (p : ProblemContent) (m : Written) (links : StepLin
       ≡ take m.variables ((steps_decoding kind links).decoded y)
   decoded_by Qubo y = sym (first_of y)
   decoded_by Ising y = sym (first_of y)
-  decoded_by (Chimera rows cols shore) y =
-      ap (λ cs. read_off (Chimera rows cols shore) m.variables cs y) (sym fits.chains)
-      ∙ read_off_the_chains links.chains rows cols shore m.variables y
+  decoded_by (Qubits graph) y =
+      ap (λ cs. read_off (Qubits graph) m.variables cs y) (sym fits.chains)
+      ∙ read_off_the_chains links.chains graph m.variables y
       ∙ sym (first_of ((chains.decoding links.chains).decoded y))
 
 pub read_off_is_decoded : ReadOffIsDecoded

@@ -1,10 +1,11 @@
 -- The model of an embedded Ising form on the qubits of a graph: what it promises of the form.
-use Rattle.model_pipeline.proofs.Common.{nat_tests, ◌≡◌, ◌≤◌, ◌<◌, ℕ, ◌+◌, ◌*◌, ◌^◌, ℤ, pos, ◌+ℤ◌, ◌*ℤ◌, ◌≤ℤ◌, List, length, All, refl, sym, ap, ◌∙◌, subst, arith, FitsSigned, unsigned_abs, neg_ℤ, ◌-ℤ◌, w128, ints, fits_signed_from_abs, Figures, UnitChoice, Relaxes, decoding_after, figures_moved, IsConnected, AreBounded, HasUnit, FitsGraph, IsingContent, IsIsing, ising_total, FitsOutput, written_of, ising_unit, reduced, reduced_is_ising, made_total, one_le_ising_unit, written_is_well_formed, written_total, made_is_reduced, Chimera, qubits_of, ChainStrength, Embedding, IsEmbedding, IsChecked, read_off_the_chains, Fabric, AllExist, IsValidOn, kind_of, chained_figures, image_tied, offset_tied, qubit_model, HasChainRoom, IsQubitModelOf, StandsForWhat, One, Reduce}
+use Rattle.model_pipeline.proofs.Common.{nat_tests, ◌≡◌, ◌≤◌, ◌<◌, ℕ, ◌+◌, ◌*◌, ◌^◌, ℤ, pos, ◌+ℤ◌, ◌*ℤ◌, ◌≤ℤ◌, List, length, All, refl, sym, ap, ◌∙◌, subst, arith, FitsSigned, unsigned_abs, neg_ℤ, ◌-ℤ◌, w128, ints, fits_signed_from_abs, Figures, UnitChoice, decoding_after, figures_moved, IsConnected, AreBounded, HasUnit, HasNumbers, IsingContent, IsIsing, ising_total, FitsOutput, written_of, ising_unit, reduced, reduced_is_ising, made_total, one_le_ising_unit, written_is_well_formed, written_total, made_is_reduced, Graph, qubits_of, ChainStrength, Embedding, IsEmbedding, IsChecked, read_off_the_chains, Fabric, IsValidOn, chained_figures, image_tied, offset_tied, qubit_model, HasChainRoom, IsQubitModelOf, StandsForWhat, One, Reduce, true, RelaxesBy, StaysAbove, StaysForWhat}
+use Rattle.bits_model.specs.declared.output.Kind.TheVariants as kinds
 use Rattle.ising_form.specs.Isings as isings
 use Rattle.chain_layer.specs.Image as chains
-use Rattle.model_pipeline.proofs.Tied.{AreEndsJoined, reduced_fits, reduced_joined, written_joined, link_of, tied_fits_output, tied_is_ising, tied_is_joined, tied_offset, tied_stands, tied_total}
+use Rattle.model_pipeline.proofs.Tied.{AreEndsJoined, reduced_fits, reduced_joined, written_joined, link_of, tied_fits_output, tied_is_ising, tied_is_joined, tied_offset, tied_stands, tied_stays, tied_total}
 use Rattle.model_pipeline.proofs.FormModels.{minus_low, once_low, unit_low, AreFigures, figures_are_moved, figures_within, figures_fit}
-use Rattle.model_pipeline.proofs.WrittenStates.{chained_counts, stands_written}
+use Rattle.model_pipeline.proofs.WrittenStates.{chained_counts, stands_written, stays_written}
 
 -- ---- figures
 
@@ -44,17 +45,11 @@ pub moved_by_ties : (ties : ChainStrength) (n : Figures) (e : Embedding) → IsE
 moved_by_ties ties n e kept small offset_low threshold_low =
     let tied = offset_within ties e kept small in grind (arith, nat_tests, tied_low)
 
--- ---- a graph
-
--- its numbers fit their fields: none of them is greater than the number of qubits
-graph_fits : (graph : Chimera) → FitsGraph (kind_of graph)
-graph_fits graph = grind (arith, nat_tests)
-
 -- ---- the model
 
-module _ (f : IsingContent) (n : Figures) (own : ℕ) (ties : ChainStrength) (graph : Chimera)
+module _ (f : IsingContent) (n : Figures) (own : ℕ) (ties : ChainStrength) (graph : Graph)
     (fabric : Fabric) (map : List (List ℕ)) (e : Embedding) (kept : IsEmbedding e)
-    (sized : fabric.qubits ≡ qubits_of graph)
+    (sized : fabric.qubits ≡ qubits_of graph) (numbers : HasNumbers graph)
     (both_ways : (a b : ℕ) → fabric.joined a b ≡ fabric.joined b a)
     (checked : IsChecked fabric.joined fabric.qubits f map e) (valid : IsValidOn fabric f map)
     (few : own ≤ length f.fields) (low : unsigned_abs n.scale ≤ 2 ^ 127)
@@ -72,29 +67,30 @@ module _ (f : IsingContent) (n : Figures) (own : ℕ) (ties : ChainStrength) (gr
   -- ---- in any unit
 
   stands_in : (choice : UnitChoice) (g : IsingContent) (u : ℤ) (r : Figures) → IsIsing g
-      → FitsOutput (kind_of graph) e.chains own g → All (AreEndsJoined fabric.joined) g.couplings
+      → FitsOutput (kinds.Qubits graph) e.chains own g → All (AreEndsJoined fabric.joined) g.couplings
       → pos 1 ≤ℤ u → unsigned_abs u ≤ 2 ^ 125 → AreMoved n r (2 ^ 125)
-      → StandsForWhat ties f n (written_of g own r u (kind_of graph) e.chains)
+      → StandsForWhat ties f n (written_of g own r u (kinds.Qubits graph) e.chains)
+      → StaysForWhat ties f n (written_of g own r u (kinds.Qubits graph) e.chains)
       → (HasChainRoom f n → HasBounds g u r)
-      → HasUnit choice (written_of g own r u (kind_of graph) e.chains)
+      → HasUnit choice (written_of g own r u (kinds.Qubits graph) e.chains)
       → IsQubitModelOf f n own choice ties graph fabric map
-      (written_of g own r u (kind_of graph) e.chains)
-  stands_in choice g u r ising on_chains joined one small are stands bounds unit =
+      (written_of g own r u (kinds.Qubits graph) e.chains)
+  stands_in choice g u r ising on_chains joined one small are stands stays bounds unit =
       let light = ising.small in
       let width = ap (λ (g : IsingContent). length g.fields) checked.ising in
       let moved = figures_are_moved _ _ r _ are (2 ^ 124) _ (minus_low g.constant _ (omega (arith, light))) in record {
         kind = refl;
         fits = record {
-          graph = graph_fits graph;
+          graph = numbers;
           variables = omega (arith, kept.ising.narrow, width, few);
           figures = figures_fit _ _ _ _ moved low (omega arith);
           unit = omega (arith, small);
           nodes = ising.narrow;
-          weights = omega (arith, light, written_total g (kind_of graph) e.chains);
+          weights = omega (arith, light, written_total g (kinds.Qubits graph) e.chains);
           qubits = λ i d h j c k. omega (arith, kept.within i d h j c k, kept.few);
         };
         well_formed =
-            written_is_well_formed g own r u (kind_of graph) e.chains ising on_chains
+            written_is_well_formed g own r u (kinds.Qubits graph) e.chains ising on_chains
             (subst (λ z. pos 1 ≤ℤ z) (sym are.scale) positive) one;
         variables = refl;
         scale = moved.scale;
@@ -103,17 +99,18 @@ module _ (f : IsingContent) (n : Figures) (own : ℕ) (ties : ChainStrength) (gr
         embedded = record {
           chains = checked.chains;
           filled = kept.filled;
-          alive = subst (λ cs. AllExist fabric cs) (sym checked.chains) valid.1;
+          alive = subst (λ cs. All (λ chain. All (λ q. fabric.exists q ≡ true) chain) cs) (sym checked.chains) valid.within;
           connected =
               subst (λ cs. All (IsConnected fabric.joined) cs) (sym checked.chains)
-              valid.0.connected;
+              valid.connected;
           apart = kept.once;
-          joined = written_joined fabric.joined graph.rows graph.cols graph.shore e.chains g joined;
+          joined = written_joined fabric.joined graph e.chains g joined;
         };
         stands = stands;
+        stays = stays;
         bounded = λ room.
             let has = bounds room in record {
-              weights = omega (arith, has.total, written_total g (kind_of graph) e.chains);
+              weights = omega (arith, has.total, written_total g (kinds.Qubits graph) e.chains);
               unit = has.unit;
               figures = has.figures;
             };
@@ -124,9 +121,9 @@ module _ (f : IsingContent) (n : Figures) (own : ℕ) (ties : ChainStrength) (gr
   abbrev tied : IsingContent
   tied = image_tied ties e
 
-  tied_on_chains : FitsOutput (kind_of graph) e.chains own tied
+  tied_on_chains : FitsOutput (kinds.Qubits graph) e.chains own tied
   tied_on_chains =
-      tied_fits_output e kept ties graph.rows graph.cols graph.shore own (checked.qubits ∙ sized)
+      tied_fits_output e kept ties graph own (checked.qubits ∙ sized)
       (omega (arith, counted, few))
 
   tied_joined : All (AreEndsJoined fabric.joined) tied.couplings
@@ -166,39 +163,52 @@ module _ (f : IsingContent) (n : Figures) (own : ℕ) (ties : ChainStrength) (gr
   -- ---- what it stands for
 
   stands_for : (choice : UnitChoice)
-      → StandsForWhat ties f n (qubit_model choice ties e own n (kind_of graph))
-  stands_for choice source d variables enough reads same relaxed =
+      → StandsForWhat ties f n (qubit_model choice ties e own n (kinds.Qubits graph))
+  stands_for choice scope source d variables enough reads same relaxed =
       let decoding = chains.decoding (link_of e) in
       let to = decoding_after d decoding in
-      let of = subst (λ g. Relaxes source (isings.form_of g) d (pos 1) n) (sym checked.ising)
+      let of = subst (λ g. RelaxesBy scope source (isings.form_of g) d (pos 1) n) (sym checked.ising)
       relaxed in
-      stands_written ties variables source (isings.form_of tied) to (chained_figures ties e n)
-      (qubit_model choice ties e own n (kind_of graph))
-      (chained_counts choice tied own variables (chained_figures ties e n) (kind_of graph) e.chains to
+      stands_written ties scope variables source (isings.form_of tied) to (chained_figures ties e n)
+      (qubit_model choice ties e own n (kinds.Qubits graph))
+      (chained_counts choice tied own variables (chained_figures ties e n) (kinds.Qubits graph) e.chains to
       (λ y. reads (decoding.decoded y)
-      ∙ sym (read_off_the_chains (link_of e) graph.rows graph.cols graph.shore variables y)) tied_on_chains)
-      (tied_stands ties e kept source d n of)
+      ∙ sym (read_off_the_chains (link_of e) graph variables y)) tied_on_chains)
+      (tied_stands ties e kept scope source d n of)
+
+  stays_for : (choice : UnitChoice)
+      → StaysForWhat ties f n (qubit_model choice ties e own n (kinds.Qubits graph))
+  stays_for choice source d variables enough reads same stays =
+      let decoding = chains.decoding (link_of e) in
+      let to = decoding_after d decoding in
+      let of = subst (λ g. StaysAbove source (isings.form_of g) d (pos 1) n) (sym checked.ising) stays in
+      stays_written ties variables source (isings.form_of tied) to (chained_figures ties e n)
+      (qubit_model choice ties e own n (kinds.Qubits graph))
+      (chained_counts choice tied own variables (chained_figures ties e n) (kinds.Qubits graph) e.chains to
+      (λ y. reads (decoding.decoded y)
+      ∙ sym (read_off_the_chains (link_of e) graph variables y)) tied_on_chains)
+      (tied_stays ties e kept source d n of)
 
   -- ---- in the unit that is chosen
 
   pub model_stands : (choice : UnitChoice) → (ising_total e.ising + 1) * 2 ^ 21 ≤ 2 ^ 124
       → AreMoved n (chained_figures ties e n) (2 ^ 124)
       → IsQubitModelOf f n own choice ties graph fabric map
-      (qubit_model choice ties e own n (kind_of graph))
+      (qubit_model choice ties e own n (kinds.Qubits graph))
   model_stands One small are =
       stands_in One tied (pos 1) (chained_figures ties e n) (tied_is_ising e kept ties small)
       tied_on_chains tied_joined (omega (arith, ints)) (omega (arith, ints))
-      (figures_within _ _ _ _ are _ (omega arith)) (stands_for One) image_bounds refl
+      (figures_within _ _ _ _ are _ (omega arith)) (stands_for One) (stays_for One) image_bounds refl
   model_stands Reduce small are =
       let u = ising_unit tied in
       let c = neg_ℤ tied.constant in
       let r = figures_moved (chained_figures ties e n) c in
       let ising = tied_is_ising e kept ties small in
       let light = ising.small in
-      let fits = reduced_fits (kind_of graph) own e.chains tied tied_on_chains in
+      let fits = reduced_fits (kinds.Qubits graph) own e.chains tied tied_on_chains in
       stands_in Reduce (reduced tied) u r (reduced_is_ising tied ising) fits
       (reduced_joined fabric.joined tied tied_joined) (one_le_ising_unit tied)
       (omega (arith, unit_low tied.fields tied.couplings (2 ^ 124) (omega (arith, light)), light))
       (figures_are_moved _ _ _ _ are _ c (minus_low tied.constant (2 ^ 124) (omega (arith, light))))
-      (stands_for Reduce) reduced_bounds
-      (made_is_reduced tied (reduced tied) u refl refl own r (kind_of graph) e.chains fits)
+      (stands_for Reduce) (stays_for Reduce) reduced_bounds
+      (made_is_reduced tied (reduced tied) u refl refl own r (kinds.Qubits graph) e.chains fits)

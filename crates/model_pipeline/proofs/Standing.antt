@@ -1,6 +1,6 @@
 -- From additions that are small to their quadratic form: all that is made on the way is well formed
 -- and has room.
-use Rattle.model_pipeline.proofs.Common.{◌≤◌, ◌+◌, ◌^◌, refl, sym, ap, subst, arith, BitsLink, High, TableContent, IsTable, table_size, terms_total-with_additions, all_nodes-le, IsSound-run, IsLow-image, size-image, QuadContent, IsQuad, quad_size, quad_total, quad_total-image, quad_size-image, IsQuad-image, table_of, IsTable-table_of, IsTable-low_of, image-quad, nodes-table, IsWithin, low_terms_of, LowFits, AddTo, nat_tests, ◌≡◌, ◌++◌, None, List, [], length, All, ◌∙◌, append-nil, recursion_from_All, ProblemContent, IsNormal, limit_fault, Normal, Term, IsTermSet, with_additions, coefficient_of-with_additions, OfSet, All-with_additions, AreTerms-with_additions, contributions-sets, same_tables, contribution_sets, multiplied, IsSmall, penalty_admits, AreAdditions-multiplied_out, small-additions, total-multiplied, size_within, image_size, AreAdditions-contributions, total-additions, additions_of, HeldContent, HasPlaces, sum_for-with_additions, places_at_first, terms_of, ◌<◌, ◌*◌, ℕ, ℤ, pos, ◌+ℤ◌, ◌*ℤ◌, FitsSigned, unsigned_abs, w128, ints, take-take, Figures, UnitChoice, Decoding, Keeps, Relaxes, decoding_after, figures_after, keeps_after_relaxes, first_bits, Choices, form_of, upper, NodeModel, figures, node_count, penalty_relaxes, threshold_within, multilinear_relaxes, mono_keeps, rosen_keeps, width-run-le, same_bits, length-image, flat_keeps, coupled, length-fields, spins_keeps, image_is_ising, total-image, IsModelOf, form_model, ising_figures, quad_by, quad_of, HaveRoom, HasRoom, IsQuadratized, Stands, Monomial, Rosenberg, Qubo, Ising}
+use Rattle.model_pipeline.proofs.Common.{◌≤◌, ◌+◌, ◌^◌, refl, sym, ap, subst, arith, BitsLink, High, TableContent, IsTable, table_size, terms_total-with_additions, all_nodes-le, IsSound-run, IsLow-image, size-image, QuadContent, IsQuad, quad_size, quad_total, quad_total-image, quad_size-image, IsQuad-image, table_of, IsTable-table_of, IsTable-low_of, image-quad, nodes-table, IsWithin, low_terms_of, LowFits, AddTo, nat_tests, ◌≡◌, ◌++◌, None, List, [], length, All, ◌∙◌, append-nil, recursion_from_All, ProblemContent, IsNormal, limit_fault, Normal, Term, IsTermSet, with_additions, coefficient_of-with_additions, OfSet, All-with_additions, AreTerms-with_additions, contributions-sets, same_tables, contribution_sets, multiplied, IsSmall, penalty_admits, AreAdditions-multiplied_out, small-additions, total-multiplied, size_within, image_size, AreAdditions-contributions, total-additions, additions_of, HeldContent, HasPlaces, sum_for-with_additions, places_at_first, terms_of, ◌<◌, ◌*◌, ℕ, ℤ, pos, ◌+ℤ◌, ◌*ℤ◌, FitsSigned, unsigned_abs, w128, ints, take-take, Figures, UnitChoice, Decoding, Keeps, PenaltyScope, RelaxesBy, StaysAbove, decoding_after, figures_after, keeps_after_by, keeps_stays_above, first_bits, Choices, form_of, upper, NodeModel, figures, node_count, penalty_relaxes, penalty_stays, threshold_within, multilinear_relaxes, multilinear_stays, mono_keeps, rosen_keeps, width-run-le, same_bits, length-image, flat_keeps, coupled, length-fields, spins_keeps, image_is_ising, total-image, IsModelOf, form_model, take, Bool, Stands, ising_figures, quad_by, quad_of, HaveRoom, HasRoom, IsQuadratized, Monomial, Rosenberg, Qubo, Ising}
 use Rattle.term_table.specs.Tables.{IsLow}
 use Rattle.rosenberg_layer.proofs.Growth.{total-image as total-rosenberg}
 use Rattle.problem_form.specs.declared.limits.Normal.TheVariants.{Literal, Multilinear}
@@ -206,11 +206,18 @@ figures-still n i =
 
 -- ---- step by step
 
--- the terms of a problem relax it
+-- the terms of a problem relax it, in each scope that its penalties allow
 terms_relax : (normal : Normal) (a : BitsLink) (p : ProblemContent) → penalty.Fits a p
-    → Relaxes (form_of p) (tables.form_of (terms_of normal p)) (first_bits a) (pos 1) (figures p)
+    → (scope : PenaltyScope) → penalty.Allows scope p
+    → RelaxesBy scope (form_of p) (tables.form_of (terms_of normal p)) (first_bits a) (pos 1) (figures p)
 terms_relax Literal a p fits = penalty_relaxes a p fits
 terms_relax Multilinear a p fits = multilinear_relaxes a p fits
+
+-- and no state of theirs lies below the whole cost that it decodes to
+terms_stay : (normal : Normal) (a : BitsLink) (p : ProblemContent) → penalty.Fits a p
+    → StaysAbove (form_of p) (tables.form_of (terms_of normal p)) (first_bits a) (pos 1) (figures p)
+terms_stay Literal a p fits = penalty_stays a p fits
+terms_stay Multilinear a p fits = multilinear_stays a p fits
 
 pub terms_width : (normal : Normal) (p : ProblemContent) → (terms_of normal p).width ≡ node_count p
 terms_width normal p = grind (arith, nat_tests)
@@ -235,6 +242,11 @@ module _ (normal : Normal) (high : High) (p : ProblemContent) where
   pub steps_enough : p.variables ≤ length (quad_by normal high p).diagonal
   steps_enough = grind (arith, nat_tests, length-image, low_wider, terms_width)
 
+  -- the steps decode a state to its first bits
+  pub steps-first : (a b c : BitsLink) → penalty.Fits a p → LowFits high b (terms_of normal p)
+      → (y : List Bool) → (steps a b c).decoded y ≡ take p.variables y
+  steps-first a b c fits_a fits_b y = grind (arith, nat_tests, low_source, terms_width, take-take)
+
   -- with the links of the steps
   module _ (normal_is : IsNormal p) (on : HasQuad high (terms_of normal p)) where
     abbrev pub term_link : (link : BitsLink) × penalty.Fits link p
@@ -252,13 +264,41 @@ module _ (normal : Normal) (high : High) (p : ProblemContent) where
         let a = term_link in
         let b = low_link high t on in
         let c = flat_link high t on in
-        let low = keeps_after_relaxes (terms_relax normal a.0 p a.1) (low_keeps high b.0 t b.1) in
-        let whole = keeps_after_relaxes low (flat_keeps c.0 (low_terms_of high t) c.1) in
+        let low = tables.form_of (low_terms_of high t) in
+        let d = steps a.0 b.0 c.0 in
+        let first = low_keeps high b.0 t b.1 in
+        let second = flat_keeps c.0 (low_terms_of high t) c.1 in
+        let n = figures p in
         let still : figures_after (figures_after (figures p) (pos 1) (pos 0)) (pos 1) (pos 0) ≡
         figures p =
         ap (λ n. figures_after n (pos 1) (pos 0)) (figures-still (figures p)) ∙ figures-still
         (figures p) in
-        grind (arith, nat_tests, low_source, terms_width, steps_enough, take-take)
+        record {
+          figures = refl;
+          threshold = threshold;
+          enough = steps_enough;
+          total = omega (arith, on.total);
+          size = omega (arith, on.size);
+          total_low = on.total;
+          size_low = on.size;
+          stands = (
+            d,
+            record {
+              unit = omega (arith, ints);
+              positive = omega (arith, ints);
+              relaxes = λ scope allowed.
+                  subst (RelaxesBy scope f g d (pos 1)) still
+                  (keeps_after_by scope f low g (decoding_after (first_bits a.0) (first_bits b.0)) (same_bits c.0)
+                  (figures_after n (pos 1) (pos 0)) (pos 1) (pos 0)
+                  (keeps_after_by scope f (tables.form_of t) low (first_bits a.0) (first_bits b.0) n (pos 1) (pos 0)
+                  (terms_relax normal a.0 p a.1 scope allowed) first) second);
+              stays =
+                  subst (StaysAbove f g d (pos 1)) still
+                  (keeps_stays_above (keeps_stays_above (terms_stay normal a.0 p a.1) first) second);
+              decodes = steps-first a.0 b.0 c.0 a.1 b.1;
+            },
+          );
+        }
 
 -- the form of a problem within the limits stands for it
 pub problem_formed : (choices : Choices) (p : ProblemContent) → IsNormal p
@@ -326,7 +366,13 @@ pub spins_stand : (p : ProblemContent) (q : QuadContent) → IsQuad q
 spins_stand p q kept (d, stands) = (
   decoding_after d (same_bits (spins_link q)),
   record {
-    relaxes = keeps_after_relaxes stands.relaxes (spins_keeps (spins_link q) q (spins_fit q kept));
+    unit = stands.unit;
+    positive = omega (arith, ints);
+    relaxes = λ scope allowed.
+        keeps_after_by scope (form_of p) (quads.form_of q) (isings.form_of (spins.image q)) d
+        (same_bits (spins_link q)) (figures p) (pos 4) (pos 0) (stands.relaxes scope allowed)
+        (spins_keeps (spins_link q) q (spins_fit q kept));
+    stays = keeps_stays_above stands.stays (spins_keeps (spins_link q) q (spins_fit q kept));
     decodes = stands.decodes;
   },
 )

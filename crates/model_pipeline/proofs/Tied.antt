@@ -1,7 +1,7 @@
 -- Forms on chains, counted in their greatest unit: they are on the same chains and the same joined
 -- qubits.
-use Rattle.model_pipeline.proofs.Common.{nat_tests, ◌≡◌, ℕ, zero, suc, true, false, ℤ, pos, List, [], ◌∷◌, ◌++◌, All, Kind, map, ap, ◌∙◌, arith, nat_lt, AllByRecursion, slice_index_or, zero-div, le-ltb, length-map, All-map, All-from_recursion, recursion_from_All, Entry, is_coupler, node_entries, counted_in, entry_in, IsingContent, FitsOutput, is_on_chain, written_entries, ising_unit, reduced, AllRec-filter, Joins, ◌≤◌, ◌+◌, ◌*◌, ◌^◌, Bool, length, refl, sym, subst, unsigned_abs, length-map-range_with_len, Figures, Form, IsOf, figures_moved, Decoding, Extends, Reduces, Relaxes, decoding_after, keeps_after_relaxes, reduces_after_relaxes, StandsAtLeast, IsLeast, relaxed_stands, kept_stands, reduced_stands, ChainStrength, IsIsing, ising_total, Embedding, IsEmbedding, IsChecked, ChainLink, chains_keep, chains_reach, CutLink, cut_keeps, cut_reaches, cut_is_ising, cut_offset_small, cut_total_grows, cut_fits_output, cut_is_joined, chained_figures, image_tied, offset_tied, LeastStandBy, StandsBy, Choi, Cut}
-use Rattle.bits_model.specs.declared.output.Kind.TheVariants.{Chimera}
+use Rattle.model_pipeline.proofs.Common.{nat_tests, ◌≡◌, ℕ, zero, suc, true, false, ℤ, pos, List, [], ◌∷◌, ◌++◌, All, Graph, Kind, qubits_of, map, ap, ◌∙◌, arith, nat_lt, AllByRecursion, slice_index_or, zero-div, le-ltb, length-map, All-map, All-from_recursion, recursion_from_All, Entry, is_coupler, node_entries, counted_in, entry_in, IsingContent, FitsOutput, is_on_chain, written_entries, ising_unit, reduced, AllRec-filter, Joins, ◌≤◌, ◌+◌, ◌*◌, ◌^◌, Bool, length, refl, sym, subst, unsigned_abs, length-map-range_with_len, Figures, Form, figures_moved, Decoding, Extends, Reduces, decoding_after, StandsAtLeast, IsLeast, relaxed_stands, kept_stands, reduced_stands, ChainStrength, IsIsing, ising_total, Embedding, IsEmbedding, IsChecked, ChainLink, chains_keep, chains_reach, CutLink, cut_keeps, cut_reaches, cut_is_ising, cut_offset_small, cut_total_grows, cut_fits_output, cut_is_joined, chained_figures, image_tied, offset_tied, LeastStandBy, StandsBy, Choi, Cut, PenaltyScope, RelaxesBy, StaysAbove, keeps_after_by, keeps_stays_above, reduces_after_by, reduces_stays_above, by_alike, stays_above_alike, StaysBy}
+use Rattle.bits_model.specs.declared.output.Kind.TheVariants.{Qubits}
 use Rattle.ising_form.specs.Isings as isings
 use Rattle.chain_layer.specs.Image as chains
 use Rattle.chain_layer.proofs.Ordered as choi
@@ -53,10 +53,10 @@ nodes_joined joined n (h ∷ hs) cs all =
     (λ is. absurd (cc (is, no)), nodes_joined joined (suc n) hs cs all)
 
 -- couplers of a model on a graph are on joined qubits where the form's couplings are
-pub written_joined : (joined : Joins) (rows cols shore : ℕ) (chains : List (List ℕ)) (f : IsingContent)
+pub written_joined : (joined : Joins) (graph : Graph) (chains : List (List ℕ)) (f : IsingContent)
     → All (AreEndsJoined joined) f.couplings
-    → All (IsCouplerJoined joined) (written_entries (Chimera rows cols shore) chains f)
-written_joined joined rows cols shore chains f all =
+    → All (IsCouplerJoined joined) (written_entries (Qubits graph) chains f)
+written_joined joined graph chains f all =
     All-from_recursion _ _
     (AllRec-filter (IsCouplerJoined joined) (is_on_chain chains) (node_entries 0 f.fields) f.couplings
     (nodes_joined joined 0 f.fields f.couplings
@@ -82,11 +82,13 @@ module _ (e : Embedding) (kept : IsEmbedding e) where
   tied_offset Cut = cut_offset_small e kept
 
   -- a model of it can be written on its chains
-  pub tied_fits_output : (ties : ChainStrength) (rows cols shore variables : ℕ)
-      → e.qubits ≡ 2 * rows * cols * shore → variables ≤ length e.chains
-      → FitsOutput (Chimera rows cols shore) e.chains variables (image_tied ties e)
-  tied_fits_output ties rows cols shore variables same enough =
-      grind (arith, nat_tests, cut_fits_output)
+  pub tied_fits_output : (ties : ChainStrength) (graph : Graph) (variables : ℕ)
+      → e.qubits ≡ qubits_of graph → variables ≤ length e.chains
+      → FitsOutput (Qubits graph) e.chains variables (image_tied ties e)
+  tied_fits_output Choi graph variables same enough =
+      choi_written.image_fits_output e graph variables kept same enough
+  tied_fits_output Cut graph variables same enough =
+      cut_fits_output e graph variables kept same enough
 
 -- its couplings are on joined qubits
 pub tied_is_joined : (ties : ChainStrength) (joined : Joins) (n : ℕ) (f : IsingContent)
@@ -115,15 +117,27 @@ pub link_fits : (e : Embedding) → IsEmbedding e → chains.Fits (link_of e) e
 link_fits e kept = record { chains = refl; qubits = refl; kept = kept }
 
 -- whatever the embedded form relaxes, it stands for
-pub tied_stands : (ties : ChainStrength) (e : Embedding) → IsEmbedding e → (source : Form) (d : Decoding)
-    (n : Figures) → Relaxes source (isings.form_of e.ising) d (pos 1) n
-    → StandsBy ties source (isings.form_of (image_tied ties e))
+pub tied_stands : (ties : ChainStrength) (e : Embedding) → IsEmbedding e → (scope : PenaltyScope)
+    (source : Form) (d : Decoding) (n : Figures)
+    → RelaxesBy scope source (isings.form_of e.ising) d (pos 1) n
+    → StandsBy ties scope source (isings.form_of (image_tied ties e))
     (decoding_after d (chains.decoding (link_of e))) (pos 1) (chained_figures ties e n)
-tied_stands Choi e kept source d n relaxed =
-    keeps_after_relaxes relaxed (chains_keep (link_of e) e (link_fits e kept))
-tied_stands Cut e kept source d n relaxed =
-    kept_stands (relaxed_stands source (isings.form_of e.ising) d (pos 1) n relaxed)
+tied_stands Choi e kept scope source d n relaxed =
+    keeps_after_by scope source (isings.form_of e.ising) (isings.form_of (image_tied Choi e)) d
+    (chains.decoding (link_of e)) n (pos 1) (offset_tied Choi e) relaxed
+    (chains_keep (link_of e) e (link_fits e kept))
+tied_stands Cut e kept scope source d n relaxed =
+    kept_stands (relaxed_stands scope source (isings.form_of e.ising) d (pos 1) n relaxed)
     (cut_keeps (cut_link_of e) e (link_fits e kept))
+
+-- and where no state of the embedded form lies below a whole cost, none does on the chains
+pub tied_stays : (ties : ChainStrength) (e : Embedding) → IsEmbedding e → (source : Form)
+    (d : Decoding) (n : Figures) → StaysAbove source (isings.form_of e.ising) d (pos 1) n
+    → StaysBy ties source (isings.form_of (image_tied ties e))
+    (decoding_after d (chains.decoding (link_of e))) (pos 1) (chained_figures ties e n)
+tied_stays Choi e kept source d n stays =
+    keeps_stays_above stays (chains_keep (link_of e) e (link_fits e kept))
+tied_stays Cut e kept source d n stays = tt
 
 -- the state on all qubits reaches an assignment of the nodes
 pub tied_reach : (ties : ChainStrength) (e : Embedding) (x : List Bool) → IsEmbedding e
@@ -135,33 +149,24 @@ tied_reach Cut e x kept width = cut_reaches (cut_link_of e) e x (link_fits e kep
 
 -- its least states stand for the least assignments
 pub least_stand_by : LeastStandBy
-least_stand_by Choi f g d u n stands = relaxed_stands f g d u n stands
-least_stand_by Cut f g d u n stands = stands
+least_stand_by Choi scope f g d u n stands = relaxed_stands scope f g d u n stands
+least_stand_by Cut scope f g d u n stands = stands
 
 -- ---- other steps
 
 -- counted in a unit it stands for the same
-pub stands_reduced : (ties : ChainStrength) (f g h : Form) (d : Decoding) (n : Figures) (u b : ℤ)
-    → StandsBy ties f g d (pos 1) n → Reduces g h u b → StandsBy ties f h d u (figures_moved n b)
-stands_reduced Choi f g h d n u b stands reduces = reduces_after_relaxes stands reduces
-stands_reduced Cut f g h d n u b stands reduces = reduced_stands f g h d n u b stands reduces
+pub stands_reduced : (ties : ChainStrength) (scope : PenaltyScope) (f g h : Form) (d : Decoding)
+    (n : Figures) (u b : ℤ) → StandsBy ties scope f g d (pos 1) n → Reduces g h u b
+    → StandsBy ties scope f h d u (figures_moved n b)
+stands_reduced Choi scope f g h d n u b stands reduces =
+    reduces_after_by scope f g h d n u b stands reduces
+stands_reduced Cut scope f g h d n u b stands reduces = reduced_stands f g h d n u b stands reduces
 
-relaxes_alike : (f g : Form) (d d' : Decoding) (u : ℤ) (n : Figures)
-    → ((y : List Bool) → d.decoded y ≡ d'.decoded y) → Relaxes f g d u n → Relaxes f g d' u n
-relaxes_alike f g d d' u n same p = record {
-  unit = p.unit;
-  positive = p.positive;
-  width = λ y w. subst (IsOf f) (same y) (p.width y w);
-  bound = λ y w v whole. p.bound y w v (ap f.cost (same y) ∙ whole);
-  above = λ y w infinite. p.above y w (ap f.cost (same y) ∙ infinite);
-  reached = λ x w v whole.
-      let y = p.reached x w v whole in (
-        y.0,
-        record { width = y.1.width; decodes = sym (same y.0) ∙ y.1.decodes; energy = y.1.energy },
-      );
-  below = p.below;
-  onto = λ x w. let y = p.onto x w in (y.0, y.1, sym (same y.0) ∙ y.2);
-}
+-- and no state lies lower
+pub stays_reduced : (ties : ChainStrength) (f g h : Form) (d : Decoding) (n : Figures) (u b : ℤ)
+    → StaysBy ties f g d (pos 1) n → Reduces g h u b → StaysBy ties f h d u (figures_moved n b)
+stays_reduced Choi f g h d n u b stays reduces = reduces_stays_above stays reduces
+stays_reduced Cut f g h d n u b stays reduces = tt
 
 least_alike : (f g : Form) (d d' : Decoding) (u : ℤ) (n : Figures)
     → ((y : List Bool) → d.decoded y ≡ d'.decoded y) → StandsAtLeast f g d u n
@@ -177,8 +182,16 @@ least_alike f g d d' u n same p = record {
 }
 
 -- only what states decode to matters
-pub stands_alike : (ties : ChainStrength) (f g : Form) (d d' : Decoding) (u : ℤ) (n : Figures)
-    → ((y : List Bool) → d.decoded y ≡ d'.decoded y) → StandsBy ties f g d u n
-    → StandsBy ties f g d' u n
-stands_alike Choi f g d d' u n same stands = relaxes_alike f g d d' u n same stands
-stands_alike Cut f g d d' u n same stands = least_alike f g d d' u n same stands
+pub stands_alike : (ties : ChainStrength) (scope : PenaltyScope) (f g : Form) (d d' : Decoding)
+    (u : ℤ) (n : Figures) → ((y : List Bool) → d.decoded y ≡ d'.decoded y)
+    → StandsBy ties scope f g d u n → StandsBy ties scope f g d' u n
+stands_alike Choi scope f g d d' u n same stands =
+    by_alike scope f f g d d' u n (record { width = refl; costs = λ x. refl }) (λ y w. sym (same y)) stands
+stands_alike Cut scope f g d d' u n same stands = least_alike f g d d' u n same stands
+
+pub stays_alike : (ties : ChainStrength) (f g : Form) (d d' : Decoding) (u : ℤ) (n : Figures)
+    → ((y : List Bool) → d.decoded y ≡ d'.decoded y) → StaysBy ties f g d u n
+    → StaysBy ties f g d' u n
+stays_alike Choi f g d d' u n same stays =
+    stays_above_alike f f g d d' u n (record { width = refl; costs = λ x. refl }) (λ y w. sym (same y)) stays
+stays_alike Cut f g d d' u n same stays = tt

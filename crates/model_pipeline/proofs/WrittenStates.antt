@@ -1,10 +1,10 @@
 -- A written model has the energies of its form, counted in its unit and moved: so a state that is
 -- least for the form is least for the model, and what the form stands for the model does.
-use Rattle.model_pipeline.proofs.Common.{nat_tests, ◌≡◌, ◌⊎◌, inl, inr, ℕ, ℤ, pos, negsuc, ◌+ℤ◌, ◌*ℤ◌, ◌≤ℤ◌, ◌<ℤ◌, Bool, List, take, refl, sym, ap, ◌∙◌, subst, arith, neg_ℤ, ints, total_by, times-lt, Figures, Kind, UnitChoice, Form, IsOf, energy, Written, bits_energy, read_off, spins_energy, Decoding, ExtendsLeast, Reaches, Reduces, decoding_after, figures_after, figures_moved, QuadContent, one_le_quad_unit, IsingContent, FitsOutput, ising_unit, reduced, one_le_ising_unit, made_reduces, written_energy, ChainStrength, decoding_to, chained_model, qubo_model, StandsBy, ExtendsTo, IsLeastTo, ◌≤◌, ◌<◌, [], length, map, All, length-map, first_bits, least-trans, Choices, ProblemContent, NodeModel, figures, same_bits, counted_in, coupled, length-fields, spins_keeps, spins_reaches, image_is_ising, Chimera, qubits_of, Embedding, IsEmbedding, IsChecked, checked_embeds, chains_keep, chains_reach, read_off_the_chains, IsValidOn, Qubits, fabric_in, graph_in, chained_figures, image_tied, kind_of, offset_tied, qubit_model, ising_figures, model, quad_of, HasRoom, ising_of, FitsState, IsLeastExtension, IsMade, IsMadeOf, link_by, state_on, One, Reduce, Qubo, Ising, Choi}
+use Rattle.model_pipeline.proofs.Common.{nat_tests, ◌≡◌, ◌⊎◌, inl, inr, ℕ, ℤ, pos, negsuc, ◌+ℤ◌, ◌*ℤ◌, ◌≤ℤ◌, ◌<ℤ◌, Bool, List, take, refl, sym, ap, ◌∙◌, subst, arith, neg_ℤ, ints, total_by, times-lt, Figures, Kind, UnitChoice, Form, IsOf, energy, Written, bits_energy, read_off, spins_energy, Decoding, ExtendsLeast, Reaches, Reduces, decoding_after, figures_after, figures_moved, QuadContent, one_le_quad_unit, IsingContent, FitsOutput, ising_unit, reduced, one_le_ising_unit, made_reduces, written_energy, ChainStrength, decoding_to, chained_model, qubo_model, StandsBy, ExtendsTo, IsLeastTo, ◌≤◌, ◌<◌, [], length, map, All, length-map, first_bits, least-trans, Choices, ProblemContent, NodeModel, figures, same_bits, counted_in, coupled, length-fields, spins_keeps, spins_reaches, image_is_ising, Graph, qubits_of, Embedding, IsEmbedding, IsChecked, checked_embeds, chains_keep, chains_reach, read_off_the_chains, IsValidOn, Qubits, fabric_in, graph_in, chained_figures, image_tied, offset_tied, qubit_model, ising_figures, model, quad_of, HasRoom, ising_of, FitsState, IsLeastExtension, IsMade, IsMadeOf, link_by, state_on, One, Reduce, Qubo, Ising, Choi, PenaltyScope, StaysBy}
 use Rattle.base.specs.declared.costs.Cost.TheVariants.{Whole}
 use Rattle.bits_model.specs.Output.{form_of}
-use Rattle.model_pipeline.proofs.Tied.{reduced_fits, stands_alike, stands_reduced, link_fits, link_of, tied_fits_output, tied_reach, tied_width}
-use Rattle.model_pipeline.proofs.GraphModels.{few_in, sized_in}
+use Rattle.model_pipeline.proofs.Tied.{reduced_fits, stands_alike, stands_reduced, link_fits, link_of, tied_fits_output, tied_reach, tied_width, stays_alike, stays_reduced}
+use Rattle.model_pipeline.proofs.GraphModels.{below_in, few_in, sized_in}
 use Rattle.model_pipeline.proofs.Standing.{spins_fit, spins_link, steps_enough}
 use Rattle.quad_form.specs.Quads as quads
 use Rattle.quad_form.specs.Units as units
@@ -86,15 +86,27 @@ module _ (variables : ℕ) (f g : Form) (d : Decoding) (n : Figures) (m : Writte
       (least.least z wide (counts.reads z ∙ same))
 
 -- what the form stands for, the model does
-pub stands_written : (ties : ChainStrength) (variables : ℕ) (f g : Form) (d : Decoding) (n : Figures)
-    (m : Written) → Counts variables g n d m → StandsBy ties f g d (pos 1) n
-    → StandsBy ties f (form_of m) (decoding_to variables m) m.unit m.figures
-stands_written ties variables f g d n m counts stands =
+pub stands_written : (ties : ChainStrength) (scope : PenaltyScope) (variables : ℕ) (f g : Form)
+    (d : Decoding) (n : Figures) (m : Written) → Counts variables g n d m
+    → StandsBy ties scope f g d (pos 1) n
+    → StandsBy ties scope f (form_of m) (decoding_to variables m) m.unit m.figures
+stands_written ties scope variables f g d n m counts stands =
     let h = form_of m in
     let to = decoding_to variables m in
-    subst (λ r. StandsBy ties f h to m.unit r) (sym counts.figures)
-    (stands_alike ties f h d to m.unit (figures_moved n counts.moved) counts.reads
-    (stands_reduced ties f g h d n m.unit counts.moved stands counts.reduces))
+    subst (λ r. StandsBy ties scope f h to m.unit r) (sym counts.figures)
+    (stands_alike ties scope f h d to m.unit (figures_moved n counts.moved) counts.reads
+    (stands_reduced ties scope f g h d n m.unit counts.moved stands counts.reduces))
+
+-- and where no state of the form lies below a whole cost, none of the model does
+pub stays_written : (ties : ChainStrength) (variables : ℕ) (f g : Form) (d : Decoding) (n : Figures)
+    (m : Written) → Counts variables g n d m → StaysBy ties f g d (pos 1) n
+    → StaysBy ties f (form_of m) (decoding_to variables m) m.unit m.figures
+stays_written ties variables f g d n m counts stays =
+    let h = form_of m in
+    let to = decoding_to variables m in
+    subst (λ r. StaysBy ties f h to m.unit r) (sym counts.figures)
+    (stays_alike ties f h d to m.unit (figures_moved n counts.moved) counts.reads
+    (stays_reduced ties f g h d n m.unit counts.moved stays counts.reduces))
 
 -- ---- the models of forms
 
@@ -268,7 +280,7 @@ module _ (choices : Choices) (p : ProblemContent) (room : HasRoom (quad_of choic
 
     -- ---- on chains
 
-    module _ (ties : ChainStrength) (graph : Chimera) (e : Embedding) (kept : IsEmbedding e)
+    module _ (ties : ChainStrength) (graph : Graph) (e : Embedding) (kept : IsEmbedding e)
         (same : e.ising ≡ ising) (sized : e.qubits ≡ qubits_of graph) (x y : List Bool)
         (least : IsLeastExtension choices p x y) where
       abbrev after_chains : Decoding
@@ -295,22 +307,22 @@ module _ (choices : Choices) (p : ProblemContent) (room : HasRoom (quad_of choic
           (least_follows source (isings.form_of e.ising) after_spins spun_figures x y embedded_least)
           (tied_reach ties e y kept wide)
 
-      on_graph : FitsOutput (kind_of graph) e.chains own (image_tied ties e)
+      on_graph : FitsOutput (kinds.Qubits graph) e.chains own (image_tied ties e)
       on_graph =
-          tied_fits_output e kept ties graph.rows graph.cols graph.shore own sized
+          tied_fits_output e kept ties graph own sized
           (omega (arith, kept.counted, wide, least.width, enough, few))
 
       reads : (w : List Bool)
-          → after_chains.decoded w ≡ read_off (kind_of graph) p.variables e.chains w
-      reads w = sym (read_off_the_chains (link_of e) graph.rows graph.cols graph.shore p.variables w)
+          → after_chains.decoded w ≡ read_off (kinds.Qubits graph) p.variables e.chains w
+      reads w = sym (read_off_the_chains (link_of e) graph p.variables w)
 
       counts : (unit : UnitChoice)
           → Counts p.variables (isings.form_of (image_tied ties e)) tied_figures after_chains
-          (qubit_model unit ties e own spun_figures (kind_of graph))
+          (qubit_model unit ties e own spun_figures (kinds.Qubits graph))
       counts unit = grind (arith, nat_tests, chained_counts, reads, on_graph)
 
       model_width : (unit : UnitChoice)
-          → (qubit_model unit ties e own spun_figures (kind_of graph)).nodes ≡ e.qubits
+          → (qubit_model unit ties e own spun_figures (kinds.Qubits graph)).nodes ≡ e.qubits
       model_width One = tied_width ties e
       model_width Reduce =
           length-map (image_tied ties e).fields (counted_in (ising_unit (image_tied ties e)))
@@ -318,14 +330,14 @@ module _ (choices : Choices) (p : ProblemContent) (room : HasRoom (quad_of choic
 
       -- the state on the qubits is the extension
       state_is : (unit : UnitChoice)
-          → state_on (qubit_model unit ties e own spun_figures (kind_of graph)) y ≡ z
+          → state_on (qubit_model unit ties e own spun_figures (kinds.Qubits graph)) y ≡ z
       state_is unit = grind (arith, nat_tests, model_width)
 
       on_chains : (unit : UnitChoice)
-          → ExtendsTo p.variables source (qubit_model unit ties e own spun_figures (kind_of graph))
-          x (state_on (qubit_model unit ties e own spun_figures (kind_of graph)) y)
+          → ExtendsTo p.variables source (qubit_model unit ties e own spun_figures (kinds.Qubits graph))
+          x (state_on (qubit_model unit ties e own spun_figures (kinds.Qubits graph)) y)
       on_chains unit =
-          let m = qubit_model unit ties e own spun_figures (kind_of graph) in
+          let m = qubit_model unit ties e own spun_figures (kinds.Qubits graph) in
           subst (ExtendsTo p.variables source m x) (sym (state_is unit))
           (extends_written p.variables source (isings.form_of (image_tied ties e)) after_chains
           tied_figures m (counts unit) x z chained_follows)
@@ -335,18 +347,18 @@ module _ (choices : Choices) (p : ProblemContent) (room : HasRoom (quad_of choic
       fits_qubits nodes all = grind (arith, nat_tests, wide)
 
       fits_chains : (unit : UnitChoice)
-          → FitsState (qubit_model unit ties e own spun_figures (kind_of graph)) y
+          → FitsState (qubit_model unit ties e own spun_figures (kinds.Qubits graph)) y
       fits_chains unit = grind (arith, nat_tests, fits_qubits, tied_width, model_width)
 
     -- chains that no state should break keep every state
-    module _ (graph : Chimera) (e : Embedding) (kept : IsEmbedding e) (same : e.ising ≡ ising)
+    module _ (graph : Graph) (e : Embedding) (kept : IsEmbedding e) (same : e.ising ≡ ising)
         (sized : e.qubits ≡ qubits_of graph) (x y : List Bool)
         (least : IsLeastExtension choices p x y) where
       least_on_chains : (unit : UnitChoice)
-          → IsLeastTo p.variables (qubit_model unit Choi e own spun_figures (kind_of graph)) x
-          (state_on (qubit_model unit Choi e own spun_figures (kind_of graph)) y)
+          → IsLeastTo p.variables (qubit_model unit Choi e own spun_figures (kinds.Qubits graph)) x
+          (state_on (qubit_model unit Choi e own spun_figures (kinds.Qubits graph)) y)
       least_on_chains unit =
-          let m = qubit_model unit Choi e own spun_figures (kind_of graph) in
+          let m = qubit_model unit Choi e own spun_figures (kinds.Qubits graph) in
           let link = link_of e in
           let links = link_fits e kept in
           let chained = least-trans (chains_keep link e links)
@@ -366,8 +378,8 @@ module _ (choices : Choices) (p : ProblemContent) (room : HasRoom (quad_of choic
       → IsValidOn (fabric_in qubits) ising map
       → IsChecked (fabric_in qubits).joined (fabric_in qubits).qubits ising map e → IsEmbedding e
   embeds qubits map e valid checked =
-      checked_embeds (fabric_in qubits).joined (fabric_in qubits).qubits ising map e (few_in qubits)
-      (image_is_ising (quad_of choices p) room.quad room.total) valid.0 checked
+      checked_embeds (fabric_in qubits).joined (fabric_in qubits).exists (fabric_in qubits).qubits ising map e (few_in qubits)
+      (below_in qubits) (image_is_ising (quad_of choices p) room.quad room.total) valid checked
 
   pub made_extends : (m : Written) (x y : List Bool) → IsMade choices p m
       → IsLeastExtension choices p x y → ExtendsTo p.variables source m x (state_on m y)

@@ -2,7 +2,7 @@
 use Rattle.std.specs.Prelude.{◌≡◌, ◌≤◌, Bool, List, take}
 use Rattle.form_steps.specs.declared.layer.BitsLink.{BitsLink}
 use Rattle.bits_model.specs.declared.output.Kind.{Kind}
-use Rattle.bits_model.specs.declared.output.Kind.TheVariants.{Qubo, Ising, Chimera}
+use Rattle.bits_model.specs.declared.output.Kind.TheVariants.{Qubo, Ising, Qubits}
 use Rattle.form_steps.specs.Links.{first_bits}
 use Rattle.bits_model.specs.Output.{Written, decoding_of}
 use Rattle.form_steps.specs.Relations.{Decoding, decoding_after}
@@ -66,7 +66,7 @@ chains_decoding links = decoding_after (spins_decoding links) (chains.decoding l
 abbrev pub steps_decoding : Kind → StepLinks → Decoding
 steps_decoding Qubo links = quad_decoding links
 steps_decoding Ising links = spins_decoding links
-steps_decoding (Chimera rows cols shore) links = chains_decoding links
+steps_decoding (Qubits graph) links = chains_decoding links
 
 -- ---- the law
 

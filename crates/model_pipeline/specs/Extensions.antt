@@ -4,7 +4,8 @@ use Rattle.std.specs.Prelude.{◌≡◌, ◌⊎◌, ⊤, ℕ, ◌<◌, ◌≤◌
 use Rattle.base.specs.declared.costs.Cost.TheVariants.{Whole}
 use Rattle.form_steps.specs.declared.layer.BitsLink.{BitsLink}
 use Rattle.bits_model.specs.declared.output.Kind.{Kind}
-use Rattle.bits_model.specs.declared.output.Kind.TheVariants.{Qubo, Ising, Chimera}
+use Rattle.bits_model.specs.declared.output.Kind.TheVariants.{Qubo, Ising}
+use Rattle.bits_model.specs.declared.output.Kind.TheVariants as kinds
 use Rattle.base.specs.declared.unit.UnitChoice.{UnitChoice}
 use Rattle.base.specs.Costs.{Form, energy}
 use Rattle.form_steps.specs.Links.{first_bits}
@@ -24,7 +25,7 @@ use Rattle.monomial_layer.specs.Monomials as monomials
 use Rattle.rosenberg_layer.specs.Rosenberg as rosenberg
 use Rattle.quad_form.specs.Quads as quads
 use Rattle.chain_layer.specs.Image.{on_chains}
-use Rattle.working_graph.specs.Fabrics.{IsValidOn}
+use Rattle.embedding_check.specs.Fabrics.{IsValidOn}
 use Rattle.model_pipeline.specs.declared.site.Qubits.{Qubits}
 use Rattle.model_pipeline.specs.declared.site.ChainSource.TheVariants.{Map}
 use Rattle.model_pipeline.specs.Models.{terms_of, quad_by, ising_figures, model, decoding_to}
@@ -72,7 +73,7 @@ IsLeastExtension choices p x y = ExtendsLeastBy choices.normal choices.high p x 
 -- the bits of a model's nodes, from those of its form's nodes: the same, or on a graph the bit of
 -- each qubit
 abbrev pub state_by : Kind → Written → List Bool → List Bool
-state_by (Chimera rows cols shore) m x = on_chains m.chains m.nodes x
+state_by (kinds.Qubits graph) m x = on_chains m.chains m.nodes x
 state_by kind m x = x
 
 -- the same, by the model's own kind
@@ -84,7 +85,7 @@ state_on m x = state_by m.kind m x
 abbrev pub FitsNodes : Kind → Written → List Bool → Type 0
 FitsNodes Qubo m x = ⊤
 FitsNodes Ising m x = ⊤
-FitsNodes (Chimera rows cols shore) m x =
+FitsNodes (kinds.Qubits graph) m x =
     (length x ≡ length m.chains) × All (λ chain. All (λ q. q < m.nodes) chain) m.chains
 
 -- the same, by the model's own kind
@@ -93,7 +94,7 @@ FitsState m x = FitsNodes m.kind m x
 
 -- how many nodes a model's form has: as many as the model, or on a graph one for each chain
 abbrev pub form_nodes_by : Kind → Written → ℕ
-form_nodes_by (Chimera rows cols shore) m = length m.chains
+form_nodes_by (kinds.Qubits graph) m = length m.chains
 form_nodes_by kind m = m.nodes
 
 -- the same, by the model's own kind

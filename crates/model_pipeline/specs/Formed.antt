@@ -2,7 +2,8 @@
 use Rattle.std.specs.Prelude.{◌≡◌, ◌≤◌, ◌<◌, ◌+◌, ◌*◌, ◌^◌, ℤ, pos, ◌≤ℤ◌, Bool, List, length, take, unsigned_abs}
 use Rattle.base.specs.declared.costs.Figures.{Figures}
 use Rattle.base.specs.Costs.{Form}
-use Rattle.form_steps.specs.Relations.{Decoding, Relaxes}
+use Rattle.form_steps.specs.declared.scope.PenaltyScope.{PenaltyScope}
+use Rattle.form_steps.specs.Relations.{Decoding, RelaxesBy, StaysAbove}
 use Rattle.problem_form.specs.Problems.{ProblemContent, form_of}
 use Rattle.problem_form.specs.Limits.{upper}
 use Rattle.term_table.specs.Terms.{terms_total}
@@ -28,9 +29,14 @@ pub record AddTo (t u : TableContent) : Type 0 where
 abbrev pub AreHeldFor : TableContent → HeldContent → Type 0
 AreHeldFor t h = (u : TableContent) × AddTo t u × AreHeld u h
 
--- a form that relaxes a problem in this unit, and whose states decode to their first bits
+-- a form that relaxes a problem in this unit, in each scope that the problem's penalties allow, none
+-- of whose states lies below the whole cost that it decodes to, and whose states decode to their
+-- first bits
 pub record Stands (p : ProblemContent) (f : Form) (d : Decoding) (u : ℤ) (n : Figures) : Type 0 where
-  pub relaxes : Relaxes (form_of p) f d u n
+  pub unit : pos 1 ≤ℤ u
+  pub positive : pos 1 ≤ℤ n.scale
+  pub relaxes : (scope : PenaltyScope) → penalty.Allows scope p → RelaxesBy scope (form_of p) f d u n
+  pub stays : StaysAbove (form_of p) f d u n
   pub decodes : (y : List Bool) → d.decoded y ≡ take p.variables y
 
 -- a quadratic form with room for its Ising form

@@ -3,6 +3,9 @@
 use Rattle.std.specs.Prelude.{◌≡◌, ℕ, ◌+ℤ◌, ◌*ℤ◌, List, length}
 use Rattle.base.specs.declared.costs.Figures.{Figures}
 use Rattle.base.specs.declared.unit.UnitChoice.{UnitChoice}
+use Rattle.bits_model.specs.declared.output.Graph.{Graph}
+use Rattle.bits_model.specs.declared.output.Kind.TheVariants as kinds
+use Rattle.form_steps.specs.declared.scope.PenaltyScope.{PenaltyScope}
 use Rattle.bits_model.specs.Output.{Written, IsWellFormed, form_of}
 use Rattle.model_pipeline.specs.faithful.Bounds.{IsBounded}
 use Rattle.model_pipeline.specs.faithful.Faithful.{HasUnit, IsEmbedded, scale_of}
@@ -15,15 +18,14 @@ use Rattle.command_words.specs.declared.commands.ChainStrength.{ChainStrength}
 use Rattle.penalty_layer.specs.Penalty as penalty
 use Rattle.ising_form.specs.Isings.{IsingContent}
 use Rattle.ising_form.specs.Spins as spins
-use Rattle.chimera_graph.specs.declared.chimera.Chimera.{Chimera}
 use Rattle.embedding_check.specs.Embeddings.{Embedding}
 use Rattle.embedding_check.specs.Checked.{IsChecked}
-use Rattle.working_graph.specs.Fabrics.{Fabric}
+use Rattle.hardware.specs.Fabrics.{Fabric}
 use Rattle.model_pipeline.specs.declared.site.Site.{Site}
 use Rattle.model_pipeline.specs.Models.{quad_of, decoding_to, ising_figures}
 use Rattle.model_pipeline.specs.Sites.{chains_of, fabric_in, graph_in}
-use Rattle.model_pipeline.specs.QubitModels.{kind_of, qubit_model}
-use Rattle.model_pipeline.specs.QubitStanding.{demand_of, StandsBy, IsQubitModelOf}
+use Rattle.model_pipeline.specs.QubitModels.{qubit_model}
+use Rattle.model_pipeline.specs.QubitStanding.{demand_of, StandsBy, IsQubitModelOf, StaysBy}
 
 -- the Ising form of a problem, as a command chooses its steps
 abbrev pub ising_of : Choices → ProblemContent → IsingContent
@@ -31,10 +33,11 @@ ising_of choices p = spins.image (quad_of choices p)
 
 -- a well-formed model on this graph whose numbers fit their fields, all of them below 2 ^ 124 and
 -- its energies below 2 ^ 121 in size, with so many variables, the stated figures, the unit that was
--- chosen and the chains of the map, which stands for the problem in this unit as its ties allow
+-- chosen and the chains of the map, which stands for the problem in this unit as its ties and the
+-- problem's penalties allow
 pub record IsGraphModelOf (p : ProblemContent) (own : ℕ) (choice : UnitChoice) (ties : ChainStrength)
-    (graph : Chimera) (fabric : Fabric) (map : List (List ℕ)) (m : Written) : Type 0 where
-  pub kind : m.kind ≡ kind_of graph
+    (graph : Graph) (fabric : Fabric) (map : List (List ℕ)) (m : Written) : Type 0 where
+  pub kind : m.kind ≡ kinds.Qubits graph
   pub fits : FitsFields m
   pub bounded : IsBounded m
   pub well_formed : IsWellFormed m
@@ -43,8 +46,10 @@ pub record IsGraphModelOf (p : ProblemContent) (own : ℕ) (choice : UnitChoice)
   pub threshold : m.figures.threshold ≡ m.figures.scale *ℤ upper p +ℤ m.figures.offset
   pub unit : HasUnit choice m
   pub embedded : IsEmbedded (demand_of choice fabric map) m
-  pub stands : StandsBy ties (problems.form_of p) (form_of m) (decoding_to p.variables m) m.unit
+  pub stands : (scope : PenaltyScope) → penalty.Allows scope p
+      → StandsBy ties scope (problems.form_of p) (form_of m) (decoding_to p.variables m) m.unit
       m.figures
+  pub stays : StaysBy ties (problems.form_of p) (form_of m) (decoding_to p.variables m) m.unit m.figures
 
 -- the chains that a site has for the Ising form of a problem
 abbrev pub site_chains : Site → Choices → ProblemContent → List (List ℕ)
@@ -56,7 +61,7 @@ abbrev pub IsFormAt : Site → UnitChoice → IsingContent → ℕ → Figures �
 IsFormAt site unit form own figures m =
     (e : Embedding) × IsChecked (fabric_in site.qubits).joined (fabric_in site.qubits).qubits form
     (chains_of site.qubits site.chain_source (length form.fields)) e
-    × (m ≡ qubit_model unit site.ties e own figures (kind_of (graph_in site.qubits)))
+    × (m ≡ qubit_model unit site.ties e own figures (kinds.Qubits (graph_in site.qubits)))
 
 -- the same, as a model that stands for the form as the site's ties allow
 abbrev pub StandsForForm : Site → UnitChoice → IsingContent → ℕ → Figures → Written → Type 0

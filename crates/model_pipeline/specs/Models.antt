@@ -5,7 +5,8 @@ use Rattle.bits_model.specs.declared.output.Kind.TheVariants as kinds
 use Rattle.base.specs.declared.costs.Figures.{Figures}
 use Rattle.base.specs.declared.unit.UnitChoice.{UnitChoice}
 use Rattle.base.specs.declared.unit.UnitChoice.TheVariants.{One, Reduce}
-use Rattle.form_steps.specs.Relations.{Decoding, Relaxes}
+use Rattle.form_steps.specs.declared.scope.PenaltyScope.{PenaltyScope}
+use Rattle.form_steps.specs.Relations.{Decoding, RelaxesBy, StaysAbove}
 use Rattle.base.specs.Figures.{figures_after, figures_moved}
 use Rattle.bits_model.specs.Output.{Written, IsWellFormed, form_of, read_off}
 use Rattle.model_pipeline.specs.faithful.Bounds.{IsBounded}
@@ -95,7 +96,8 @@ decoding_to variables m = record {
 
 -- a well-formed model for this target whose numbers fit their fields, all of them below 2 ^ 124 and
 -- its energies below 2 ^ 121 in size, with so many variables, the stated figures and the unit that
--- was chosen, which relaxes the problem in this unit
+-- was chosen, which relaxes the problem in this unit, in each scope that the problem's penalties allow,
+-- and none of whose states lies below the whole cost that it decodes to
 pub record IsModelOf (p : ProblemContent) (own : ℕ) (target : NodeModel) (choice : UnitChoice)
     (m : Written) : Type 0 where
   pub kind : m.kind ≡ kind_of target
@@ -106,4 +108,6 @@ pub record IsModelOf (p : ProblemContent) (own : ℕ) (target : NodeModel) (choi
   pub scale : m.figures.scale ≡ scale_of m.kind
   pub threshold : m.figures.threshold ≡ m.figures.scale *ℤ upper p +ℤ m.figures.offset
   pub unit : HasUnit choice m
-  pub relaxes : Relaxes (problems.form_of p) (form_of m) (decoding_to p.variables m) m.unit m.figures
+  pub relaxes : (scope : PenaltyScope) → penalty.Allows scope p
+      → RelaxesBy scope (problems.form_of p) (form_of m) (decoding_to p.variables m) m.unit m.figures
+  pub stays : StaysAbove (problems.form_of p) (form_of m) (decoding_to p.variables m) m.unit m.figures

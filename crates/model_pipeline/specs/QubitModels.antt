@@ -2,7 +2,6 @@
 use Rattle.std.specs.Prelude.{ℕ, ℤ, pos, neg_ℤ, List}
 use Rattle.base.specs.declared.costs.Figures.{Figures}
 use Rattle.bits_model.specs.declared.output.Kind.{Kind}
-use Rattle.bits_model.specs.declared.output.Kind.TheVariants as kinds
 use Rattle.base.specs.declared.unit.UnitChoice.{UnitChoice}
 use Rattle.base.specs.declared.unit.UnitChoice.TheVariants.{One, Reduce}
 use Rattle.base.specs.Figures.{figures_after, figures_moved}
@@ -12,14 +11,9 @@ use Rattle.command_words.specs.declared.commands.ChainStrength.TheVariants.{Choi
 use Rattle.ising_form.specs.Isings.{IsingContent}
 use Rattle.ising_form.specs.Outputs as isings
 use Rattle.ising_form.specs.Reduction as reduction
-use Rattle.chimera_graph.specs.declared.chimera.Chimera.{Chimera}
 use Rattle.embedding_check.specs.Embeddings.{Embedding}
 use Rattle.chain_layer.specs.Image as chains
 use Rattle.cut_chains.specs.Sides.{cut_strength}
-
--- the kind of the models on the qubits of a graph
-abbrev pub kind_of : Chimera → Kind
-kind_of graph = kinds.Chimera graph.rows graph.cols graph.shore
 
 -- ---- the ties
 

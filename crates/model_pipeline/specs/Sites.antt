@@ -1,6 +1,8 @@
 -- Where chains stand: the qubits that there are, the chains on them, and whether a form has a place
 -- there.
 use Rattle.std.specs.Prelude.{◌≡◌, ℕ, ◌<◌, ◌≤◌, List, length, nat_lt}
+use Rattle.bits_model.specs.declared.output.Graph.{Graph}
+use Rattle.bits_model.specs.declared.output.Graph.TheVariants as graphs
 use Rattle.ising_form.specs.Isings.{IsingContent}
 use Rattle.chimera_graph.specs.declared.chimera.Chimera.{Chimera}
 use Rattle.chimera_graph.specs.Graph.{qubits_of, place_of}
@@ -8,8 +10,8 @@ use Rattle.chimera_graph.specs.Places.{are_joined}
 use Rattle.chain_map.specs.declared.faults.EmbedFault.{EmbedFault}
 use Rattle.chain_map.specs.declared.faults.EmbedFault.TheVariants.{TooManyNodes}
 use Rattle.chain_map.specs.Cliques.{clique_of, clique_places}
-use Rattle.working_graph.specs.Fabrics.{Fabric, IsValidOn}
-use Rattle.working_graph.specs.Faults.{IsFaultOn}
+use Rattle.hardware.specs.Fabrics.{Fabric}
+use Rattle.embedding_check.specs.Fabrics.{IsValidOn, IsFaultOn}
 use Rattle.working_graph.specs.Places.{taken_places, working_clique}
 use Rattle.working_graph.specs.Working.{fabric_of}
 use Rattle.model_pipeline.specs.declared.site.Qubits.{Qubits}
@@ -28,10 +30,14 @@ whole_fabric graph = record {
   joined = λ a b. are_joined (place_of graph a) (place_of graph b);
 }
 
+-- a Chimera graph, in the numbers that a model has of it
+abbrev pub in_numbers : Chimera → Graph
+in_numbers graph = graphs.Chimera graph.rows graph.cols graph.shore
+
 -- the graph that they are qubits of
-abbrev pub graph_in : Qubits → Chimera
-graph_in (which.All graph) = graph
-graph_in (which.Working w) = w.graph
+abbrev pub graph_in : Qubits → Graph
+graph_in (which.All graph) = in_numbers graph
+graph_in (which.Working w) = in_numbers w.graph
 
 -- which qubits there are, and which two of them are joined
 abbrev pub fabric_in : Qubits → Fabric

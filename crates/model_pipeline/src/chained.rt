@@ -1,11 +1,10 @@
 //! The models of forms that are embedded, each chain tied.
 ghost use Rattle.std.specs.Prelude.{◌≡◌, ◌+◌, ◌*◌, ◌<◌, ◌≤◌, ◌^◌, ◌≤ℤ◌, pos, length, unsigned_abs, IfOk};
 ghost use Rattle.ising_form.specs.Isings.{ising_total};
-ghost use Rattle.chimera_graph.specs.Graph.{qubits_of};
+ghost use Rattle.bits_model.specs.Output.{qubits_of};
 ghost use Rattle.embedding_check.specs.Embeddings.{IsEmbedding};
 ghost use Rattle.model_pipeline.specs.QubitModels.{
   image_tied,
-  kind_of,
   offset_tied,
   qubit_model,
 };
@@ -13,25 +12,13 @@ ghost use Rattle.model_pipeline.specs.QubitModels.{
 use crate::scaled::Scaled;
 use crate::written::chained_model;
 use base::{Figures, NoMemory, UnitChoice};
-use bits_model::{ChainList, Kind, OutputModel};
+use bits_model::{ChainList, Graph, Kind, OutputModel};
 use chain_layer::Chains;
-use chimera_graph::Chimera;
 use command_words::ChainStrength;
 use cut_chains::CutChains;
 use embedding_check::Embedded;
 use ising_form::Ising;
 use std::alloc::Global;
-
-/// The kind of the models on a graph.
-fn kind_of(graph: &Chimera) -> Kind
-    ensures { result ≡ kind_of graph.now }
-{
-    Kind::Chimera {
-        rows: graph.rows,
-        cols: graph.cols,
-        shore: graph.shore,
-    }
-}
 
 /// An embedded form that is given up on its qubits, each chain tied: the form, its chains, and how
 /// much is added to the energies.
@@ -69,16 +56,16 @@ pub fn embedded_model(
     figures: Figures,
     unit: UnitChoice,
     ties: ChainStrength,
-    graph: &Chimera,
+    graph: Graph,
 ) -> Result<OutputModel, NoMemory>
-    requires qubits { embedded.qubits ≡ qubits_of graph.now }
+    requires qubits { embedded.qubits ≡ qubits_of graph }
     requires own { own ≤ length embedded.ising.fields }
     requires total { (ising_total embedded.ising + 1) * 2 ^ 21 ≤ 2 ^ 124 }
     requires scale { pos 1 ≤ℤ figures.scale }
     requires offset { unsigned_abs figures.offset < 2 ^ 122 }
     requires threshold { unsigned_abs figures.threshold < 2 ^ 122 }
     ensures model { IfOk result (λ m.
-        m ≡ qubit_model unit ties embedded own figures (kind_of graph.now)) }
+        m ≡ qubit_model unit ties embedded own figures (Kind.Qubits graph)) }
 
     // What the laws of the model rest on.
     ensures kept { IfOk result (λ _. IsEmbedding embedded) }
@@ -88,5 +75,5 @@ pub fn embedded_model(
         target,
         figures: figures.after(1, offset),
     };
-    chained_model(alloc, form, own, unit, kind_of(graph), chains)
+    chained_model(alloc, form, own, unit, Kind::Qubits(graph), chains)
 }

@@ -5,8 +5,7 @@
 ghost use Rattle.std.specs.Prelude.{◌≡◌, ◌≤◌, ◌<◌, length, IfOk, IfErr};
 ghost use Rattle.chain_map.specs.Faults.{IfFault};
 ghost use Rattle.embedding_check.specs.Checked.{IsChecked};
-ghost use Rattle.working_graph.specs.Fabrics.{IsValidOn};
-ghost use Rattle.working_graph.specs.Faults.{IsFaultOn};
+ghost use Rattle.embedding_check.specs.Fabrics.{IsValidOn, IsFaultOn};
 ghost use Rattle.working_graph.specs.Places.{taken_places, working_clique};
 ghost use Rattle.working_graph.specs.Working.{fabric_of};
 ghost use Rattle.model_pipeline.specs.Sites.{
@@ -23,7 +22,7 @@ use chain_map::{ChainMap, CheckAnswer};
 use embedding_check::{Embedded, check};
 use ising_form::Ising;
 use std::alloc::Global;
-use working_graph::{Working, check_working, clique_embedded, clique_working};
+use working_graph::{Working, clique_embedded, clique_working};
 
 /// An Ising form on the chains of a clique, of the qubits of a graph that work.
 fn clique_on_working(alloc: Global, working: &Working, form: Ising) -> Result<Embedded, CheckAnswer>
@@ -35,7 +34,7 @@ fn clique_on_working(alloc: Global, working: &Working, form: Ising) -> Result<Em
         (IsFaultAt (Qubits.Working working.now) ChainSource.Clique form)) }
 {
     let map = clique_working(alloc, working, form.fields.as_slice().len())?;
-    check_working(alloc, working, form, &map)
+    check(alloc, working, form, &map)
 }
 
 /// An Ising form on the chains of a clique. It is refused exactly where there are more nodes than
@@ -69,7 +68,7 @@ fn on_map(
 {
     match qubits {
         Qubits::All(graph) => check(alloc, graph, form, map),
-        Qubits::Working(working) => check_working(alloc, working, form, map),
+        Qubits::Working(working) => check(alloc, working, form, map),
     }
 }
 

@@ -50,7 +50,7 @@ pub fn form_on_qubits(
 {
     let embedded = embedded_on(alloc, &site.qubits, &site.chain_source, form)?;
     let graph = graph_in(&site.qubits);
-    Ok(embedded_model(alloc, embedded, own, figures, unit, site.ties, &graph)?)
+    Ok(embedded_model(alloc, embedded, own, figures, unit, site.ties, graph)?)
 }
 
 /// The model of a problem within the limits, of which so many variables are the source's own, at a

@@ -1,7 +1,8 @@
 //! Where chains stand, and how they are tied.
 ghost use Rattle.std.specs.Prelude.{◌≡◌};
-ghost use Rattle.model_pipeline.specs.Sites.{graph_in};
+ghost use Rattle.model_pipeline.specs.Sites.{graph_in, in_numbers};
 
+use bits_model::Graph;
 use chain_map::ChainMap;
 use chimera_graph::Chimera;
 use command_words::ChainStrength;
@@ -29,12 +30,23 @@ pub struct Site {
     pub ties: ChainStrength,
 }
 
+/// A Chimera graph, in the numbers that a model has of it.
+fn in_numbers(graph: Chimera) -> Graph
+    ensures { result ≡ in_numbers graph }
+{
+    Graph::Chimera {
+        rows: graph.rows,
+        cols: graph.cols,
+        shore: graph.shore,
+    }
+}
+
 /// The graph of the qubits.
-pub(crate) fn graph_in(qubits: &Qubits) -> Chimera
+pub(crate) fn graph_in(qubits: &Qubits) -> Graph
     ensures { result ≡ graph_in qubits.now }
 {
     match qubits {
-        Qubits::All(graph) => *graph,
-        Qubits::Working(working) => working.graph(),
+        Qubits::All(graph) => in_numbers(*graph),
+        Qubits::Working(working) => in_numbers(working.graph()),
     }
 }

@@ -29,7 +29,7 @@ fn state_of(alloc: Global, model: &OutputModel, x: Vec<bool>) -> Result<Vec<bool
 {
     match model.kind {
         Kind::Qubo | Kind::Ising => Ok(x),
-        Kind::Chimera { .. } => on_chains(alloc, &model.chains, model.nodes, &x),
+        Kind::Qubits(_) => on_chains(alloc, &model.chains, model.nodes, &x),
     }
 }
 

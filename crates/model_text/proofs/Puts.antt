@@ -1,15 +1,15 @@
 -- A text that is put piece by piece: what of it was put, and what is left.
 use Rattle.model_text.proofs.Common.{nat_tests, arith, ◌≡◌, ℕ, ◌≤◌, List, [], ◌++◌, refl, sym, ap, ◌∙◌, subst, append_assoc, append-nil, Result, Ok, Err, IsErrAnd, Rose, IsPutBy, OnOk, OnErr, Taken, Takes, TakesFront, Passes, Takes-trans, Passes-trans, Passes-front, Passes-kept, TakesFront-more, err_from_is_err_and}
 
--- all of the text but the rest was put, and the sink's count of faults did not fall
+-- all of the text but the rest was put, and the sink's count of faults is what it was
 pub record IsPut (told now : Taken) (before after : ℕ) (pending left text rest : List ℕ) : Type 0 where
   pub done : List ℕ
   pub split : text ≡ done ++ rest
   pub passed : Passes told now pending left done
-  pub later : before ≤ after
+  pub calm : after ≡ before
 
 pub put_none : {a : Taken} {k : ℕ} {p text : List ℕ} → IsPut a a k k p p text text
-put_none {a} {k} {p} = record { done = []; split = refl; passed = Passes-kept a p p [] (sym (append-nil p)); later = omega arith }
+put_none {a} {k} {p} = record { done = []; split = refl; passed = Passes-kept a p p [] (sym (append-nil p)); calm = refl }
 
 -- one piece more was put
 pub put_more : {T E : Type 0} {v : T} {a b c : Taken} {k l m : ℕ} {p q r text rest piece later : List ℕ}
@@ -19,7 +19,7 @@ put_more {a = a} {b} {c} {p = p} {q} {r} {piece = piece} cut so_far put = record
   done = so_far.done ++ piece;
   split = grind (arith, nat_tests, so_far.split, append_assoc);
   passed = Passes-trans a b c p q r so_far.done piece so_far.passed put.passed;
-  later = omega (arith, so_far.later, put.cause.later);
+  calm = put.cause.calm ∙ so_far.calm;
 }
 
 -- of one piece more a front was put
@@ -30,8 +30,8 @@ front_more a b c p q text rest piece later k l cut so_far fault =
     let split = so_far.split in
     grind (arith, nat_tests, append_assoc)
 
-rose_more : (k l m : ℕ) → k ≤ l → Rose l m → Rose k m
-rose_more k l m le rose = omega (arith, le, rose)
+rose_more : (k l m : ℕ) → l ≡ k → Rose l m → Rose k m
+rose_more k l m same rose = omega (arith, same, rose)
 
 pub put_fault : {T R E : Type 0} {e : E} {a b c : Taken} {k l m : ℕ} {p q r text rest piece : List ℕ}
     {result : Result R E} (later : List ℕ) (Q : E → Type 0) → IsErrAnd result Q → rest ≡ piece ++ later → IsPut a b k l p q text rest → IsPutBy {T = T} b c l m q r piece (Err e)
@@ -43,8 +43,9 @@ put_fault {a = a} {b} {c} {k} {l} {m} {p} {q} {r} {text} {rest} {piece} {result}
       front = front_more a b c p q text rest piece later k l cut so_far put.front;
       lost = put.lost;
       cause = record {
-        later = omega (arith, so_far.later, put.cause.later);
-        failed = rose_more k l m so_far.later put.cause.failed;
+        later = omega (arith, so_far.calm, put.cause.later);
+        failed = rose_more k l m so_far.calm put.cause.failed;
+        calm = grind (arith, nat_tests);
       };
     })
 
@@ -58,15 +59,16 @@ put_last {a = a} {b} {c} {k} {l} {m} {p} {q} {r} {text} {piece} {result = Ok v} 
       passed = subst (Passes a c p r) (sym whole) more.passed;
       front = put.front;
       lost = put.lost;
-      cause = record { later = more.later; failed = put.cause.failed };
+      cause = record { later = omega (arith, more.calm); failed = put.cause.failed; calm = more.calm };
     }
 put_last {a = a} {b} {c} {k} {l} {m} {p} {q} {r} {text} {piece} {result = Err e} so_far put = record {
   passed = put.passed;
   front = front_more a b c p q text piece piece [] k l (sym (append-nil piece)) so_far put.front;
   lost = put.lost;
   cause = record {
-    later = omega (arith, so_far.later, put.cause.later);
-    failed = rose_more k l m so_far.later put.cause.failed;
+    later = omega (arith, so_far.calm, put.cause.later);
+    failed = rose_more k l m so_far.calm put.cause.failed;
+    calm = put.cause.calm;
   };
 }
 
@@ -79,7 +81,11 @@ put_all {a = a} {b} {p = p} {q} {text} none so_far =
       passed = subst (Passes a b p q) (sym whole) so_far.passed;
       front = grind (arith, nat_tests);
       lost = grind (arith, nat_tests);
-      cause = record { later = so_far.later; failed = grind (arith, nat_tests) };
+      cause = record {
+        later = omega (arith, so_far.calm);
+        failed = grind (arith, nat_tests);
+        calm = so_far.calm;
+      };
     }
 
 -- the same text in other words

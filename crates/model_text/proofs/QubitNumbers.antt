@@ -1,7 +1,7 @@
 -- The qubits of chains in a well-formed model are nodes of it: on a graph each of them has an
 -- entry, and other models have no chains.
 use Rattle.model_text.proofs.Common.{◌≡◌, ℕ, ◌≤◌, ◌<◌, ◌^◌, true, List, [], ◌∷◌, All, arith, ◌==◌, AllByRecursion, list_any, or-true, nat_tests, All-from_recursion, recursion_from_All, Entry, Kind, Written, IsPlaced, FitsKind, IsWellFormed, has_node, is_chained}
-use Rattle.bits_model.specs.declared.output.Kind.TheVariants.{Qubo, Ising, Chimera}
+use Rattle.bits_model.specs.declared.output.Kind.TheVariants.{Qubo, Ising, Qubits}
 
 -- a node that has an entry is one of the model
 entry_within : (n q : ℕ) (es : List Entry) → AllByRecursion (IsPlaced n) es
@@ -32,7 +32,7 @@ chains_within : (kind : Kind) (n : ℕ) (m : Written) → m.nodes ≤ n → Fits
     → All (IsPlaced m.nodes) m.entries → All (λ chain. All (λ q. q < n) chain) m.chains
 chains_within Qubo n m few h placed = no_chains n m.chains h.unchained
 chains_within Ising n m few h placed = no_chains n m.chains h.unchained
-chains_within (Chimera rows cols shore) n m few h placed =
+chains_within (Qubits graph) n m few h placed =
     let each = recursion_from_All (IsPlaced m.nodes) m.entries placed in
     let listed = h.listed in
     All-from_recursion _ m.chains (chains_below n m.chains (λ q found. grind (arith, nat_tests, entry_within)))

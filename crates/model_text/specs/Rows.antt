@@ -4,8 +4,10 @@ use Rattle.std.specs.List.{flat_map, join_with_byte}
 use Rattle.std.specs.Fmt.{decimal, signed_decimal}
 use Rattle.base.specs.declared.costs.Figures.{Figures}
 use Rattle.bits_model.specs.declared.output.Entry.{Entry}
+use Rattle.bits_model.specs.declared.output.Graph.{Graph}
+use Rattle.bits_model.specs.declared.output.Graph.TheVariants.{Chimera, Listed}
 use Rattle.bits_model.specs.declared.output.Kind.{Kind}
-use Rattle.bits_model.specs.declared.output.Kind.TheVariants.{Qubo, Ising, Chimera}
+use Rattle.bits_model.specs.declared.output.Kind.TheVariants.{Qubo, Ising, Qubits}
 use Rattle.bits_model.specs.Output.{Written, is_node, is_coupler, weight_total}
 
 -- ---- rows and their text
@@ -38,10 +40,12 @@ figure_rows figures unit variables =
     ∷ figure_row (codes "variables") (pos variables)
     ∷ []
 
--- a comment: the numbers of rows and columns of a graph, and of qubits on a shore
-abbrev pub chimera_row : ℕ → ℕ → ℕ → Row
-chimera_row rows cols shore =
+-- a comment: the numbers of rows and columns of a Chimera graph, and of qubits on a shore; of a graph
+-- given as a list, the number of qubits
+abbrev pub graph_row : Graph → Row
+graph_row (Chimera rows cols shore) =
     codes "c" ∷ codes "chimera" ∷ decimal rows ∷ decimal cols ∷ decimal shore ∷ []
+graph_row (Listed qubits) = codes "c" ∷ codes "graph" ∷ decimal qubits ∷ []
 
 -- a comment: the number of a node, and the qubits of its chain in the chain's order
 abbrev pub chain_row : ℕ → List ℕ → Row
@@ -56,13 +60,13 @@ chain_rows node (chain ∷ chains) = chain_row node chain ∷ chain_rows (suc no
 abbrev pub graph_rows : Kind → List (List ℕ) → List Row
 graph_rows Qubo chains = []
 graph_rows Ising chains = []
-graph_rows (Chimera rows cols shore) chains = chimera_row rows cols shore ∷ chain_rows 0 chains
+graph_rows (Qubits graph) chains = graph_row graph ∷ chain_rows 0 chains
 
 -- the words that name the kind
 abbrev pub kind_words : Kind → Row
 kind_words Qubo = codes "p" ∷ codes "qubo" ∷ codes "0" ∷ []
 kind_words Ising = codes "p" ∷ codes "ising" ∷ []
-kind_words (Chimera rows cols shore) = codes "p" ∷ codes "ising" ∷ []
+kind_words (Qubits graph) = codes "p" ∷ codes "ising" ∷ []
 
 -- the kind, and the numbers of nodes, of node entries and of couplers
 abbrev pub header_row : Kind → ℕ → List Entry → Row
@@ -97,10 +101,15 @@ pub record FitsFigures (figures : Figures) : Type 0 where
   pub threshold : unsigned_abs figures.threshold ≤ 2 ^ 127
 
 -- the numbers of a graph fit their fields
+abbrev pub HasNumbers : Graph → Type 0
+HasNumbers (Chimera rows cols shore) = (rows < 2 ^ 32) × (cols < 2 ^ 32) × (shore < 2 ^ 32)
+HasNumbers (Listed qubits) = qubits < 2 ^ 32
+
+-- the numbers of its graph fit their fields, where it has one
 abbrev pub FitsGraph : Kind → Type 0
 FitsGraph Qubo = Unit {0}
 FitsGraph Ising = Unit {0}
-FitsGraph (Chimera rows cols shore) = (rows < 2 ^ 32) × (cols < 2 ^ 32) × (shore < 2 ^ 32)
+FitsGraph (Qubits graph) = HasNumbers graph
 
 -- the numbers of a model fit the fields that hold them, and the sizes of its weights sum to at most
 -- 2 ^ 124

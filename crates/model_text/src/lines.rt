@@ -4,11 +4,11 @@ ghost use Rattle.std.specs.Prelude.{◌≡◌, ◌+◌, ◌<◌, ◌≤◌, ◌+
 ghost use Rattle.std.specs.List.{join_with_byte, slice_index_or};
 ghost use Rattle.std.specs.Fmt.{decimal, signed_decimal};
 ghost use Rattle.edge_io.specs.Sinks.{joined_bytes};
-ghost use Rattle.model_text.specs.Rows.{row_text, rows_text, figure_rows, chimera_row, chain_row, chain_rows, graph_rows, kind_words, header_row, entry_row, FitsFigures, FitsGraph};
+ghost use Rattle.model_text.specs.Rows.{row_text, rows_text, figure_rows, graph_row, chain_row, chain_rows, graph_rows, kind_words, header_row, entry_row, FitsFigures, HasNumbers, FitsGraph};
 ghost use Rattle.model_text.specs.Lines.{spaced_numbers, IsPutBy};
 
 use base::Figures;
-use bits_model::{ChainList, CouplerList, Entry, EntryList, Kind, NodeWeights, Row};
+use bits_model::{ChainList, CouplerList, Entry, EntryList, Graph, Kind, NodeWeights, Row};
 use edge_io::{LineBuffer, Sink, WriteFault};
 use itoa::{Buffer, write_digits};
 
@@ -125,7 +125,7 @@ fn put_chains<S: Sink>(
     Ok(())
 }
 
-/// The numbers of a graph.
+/// The numbers of a Chimera graph.
 fn put_chimera<S: Sink>(
     buffer: &mut LineBuffer,
     sink: &mut S,
@@ -134,7 +134,7 @@ fn put_chimera<S: Sink>(
     shore: u32,
 ) -> Result<(), WriteFault>
     ensures { IsPutBy (S.taken sink.old) (S.taken sink.new) (S.faults sink.old) (S.faults sink.new)
-        buffer.old buffer.new (row_text (chimera_row rows cols shore)) result }
+        buffer.old buffer.new (row_text (graph_row (Graph.Chimera rows cols shore))) result }
 {
     let mut first = Buffer::new();
     let mut second = Buffer::new();
@@ -149,6 +149,32 @@ fn put_chimera<S: Sink>(
     )
 }
 
+/// The number of qubits of a graph that is given as a list.
+fn put_listed<S: Sink>(buffer: &mut LineBuffer, sink: &mut S, qubits: u32) -> Result<(), WriteFault>
+    ensures { IsPutBy (S.taken sink.old) (S.taken sink.new) (S.faults sink.old) (S.faults sink.new)
+        buffer.old buffer.new (row_text (graph_row (Graph.Listed qubits))) result }
+{
+    let mut digits = Buffer::new();
+    let number = digits.format(qubits).as_bytes();
+    put_pieces(buffer, sink, &[b"c graph ", number, b"\n"])
+}
+
+/// What a graph is, in numbers.
+fn put_graph_row<S: Sink>(
+    buffer: &mut LineBuffer,
+    sink: &mut S,
+    graph: Graph,
+) -> Result<(), WriteFault>
+    ensures put { IsPutBy (S.taken sink.old) (S.taken sink.new) (S.faults sink.old) (S.faults sink.new)
+        buffer.old buffer.new (row_text (graph_row graph)) result }
+    ensures fits { HasNumbers graph }
+{
+    match graph {
+        Graph::Chimera { rows, cols, shore } => put_chimera(buffer, sink, rows, cols, shore),
+        Graph::Listed { qubits } => put_listed(buffer, sink, qubits),
+    }
+}
+
 /// The graph and the chains, where there are any.
 pub fn put_graph<S: Sink>(
     buffer: &mut LineBuffer,
@@ -160,8 +186,8 @@ pub fn put_graph<S: Sink>(
         buffer.old buffer.new (rows_text (graph_rows kind chains.now)) result }
     ensures fits { FitsGraph kind }
 {
-    if let Kind::Chimera { rows, cols, shore } = kind {
-        put_chimera(buffer, sink, rows, cols, shore)?;
+    if let Kind::Qubits(graph) = kind {
+        put_graph_row(buffer, sink, graph)?;
         put_chains(buffer, sink, chains)?;
     }
     Ok(())
@@ -173,7 +199,7 @@ fn words_of(kind: Kind) -> &'static [u8]
 {
     match kind {
         Kind::Qubo => b"p qubo 0",
-        Kind::Ising | Kind::Chimera { .. } => b"p ising",
+        Kind::Ising | Kind::Qubits(_) => b"p ising",
     }
 }
 

@@ -142,7 +142,7 @@ fn add_entry(terms: &mut GatheredTerms, kind: Kind, entry: Entry) -> Result<(), 
 {
     match kind {
         Kind::Qubo => add_bits(terms, entry),
-        Kind::Ising | Kind::Chimera { .. } => add_spins(terms, entry),
+        Kind::Ising | Kind::Qubits(_) => add_spins(terms, entry),
     }
 }
 
@@ -153,7 +153,7 @@ fn constant_of(kind: Kind, entry: Entry) -> i128
 {
     match kind {
         Kind::Qubo => 0,
-        Kind::Ising | Kind::Chimera { .. } => {
+        Kind::Ising | Kind::Qubits(_) => {
             if entry.first == entry.second {
                 -entry.weight
             } else {

@@ -86,7 +86,7 @@ fn take_entry(sums: &mut SetSums, kind: Kind, entry: Entry) -> Result<(), Unsett
 {
     match kind {
         Kind::Qubo => take_bits(sums, entry),
-        Kind::Ising | Kind::Chimera { .. } => {
+        Kind::Ising | Kind::Qubits(_) => {
             if entry.first == entry.second {
                 take_field(sums, entry.first, entry.weight)
             } else {

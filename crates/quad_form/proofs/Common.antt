@@ -16,7 +16,7 @@ pub use Rattle.quad_form.specs.Units.{is_multiple, greatest_within, unit_of, cou
 pub use Rattle.std.specs.Prelude.{slice_set, Result, Ok, Err}
 pub use Rattle.std.proofs.lemmas.List.{length-replicate, flat_map_more, get_or-append_right, get_or_append_left, get_or_past, length-set, take_more, length-take, length-map, same_lists, get_or_default, get_or-replicate, get_or-set_same, get_or-set_other, map-append, take-append-drop}
 pub use Rattle.base.proofs.Totals.{size-plus, total_by_push, total_by-append, total_by-flat_map}
-pub use Rattle.bits_model.specs.Output.{entry_cmp, entry_size, weight_total, bit_at, bits_energy, is_coupler, has_node, IsPlaced, IsWellFormed, Written}
+pub use Rattle.bits_model.specs.Output.{entry_cmp, entry_size, weight_total, bit_at, bits_energy, is_coupler, has_node, IsPlaced, IsWellFormed, Written, decoding_of}
 pub use Rattle.term_table.specs.Tables.{TableContent, IsLow, table_size, IsTable, with_appended}
 pub use Rattle.term_table.proofs.Additions.{terms_total-cons, terms_total-with_additions, sets_sum, sets_sum-cons, sets_sum-with_additions, terms_size-cons, terms_total-append, coefficient_of-with_additions}
 pub use Rattle.term_table.proofs.KeptTerms.{OfSet, Under, All-with_additions, AreTerms-with_additions}
@@ -30,14 +30,17 @@ pub use Rattle.bits_model.proofs.Energies.{weights-append, size-if_so, size-ener
 pub use Rattle.term_table.proofs.Filling.{room_own, fills_as, rest_more, rest_room, room_as}
 pub use Rattle.quad_form.specs.Short.{Share, share_at, short_constant, short_couplers, short_shares, signed, moved_share}
 pub use Rattle.quad_form.specs.Sums.{SumsContent, AreSummed, Gain, HasRoom, IsSums, size_of, widened, with_weight}
-pub use Rattle.form_steps.specs.Relations.{Reduces, Decoding, Relaxes}
+pub use Rattle.form_steps.specs.Relations.{Reduces, Decoding, Relaxes, RelaxesAtLeast, RelaxesBy, StandsAt, StaysAbove}
+pub use Rattle.form_steps.specs.declared.scope.PenaltyScope.{PenaltyScope}
+pub use Rattle.form_steps.specs.declared.scope.PenaltyScope.TheVariants.{Global, Local}
+pub use Rattle.form_steps.specs.laws.AtLeast.{stands_moved}
 pub use Rattle.bits_model.specs.Units.{IsMultiple}
 pub use Rattle.term_table.proofs.UniqueTerms.{same_tables}
 pub use Rattle.pair_sums.proofs.UniqueSums.{same_entries}
 pub use Rattle.pair_sums.proofs.PairOrder.{ArePairs, rising_from_ordered}
 pub use Rattle.base.proofs.Products.{times-plus}
 pub use Rattle.base.specs.Figures.{figures_moved}
-pub use Rattle.quad_form.specs.Stated.{RelaxesAsWritten}
+pub use Rattle.quad_form.specs.Stated.{RelaxesAsWritten, StaysAsWritten}
 pub use Rattle.form_steps.specs.declared.layer.BitsLink.{BitsLink}
 pub use Rattle.base.specs.declared.costs.Cost.TheVariants.{Whole}
 pub use Rattle.bits_model.specs.declared.output.Kind.TheVariants.{Qubo}

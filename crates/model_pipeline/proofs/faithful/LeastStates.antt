@@ -1,9 +1,9 @@
 -- What relaxes a source has least states that stand for its least assignments.
 --
 -- A state reaches each assignment of whole cost, at the bound that no state with a cost lies below,
--- and a state without one lies above all of these. So least assignments are reached by least
+-- and a state without one lies above all of these, or above some of them. So least assignments are reached by least
 -- states, and only by these. That there is a least state at all is a recursion on the width.
-use Rattle.model_pipeline.proofs.faithful.Common.{nat_tests, ◌≡◌, ℕ, zero, suc, ℤ, pos, ◌+ℤ◌, ◌*ℤ◌, ◌≤ℤ◌, ◌<ℤ◌, Bool, true, false, List, [], ◌∷◌, length, refl, arith, ap, subst, ints, by_lt_z, times-le, times-lt, Figures, Form, Source, energy, Decoding, Relaxes, ReachesIn, whole_or_infinite, HasCost, IsFeasible, IsLeast, IsLeastAt, IsLeastState, Written, IsWellFormed, form_of, decoding_of, StandsAtLeast, Demand, Faithful, IsStated}
+use Rattle.model_pipeline.proofs.faithful.Common.{nat_tests, ◌≡◌, ℕ, zero, suc, ℤ, pos, ◌+ℤ◌, ◌*ℤ◌, ◌≤ℤ◌, ◌<ℤ◌, Bool, true, false, List, [], ◌∷◌, length, refl, arith, ap, subst, ints, by_lt_z, times-le, times-lt, Figures, Form, Source, energy, IsOf, Decoding, PenaltyScope, RelaxesAtLeast, RelaxesBy, by_at_least, ReachesIn, inl, inr, HasCost, IsFeasible, IsLeast, IsLeastAt, IsLeastState, Written, IsWellFormed, form_of, decoding_of, StandsAtLeast, Demand, Faithful, IsStated}
 
 -- ---- there is a least state
 
@@ -64,31 +64,52 @@ unscaled-le a v w p h =
 
 module _ {f g : Form} {d : Decoding} {u : ℤ} {n : Figures} where
   -- a state that reaches a least assignment is a least state
-  reaching_is_least : Relaxes f g d u n → (x y : List Bool) (v : ℤ) → IsLeastAt f x v
+  reaching_is_least : RelaxesAtLeast f g d u n → (x y : List Bool) (v : ℤ) → IsLeastAt f x v
       → ReachesIn u g d x (n.scale *ℤ v +ℤ n.offset) y → IsLeastState g y
   reaching_is_least p x y v l s = record {
     width = s.width;
-    least = λ z w. unscaled-le u (energy g y) (energy g z) p.unit (whole_or_infinite (f.cost (d.decoded z))
-        (λ c e.
-        let cost : HasCost f (d.decoded z) c = record { width = p.width z w; whole = e } in
-        let no_less = l.least (d.decoded z) c cost in
-        omega (arith, ints, s.energy, p.bound z w c e, scaled-le n.scale v c p.positive no_less))
-        (λ e. omega (arith, ints, s.energy, p.above z w e, p.below x l.has.width v l.has.whole)));
+    least = λ z w. unscaled-le u (energy g y) (energy g z) p.unit (no_lower z w);
   }
+    where
+      no_lower : (z : List Bool) → IsOf g z → (u *ℤ energy g y) ≤ℤ (u *ℤ energy g z)
+      no_lower z w = elim (p.stands z w) [
+        | inl at ↦
+            let cost : HasCost f (d.decoded z) at.0 = record { width = p.width z w; whole = at.1 } in
+            let no_less = l.least (d.decoded z) at.0 cost in
+            let bound = at.2 in
+            omega (arith, ints, s.energy, bound, scaled-le n.scale v at.0 p.positive no_less)
+        | inr more ↦ elim more [
+          | inl above ↦ omega (arith, ints, s.energy, above, p.below x l.has.width v l.has.whole)
+          | inr other ↦
+              let cost : HasCost f other.0 other.1 = record { width = other.2; whole = other.3 } in
+              let no_less = l.least other.0 other.1 cost in
+              let lower = other.4 in
+              omega (arith, ints, s.energy, lower, scaled-le n.scale v other.1 p.positive no_less)
+        ]
+      ]
 
-  -- where some assignment has a whole cost, a least state decodes to one that has
-  least_has_cost : Relaxes f g d u n → (x : List Bool) (v : ℤ) → HasCost f x v → (y : List Bool)
-      → IsLeastState g y → (c : ℤ) × HasCost f (d.decoded y) c
-  least_has_cost p x v h y l =
-      let s = p.reached x h.width v h.whole in
-      whole_or_infinite (f.cost (d.decoded y))
-      (λ c e. (c, record { width = p.width y l.width; whole = e })) (λ e.
-      let no_less = scaled-le u (energy g y) (energy g s.0) p.unit (l.least s.0 s.1.width) in
-      let over = p.above y l.width e in
-      absurd (omega (arith, ints, over, no_less, s.1.energy, p.below x h.width v h.whole)))
+  -- where some assignment has a whole cost, a least state decodes to one that has, and does not lie
+  -- below it
+  least_has_cost : RelaxesAtLeast f g d u n → (x : List Bool) (v : ℤ) → HasCost f x v
+      → (y : List Bool) → IsLeastState g y
+      → (c : ℤ) × HasCost f (d.decoded y) c × ((n.scale *ℤ c +ℤ n.offset) ≤ℤ (u *ℤ energy g y))
+  least_has_cost p x v h y l = elim (p.stands y l.width) [
+    | inl at ↦ (at.0, record { width = p.width y l.width; whole = at.1 }, at.2)
+    | inr more ↦ elim more [
+      | inl above ↦
+          let s = p.reached x h.width v h.whole in
+          let no_less = scaled-le u (energy g y) (energy g s.0) p.unit (l.least s.0 s.1.width) in
+          absurd (omega (arith, ints, above, no_less, s.1.energy, p.below x h.width v h.whole))
+      | inr other ↦
+          let s = p.reached other.0 other.2 other.1 other.3 in
+          let no_less = scaled-le u (energy g y) (energy g s.0) p.unit (l.least s.0 s.1.width) in
+          let lower = other.4 in
+          absurd (omega (arith, ints, lower, no_less, s.1.energy))
+    ]
+  ]
 
-  least_decodes : Relaxes f g d u n → (x : List Bool) (v : ℤ) → HasCost f x v → (y : List Bool)
-      → IsLeastState g y → IsLeast f (d.decoded y)
+  least_decodes : RelaxesAtLeast f g d u n → (x : List Bool) (v : ℤ) → HasCost f x v
+      → (y : List Bool) → IsLeastState g y → IsLeast f (d.decoded y)
   least_decodes p x v h y l =
       let c = least_has_cost p x v h y l in (
         c.0,
@@ -98,42 +119,57 @@ module _ {f g : Form} {d : Decoding} {u : ℤ} {n : Figures} where
               let s = p.reached z k.width w k.whole in
               by_lt_z w c.0 (λ lt.
               let less = times-lt n.scale w c.0 p.positive lt in
-              let bound = p.bound y l.width c.0 c.1.whole in
+              let bound = c.2 in
               let no_less = scaled-le u (energy g y) (energy g s.0) p.unit (l.least s.0 s.1.width) in
               absurd (omega (arith, ints, less, bound, no_less, s.1.energy))) (λ le. le);
         },
       )
 
-  least_energy : Relaxes f g d u n → (x : List Bool) (v : ℤ) (y : List Bool) → IsLeastAt f x v
-      → IsLeastState g y → u *ℤ energy g y ≡ n.scale *ℤ v +ℤ n.offset
+  least_energy : RelaxesAtLeast f g d u n → (x : List Bool) (v : ℤ) (y : List Bool)
+      → IsLeastAt f x v → IsLeastState g y → u *ℤ energy g y ≡ n.scale *ℤ v +ℤ n.offset
   least_energy p x v y l s =
       let c = least_has_cost p x v l.has y s in
       let q = p.reached x l.has.width v l.has.whole in
       let scaled = scaled-le n.scale v c.0 p.positive (l.least (d.decoded y) c.0 c.1) in
-      let bound = p.bound y s.width c.0 c.1.whole in
+      let bound = c.2 in
       let no_less = scaled-le u (energy g y) (energy g q.0) p.unit (s.least q.0 q.1.width) in
       omega (arith, ints, no_less, q.1.energy, bound, scaled)
 
-  no_feasible_above : Relaxes f g d u n → IsFeasible f
+  no_feasible_above : RelaxesAtLeast f g d u n → IsFeasible f
       → ((y : List Bool) × IsLeastState g y × (n.threshold <ℤ (u *ℤ energy g y))) → ⊥
   no_feasible_above p (x, v, h) (y, l, lt) =
       let s = p.reached x h.width v h.whole in
       let no_less = scaled-le u (energy g y) (energy g s.0) p.unit (l.least s.0 s.1.width) in
       omega (arith, ints, lt, no_less, s.1.energy, p.below x h.width v h.whole)
 
-  above_of : Relaxes f g d u n → ¬ (IsFeasible f)
+  above_of : RelaxesAtLeast f g d u n → ¬ (IsFeasible f)
       → (y : List Bool) × IsLeastState g y × (n.threshold <ℤ (u *ℤ energy g y))
-  above_of p never = grind (arith, nat_tests, ints, least_state g)
+  above_of p never =
+      let y = least_state g in (
+        y.0,
+        y.1,
+        elim (p.stands y.0 y.1.width) [
+          | inl at ↦
+              absurd (never (d.decoded y.0, at.0, record { width = p.width y.0 y.1.width; whole = at.1 }))
+          | inr more ↦ elim more [
+            | inl above ↦ above
+            | inr other ↦
+                absurd (never (other.0, other.1, record { width = other.2; whole = other.3 }))
+          ]
+        ],
+      )
 
-  least_found : Relaxes f g d u n → (x : List Bool) → IsLeast f x
+  least_found : RelaxesAtLeast f g d u n → (x : List Bool) → IsLeast f x
       → (y : List Bool) × IsLeastState g y × (d.decoded y ≡ x)
-  least_found p x l = grind (arith, nat_tests, reaching_is_least)
+  least_found p x l =
+      let s = p.reached x l.1.has.width l.0 l.1.has.whole in
+      (s.0, reaching_is_least p x s.0 l.0 l.1 s.1, s.1.decodes)
 
 -- ---- what relaxes stands
 
-pub relaxed_stands : (f g : Form) (d : Decoding) (u : ℤ) (n : Figures) → Relaxes f g d u n
+at_least_stands : (f g : Form) (d : Decoding) (u : ℤ) (n : Figures) → RelaxesAtLeast f g d u n
     → StandsAtLeast f g d u n
-relaxed_stands f g d u n p = record {
+at_least_stands f g d u n p = record {
   exact = λ feasible x. (
     least_found p x,
     λ e.
@@ -145,6 +181,11 @@ relaxed_stands f g d u n p = record {
   infeasible = (above_of p, λ e feasible. no_feasible_above p feasible e);
 }
 
+-- in each scope
+pub relaxed_stands : (scope : PenaltyScope) (f g : Form) (d : Decoding) (u : ℤ) (n : Figures)
+    → RelaxesBy scope f g d u n → StandsAtLeast f g d u n
+relaxed_stands scope f g d u n p = at_least_stands f g d u n (by_at_least scope f g d u n p)
+
 pub standing_is_faithful : (source : Source) (demand : Demand) (m : Written) → IsWellFormed m
     → IsStated source demand m
     → StandsAtLeast source.form (form_of m) (decoding_of m) m.unit m.figures
@@ -155,9 +196,10 @@ standing_is_faithful source demand m formed stated stands = record {
   stated = stated;
 }
 
-pub relaxed_is_faithful : (source : Source) (demand : Demand) (m : Written) → IsWellFormed m
-    → IsStated source demand m → Relaxes source.form (form_of m) (decoding_of m) m.unit m.figures
+pub relaxed_is_faithful : (scope : PenaltyScope) (source : Source) (demand : Demand) (m : Written)
+    → IsWellFormed m → IsStated source demand m
+    → RelaxesBy scope source.form (form_of m) (decoding_of m) m.unit m.figures
     → Faithful source demand m
-relaxed_is_faithful source demand m formed stated p =
+relaxed_is_faithful scope source demand m formed stated p =
     standing_is_faithful source demand m formed stated
-    (relaxed_stands source.form (form_of m) (decoding_of m) m.unit m.figures p)
+    (relaxed_stands scope source.form (form_of m) (decoding_of m) m.unit m.figures p)

@@ -2,7 +2,7 @@
 use Rattle.std.specs.Prelude.{◌≡◌, ◌≢◌, ℕ, ◌≤◌, ◌==◌, ℤ, pos, ◌+ℤ◌, ◌*ℤ◌, true, List, [], All, count_by, Bool, ⊤}
 use Rattle.std.specs.List.{concat}
 use Rattle.bits_model.specs.declared.output.Kind.{Kind}
-use Rattle.bits_model.specs.declared.output.Kind.TheVariants.{Qubo, Ising, Chimera}
+use Rattle.bits_model.specs.declared.output.Kind.TheVariants.{Qubo, Ising, Qubits}
 use Rattle.base.specs.declared.unit.UnitChoice.{UnitChoice}
 use Rattle.base.specs.declared.unit.UnitChoice.TheVariants.{One, Reduce}
 use Rattle.base.specs.Costs.{Source}
@@ -25,7 +25,7 @@ pub record Demand : Type 0 where
 abbrev pub scale_of : Kind → ℤ
 scale_of Qubo = pos 1
 scale_of Ising = pos 4
-scale_of (Chimera rows cols shore) = pos 4
+scale_of (Qubits graph) = pos 4
 
 -- the unit is the one that was chosen
 abbrev pub HasUnit : UnitChoice → Written → Type 0
@@ -46,7 +46,7 @@ pub record IsEmbedded (demand : Demand) (m : Written) : Type 0 where
 abbrev pub HasChains : Kind → Demand → Written → Type 0
 HasChains Qubo demand m = ⊤
 HasChains Ising demand m = ⊤
-HasChains (Chimera rows cols shore) demand m = IsEmbedded demand m
+HasChains (Qubits graph) demand m = IsEmbedded demand m
 
 -- the figures of the source, the unit and the chains that were asked for
 pub record IsStated (source : Source) (demand : Demand) (m : Written) : Type 0 where

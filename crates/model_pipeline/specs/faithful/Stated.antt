@@ -3,7 +3,8 @@ use Rattle.std.specs.Prelude.{◌<◌, ◌^◌, ℤ, pos, ◌≤ℤ◌, ◌<ℤ�
 use Rattle.base.specs.declared.costs.Figures.{Figures}
 use Rattle.base.specs.Costs.{Form, Source, energy}
 use Rattle.base.specs.Figures.{figures_after, figures_moved}
-use Rattle.form_steps.specs.Relations.{Decoding, Relaxes, Reduces, Rewrites, decoding_after, first_decoded}
+use Rattle.form_steps.specs.declared.scope.PenaltyScope.{PenaltyScope}
+use Rattle.form_steps.specs.Relations.{Decoding, RelaxesBy, Reduces, Rewrites, decoding_after, first_decoded}
 use Rattle.bits_model.specs.Output.{Written, IsWellFormed, form_of, decoding_of}
 use Rattle.form_steps.specs.Least.{IsFeasible, IsLeastState, KeepsLeast}
 use Rattle.model_pipeline.specs.faithful.AtLeast.{StandsAtLeast}
@@ -21,11 +22,11 @@ StandingIsFaithful = (source : Source) (demand : Demand) (m : Written) → IsWel
     → StandsAtLeast source.form (form_of m) (decoding_of m) m.unit m.figures
     → Faithful source demand m
 
--- a well-formed model that relaxes the source, with what is stated, is faithful to it
+-- a well-formed model that relaxes the source in some scope, with what is stated, is faithful to it
 abbrev pub RelaxedIsFaithful : Type 0
-RelaxedIsFaithful = (source : Source) (demand : Demand) (m : Written) → IsWellFormed m
-    → IsStated source demand m
-    → Relaxes source.form (form_of m) (decoding_of m) m.unit m.figures
+RelaxedIsFaithful = (scope : PenaltyScope) (source : Source) (demand : Demand) (m : Written)
+    → IsWellFormed m → IsStated source demand m
+    → RelaxesBy scope source.form (form_of m) (decoding_of m) m.unit m.figures
     → Faithful source demand m
 
 -- every energy of a bounded model is below 2 ^ 121 in size
@@ -44,10 +45,11 @@ LeastStatesTell =
     → (whole_energy m y ≤ℤ m.figures.threshold → TellsOptimum source m y)
     × (m.figures.threshold <ℤ whole_energy m y → ¬ (IsFeasible source.form))
 
--- the least states of what relaxes a source are its least assignments
+-- the least states of what relaxes a source, in each scope, are its least assignments
 abbrev pub RelaxedStandsAtLeast : Type 0
 RelaxedStandsAtLeast =
-    (f g : Form) (d : Decoding) (u : ℤ) (n : Figures) → Relaxes f g d u n → StandsAtLeast f g d u n
+    (scope : PenaltyScope) (f g : Form) (d : Decoding) (u : ℤ) (n : Figures)
+    → RelaxesBy scope f g d u n → StandsAtLeast f g d u n
 
 -- so are those of what keeps the least states of such a form
 abbrev pub LeastAfterLeast : Type 0

@@ -1,4 +1,5 @@
 use Rattle.model_pipeline.proofs.Common.{◌<◌, ◌^◌, pos, ◌∙◌, ap, arith, rules, subst, sym, unsigned_abs, w128, ints, to_z-of_z, IfOk-weaker, Figures, figures_after, chained_model}
+use Rattle.bits_model.specs.declared.output.Kind.TheVariants.{Qubits}
 use Rattle.model_pipeline.proofs.LeastStates.{if_ok-always}
 use Rattle.model_pipeline.proofs.QubitModels.{tied_figure, tied_fits}
 use Rattle.model_pipeline.proofs.Tied.{tied_fits_output}
@@ -19,11 +20,11 @@ after-requires-clause-sum_2 c =
 pub chained_model-requires-clause-kind : goal.chained_model-requires-clause-kind
 chained_model-requires-clause-kind c =
     let e = c.args.embedded in
-    let graph = c.args.graph.now in
+    let graph = c.args.graph in
     let made = c.in_ok-target.ensures in
     let kept = made.kept in
-    rw (c.kind_of.ensures, made.chains, made.form)
-    (tied_fits_output e kept c.args.ties graph.rows graph.cols graph.shore c.args.own
+    rw (made.chains, made.form)
+    (tied_fits_output e kept c.args.ties graph c.args.own
     c.requires.qubits (omega (arith, kept.counted, c.requires.own)))
 
 pub chained_model-requires-clause-scale : goal.chained_model-requires-clause-scale
@@ -53,5 +54,5 @@ returns-clause-model c =
     let tied = to_z-of_z w128 c.in_ok-target.offset (search rules) ∙ made.offset in
     let figures = c.after.ensures ∙ (λ i. figures_after c.args.figures (pos 1) (tied i)) in
     IfOk-weaker c.chained_model.result _ _ (λ m same. same
-    ∙ (λ i. chained_model c.args.unit (made.form i) c.args.own (figures i) (c.kind_of.ensures i) (made.chains i)))
+    ∙ (λ i. chained_model c.args.unit (made.form i) c.args.own (figures i) (Qubits c.args.graph) (made.chains i)))
     c.chained_model.ensures
