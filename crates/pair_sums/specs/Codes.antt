@@ -1,5 +1,5 @@
 -- Codes of couplers, which have bits for the first node, for the second, and for a number.
-use Rattle.std.specs.Prelude.{◌≡◌, ℕ, ◌/◌, ◌%◌, ◌≤◌, ◌<◌, ◌^◌, ℤ, pos, ◌-ℤ◌, List, length, All}
+use Rattle.std.specs.Prelude.{◌≡◌, ℕ, ◌/◌, ◌%◌, ◌≤◌, ◌<◌, ◌^◌, ℤ, pos, ◌-ℤ◌, ◌+ℤ◌, List, length, All, nat_le, if◌then◌else◌}
 use Rattle.std.specs.List.{slice_index_or}
 use Rattle.bits_model.specs.declared.output.Entry.{Entry}
 use Rattle.pair_sums.specs.declared.shape.Shape.{Shape}
@@ -10,6 +10,28 @@ abbrev pub numbers_of : Shape → ℕ
 numbers_of Few = 2 ^ 28
 numbers_of Many = 2 ^ 24
 numbers_of Most = 2 ^ 22
+
+-- so many nodes fit
+abbrev pub nodes_of : Shape → ℕ
+nodes_of Few = 2 ^ 18
+nodes_of Many = 2 ^ 20
+nodes_of Most = 2 ^ 21
+
+-- the packing for so many nodes: the one with most numbers into which they fit, and else the widest
+abbrev pub shape_for : ℕ → Shape
+shape_for nodes =
+    if nat_le nodes (2 ^ 18) then Few else (if nat_le nodes (2 ^ 20) then Many else Most)
+
+-- two nodes and a number that fit the bits of a code
+pub record Fits (shape : Shape) (first second number : ℕ) : Type 0 where
+  pub first_node : first < nodes_of shape
+  pub second_node : second < nodes_of shape
+  pub low : number < numbers_of shape
+
+-- two nodes that fit, and a weight that does, counted from the least one on
+abbrev pub FitsPacked : Shape → ℕ → ℕ → ℤ → Type 0
+FitsPacked shape first second weight =
+    (number : ℕ) × (pos number ≡ weight +ℤ pos (numbers_of shape / 2)) × Fits shape first second number
 
 -- the number of a code
 abbrev pub low_of : Shape → ℕ → ℕ

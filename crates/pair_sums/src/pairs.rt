@@ -10,7 +10,7 @@ ghost use Rattle.pair_sums.specs.PairLists.{held_pairs};
 
 use crate::appending::push_some;
 use crate::listed::ListedPairs;
-use crate::shape::{Arrival, FEW_NODES, MANY_NODES, Shape, ascending, packed, unpacked};
+use crate::shape::{Arrival, Shape, ascending, packed, shape_for, unpacked};
 use base::NoMemory;
 use bits_model::{CouplerList, Entry, pair_number};
 use std::alloc::Global;
@@ -197,17 +197,6 @@ fn coupler_at(held: &HeldPairs, index: usize) -> Entry
         HeldPairs::Packed(shape, codes) => unpacked(*shape, codes[index]),
         HeldPairs::Listed(pairs) => pairs.at(index),
         HeldPairs::Wide(pairs) => pairs[index],
-    }
-}
-
-/// The packing of couplers of so many nodes.
-fn shape_for(nodes: usize) -> Shape {
-    if nodes as u64 <= FEW_NODES {
-        Shape::Few
-    } else if nodes as u64 <= MANY_NODES {
-        Shape::Many
-    } else {
-        Shape::Most
     }
 }
 

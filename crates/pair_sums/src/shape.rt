@@ -1,7 +1,7 @@
 //! Codes of 64 bits: the two nodes of a coupler, the first one highest, and a number below them.
-ghost use Rattle.std.specs.Prelude.{◌≡◌, ◌+◌, ◌/◌, ◌<◌, ◌≤◌, ◌^◌, ◌+ℤ◌, ℤ, pos, IfOk, IfSome};
+ghost use Rattle.std.specs.Prelude.{◌≡◌, ◌+◌, ◌/◌, ◌<◌, ◌≤◌, ◌^◌, ◌+ℤ◌, ℕ, ℤ, pos, None, IfOk, IfSome};
 ghost use Rattle.std.specs.List.Sorted.{IsPermutation, IsNonDecreasingBy};
-ghost use Rattle.pair_sums.specs.Codes.{coupler_of, low_of, numbers_of, unpacked};
+ghost use Rattle.pair_sums.specs.Codes.{coupler_of, low_of, numbers_of, shape_for, unpacked, Fits, FitsPacked};
 
 use base::NoMemory;
 use bits_model::Entry;
@@ -18,13 +18,13 @@ pub enum Shape {
 }
 
 /// Few nodes are below it.
-pub const FEW_NODES: u64 = 1 << 18;
+const FEW_NODES: u64 = 1 << 18;
 
 /// Numbers beside few nodes are below it.
 const FEW_NUMBERS: u64 = 1 << 28;
 
 /// Many nodes are below it.
-pub const MANY_NODES: u64 = 1 << 20;
+const MANY_NODES: u64 = 1 << 20;
 
 /// Numbers beside many nodes are below it.
 const MANY_NUMBERS: u64 = 1 << 24;
@@ -35,12 +35,26 @@ const MOST_NODES: u64 = 1 << 21;
 /// Numbers beside most nodes are below it.
 const MOST_NUMBERS: u64 = 1 << 22;
 
+/// The packing of couplers of so many nodes.
+pub fn shape_for(nodes: usize) -> Shape
+    ensures { result ≡ shape_for nodes }
+{
+    if nodes as u64 <= FEW_NODES {
+        Shape::Few
+    } else if nodes as u64 <= MANY_NODES {
+        Shape::Many
+    } else {
+        Shape::Most
+    }
+}
+
 /// The code of two nodes and a number, unless one of them needs more bits.
 #[inline(always)]
 pub fn coded(shape: Shape, first: u32, second: u32, number: u64) -> Option<u64>
     ensures pair { (weight : ℤ) → IfSome result (λ code. coupler_of shape code weight
         ≡ record { first = first; second = second; weight = weight }) }
     ensures number { IfSome result (λ code. low_of shape code ≡ number) }
+    ensures none { result ≡ None → ¬ (Fits shape first second number) }
 {
     let first = u64::from(first);
     let second = u64::from(second);
@@ -109,7 +123,9 @@ fn numbers_of(shape: Shape) -> u64
 #[inline(always)]
 fn raised(weight: i128, values: u64) -> Option<u64>
     requires { values ≤ 2 ^ 28 }
-    ensures { IfSome result (λ number. pos number ≡ weight +ℤ pos (values / 2)) }
+    ensures some { IfSome result (λ number. pos number ≡ weight +ℤ pos (values / 2)) }
+    ensures none { result ≡ None → (number : ℕ) → number < values
+        → ¬ (pos number ≡ weight +ℤ pos (values / 2)) }
 {
     let weight = i64::try_from(weight).ok()?;
     u64::try_from(weight.checked_add((values / 2) as i64)?).ok()
@@ -118,8 +134,9 @@ fn raised(weight: i128, values: u64) -> Option<u64>
 /// The code of a coupler whose number is its weight, unless a node or the weight needs more bits.
 #[inline(always)]
 pub fn packed(shape: Shape, first: u32, second: u32, weight: i128) -> Option<u64>
-    ensures { IfSome result (λ code.
+    ensures some { IfSome result (λ code.
         unpacked shape code ≡ record { first = first; second = second; weight = weight }) }
+    ensures none { result ≡ None → ¬ (FitsPacked shape first second weight) }
 {
     let number = raised(weight, numbers_of(shape))?;
     coded(shape, first, second, number)
