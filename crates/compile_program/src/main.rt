@@ -2,11 +2,12 @@
 #![tactic(auto)]
 
 use edge_io::RealSink;
-use program_run::exit_number;
+use program_run::{exit_number, given_words};
 use std::process::ExitCode;
 
 fn main(rt: HostRuntime) -> ExitCode {
     let mut out = RealSink::new(rt.stdout());
     let mut err = RealSink::new(rt.stderr());
-    ExitCode::from(exit_number(rt, &mut out, &mut err))
+    let words = given_words(&rt);
+    ExitCode::from(exit_number(rt, words, &mut out, &mut err))
 }

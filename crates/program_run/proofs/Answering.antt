@@ -1,5 +1,5 @@
 -- What is asked of the model of a command's plan answers the command.
-use Rattle.program_run.proofs.Common.{nat_tests, ◌≡◌, ℕ, ℤ, pos, ◌*ℤ◌, ◌≤ℤ◌, Bool, List, length, take, Ok, Some, None, refl, sym, ap, ◌∙◌, subst, arith, ints, by_lt_z, Option, NamedFiles, UnitChoice, IsOf, Source, energy, times-lt, Relaxes, Written, IsWellFormed, form_of, decoding_of, Demand, Faithful, HasChains, IsLeastState, least_states_tell, length-read_off, Choices, FitsFields, model_text, IsTextOf, texts_tell_models, decoding_text, extension_text, proof_text, Format, Ask, WordAt, ChainStrength, most_of, text_at, Command, Read, CostsAs, StandsFor, bounded, carried, names_of, names_read, problem_stands, problem_costs, ising_of, ExtendsTo, IsLeastTo, IsMadeOf, Placement, Plan, ties_of, demand_of, form_in, StandsOn, Last, Nothing, Bits, InOrder, Several, bits_step, gives, checking, placing, planning, last_step, format_in, IsSmall, bounded_cost, judgement_by, read_cost, IsExtendedBy, IsModelled, IsModelText, IsOfModel, IsSolvedBy, IsTold, IsMadeText, EveryStateStands, judgement_of, Extends, IsAnswer, IsAskedOf, IsDecoded, IsExtended, IsLeastAsked, IsLeastExtension, IsLeastWhereWhole, IsModelFor, IsProved, IsSolved, TellsSource, bits_were, bound, Model, Summary, Size, Solve, Decode, Evaluate, Extend, Prove, Choi, Cut, ◌>>=◌}
+use Rattle.program_run.proofs.Common.{nat_tests, ◌≡◌, ℕ, ℤ, pos, ◌*ℤ◌, ◌≤ℤ◌, Bool, List, length, take, Ok, Some, None, refl, sym, ap, ◌∙◌, subst, arith, ints, by_lt_z, Option, NamedFiles, UnitChoice, IsOf, Source, energy, times-lt, Relaxes, Written, IsWellFormed, form_of, decoding_of, Demand, Faithful, HasChains, IsLeastState, least_states_tell, length-read_off, Choices, FitsFields, model_text, IsTextOf, texts_tell_models, decoding_text, extension_text, proof_text, Format, Ask, WordAt, ChainStrength, most_of, text_at, Command, Read, CostsAs, StandsFor, bounded, carried, names_of, names_read, problem_stands, problem_costs, ising_of, ExtendsTo, IsLeastTo, IsMadeOf, Placement, Plan, ties_of, demand_of, form_in, StandsOn, Last, Nothing, Bits, InOrder, Several, bits_step, gives, checking, placing, planning, last_step, format_in, IsSmall, bounded_cost, judgement_by, read_cost, IsExtendedBy, IsModelled, IsModelText, IsOfModel, IsSolvedBy, IsTold, IsMadeText, EveryStateStands, judgement_of, Extends, IsAnswer, IsAskedOf, IsDecoded, IsExtended, IsLeastAsked, IsLeastExtension, IsLeastWhereWhole, IsModelFor, IsProved, IsSolved, TellsSource, bits_were, bound, Model, Summary, Size, Solve, Decode, Evaluate, Extend, Prove, Choi, Cut, Global, ◌>>=◌}
 use Rattle.problem_form.specs.Problems as problems
 use Rattle.command_words.specs.declared.commands.Format.TheVariants as formats
 use Rattle.model_pipeline.specs.Models as models
@@ -45,7 +45,7 @@ stands_on (Nodes target) choices unit s r m stands made =
       scale = made.scale;
       threshold = made.threshold;
       unit = made.unit;
-      stands = made.relaxes;
+      stands = made.relaxes Global stands.penalties;
     }) made.kind refl (grind (arith, nat_tests))
 stands_on (Qubits site) choices unit s r m stands made =
     let nodes = length (ising_of choices r.problem).fields in
@@ -57,7 +57,7 @@ stands_on (Qubits site) choices unit s r m stands made =
       scale = made.scale;
       threshold = made.threshold;
       unit = made.unit;
-      stands = made.stands;
+      stands = made.stands Global stands.penalties;
     }) made.kind refl
     (subst (λ k. HasChains k (demand_of unit (Qubits site) nodes) m) (sym made.kind) made.embedded)
 

@@ -1,7 +1,8 @@
 -- What the proofs of this crate stand on, of std and of the crates below.
 pub use Rattle.std.proofs.Common.{◌≡◌, ℕ, ℤ, pos, ◌*ℤ◌, ◌≤ℤ◌, Bool, List, length, get_or, take, Ok, Some, None, refl, sym, ap, ◌∙◌, subst, arith, Option, ◌≤◌, IfOk, Err, Result, [], ◌∷◌, reverse, ◌^◌, zero, suc, ◌+◌, ◌<◌, true, false, ◌++◌, length-append, append_assoc, append-nil, slice_index_or, Bor, IsOk, OnOk, OnErr, not, ◌||◌, cond, map, find, ◌-◌, ◌+ℤ◌, ◌≢◌, string_bytes, rules, of_z, to_z, decimal}
 pub use Rattle.wbo_reader.proofs.Common.{rewritten_relaxes, WboContent}
-pub use Rattle.model_pipeline.proofs.Common.{ints, to_z-of_z, Form, IsOf, energy, times-lt, Relaxes, Decoding, Written, weight_total, read_off, IsLeast, ising_of, site_chains, IsingContent, IfFault, CanStandBy, IsFaultBy, graph_in, fabric_in, chains_of, CanStandAt, upper, limit_fault, auxiliary_bits, Embedding, ising_figures, decoding_to, form_model, kind_of, qubit_model, le-ltb, AllByRecursion, length-map, take-take, take-map, if◌then◌else◌, nat_lt, All, total_by, StandsAtLeast, StandsBy, length-map-range_with_len, QuadContent, length-fields, IfOk-weaker, w128, nat_tests}
+pub use Rattle.model_pipeline.proofs.Common.{ints, to_z-of_z, Form, IsOf, energy, times-lt, Decoding, Written, weight_total, read_off, IsLeast, ising_of, site_chains, IsingContent, IfFault, CanStandBy, IsFaultBy, graph_in, fabric_in, chains_of, CanStandAt, upper, limit_fault, auxiliary_bits, Embedding, ising_figures, decoding_to, form_model, qubit_model, le-ltb, AllByRecursion, length-map, take-take, take-map, if◌then◌else◌, nat_lt, All, total_by, StandsAtLeast, StandsBy, length-map-range_with_len, QuadContent, length-fields, IfOk-weaker, w128, nat_tests}
+pub use Rattle.form_steps.specs.Relations.{Relaxes}
 pub use Rattle.run_steps.proofs.Common.{NamedFiles, text_at, if_named, last_files, model_files, CertificateContent, proof_fault, AreFilesOf, AreRead, weight, eqb-true, ended, IfErr}
 pub use Rattle.model_pipeline.proofs.faithful.Common.{by_lt_z, Source, first_decoded, IsWellFormed, form_of, decoding_of, IsLeastState, HasCost, IsFeasible, length-take-le}
 pub use Rattle.elimination_order.proofs.Common.{IsFirstLeastBy, list_any, ⊤, width, IsWithinWidth, IsFirstWider, first_wide, IsFirstLeast}
@@ -32,7 +33,7 @@ pub use Rattle.run_steps.proofs.StateBits.{state_is_taken, state_has_width}
 pub use Rattle.chain_map.specs.declared.faults.CheckAnswer.{CheckAnswer}
 pub use Rattle.program_run.specs.Unembedded.{IsUnembeddedOn, unembedded, unsolved}
 pub use Rattle.edge_io.specs.Counts.{Counts, Rose, HasCause}
-pub use Rattle.run_steps.specs.Statuses.{IsReading, IsRefusal, IsDoneOrWant, OnWriting, IsUnsolved}
+pub use Rattle.run_steps.specs.Statuses.{IsReading, IsRefusal, IsDoneOrFault, OnWriting, IsUnsolved, IsUsageOf, CountsReadFault}
 pub use Rattle.program_run.specs.Outcome.{AreFilesAsked, IsEndOf, IsEnd, Ends, MeetsOutcomeOf}
 pub use Rattle.state_file.specs.States.{StateLine, states_of, is_one, is_state, states_from}
 pub use Rattle.program_run.specs.Headline.{DeliversHeadline, IsAskedAt, IsHeadline}
@@ -57,7 +58,7 @@ pub use Rattle.model_pipeline.proofs.faithful.LongerSources.{rewritten_stands}
 pub use Rattle.program_run.specs.Thresholds.{RowsGoByTheThreshold}
 pub use Rattle.source_texts.proofs.Cleared.{cleared_costs, cleared_stands}
 pub use Rattle.model_pipeline.proofs.FewNodes.{nodes_are_few}
-pub use Rattle.run_steps.proofs.FilesRead.{made_refused, made_then, read_wanting}
+pub use Rattle.run_steps.proofs.FilesRead.{made_refused, made_then, read_wanting, faults_counted}
 pub use Rattle.run_steps.proofs.Holding.{may_first, may_next}
 pub use Rattle.std.proofs.lemmas.List.Elements.{All-from_get_or}
 pub use Rattle.state_scores.specs.Batches.{AreCosts}
@@ -87,6 +88,7 @@ pub use Rattle.command_words.specs.declared.commands.Request.{Request}
 pub use Rattle.command_words.specs.declared.commands.Origin.{Origin}
 pub use Rattle.command_words.specs.declared.commands.Slack.{Slack}
 pub use Rattle.command_words.specs.declared.commands.ChainStrength.TheVariants.{Choi, Cut}
+pub use Rattle.form_steps.specs.declared.scope.PenaltyScope.TheVariants.{Global}
 pub use Rattle.command_words.specs.declared.commands.Ask.TheVariants.{Decode, Evaluate, Extend, Model, Prove, Size, Solve, Summary}
 pub use Rattle.run_steps.specs.declared.status.Status.TheVariants.{Done, NoState, NotEmbedded, ReadFault, TooWide, WriteFault}
 pub use Rattle.base.specs.declared.costs.Cost.TheVariants.{Infinite, Whole}

@@ -1,5 +1,6 @@
 -- How the steps of a command end.
-use Rattle.program_run.proofs.Common.{nat_tests, ◌≡◌, ℕ, IfOk, arith, List, Ok, Err, Some, Result, refl, sym, ◌∙◌, Option, Written, Counts, Rose, NamedFiles, Which, Request, Plan, Status, IsReading, IsRefusal, IsDoneOrWant, Steps, Last, Refuses, AreFilesAsked, IsEndOf, IsEnd, Ends, MeetsOutcomeOf, IsModelled, EndsOf, Done, ReadFault, WriteFault, NotEmbedded}
+use Rattle.program_run.proofs.Common.{nat_tests, ◌≡◌, ℕ, IfOk, arith, List, Ok, Err, Some, Result, refl, sym, ◌∙◌, subst, Option, Written, Counts, NamedFiles, Request, Command, name_of, model_files, last_files, Plan, Status, IsReading, IsRefusal, IsDoneOrFault, IsUsageOf, CountsReadFault, faults_counted, Steps, Last, Refuses, AreFilesAsked, IsEndOf, IsEnd, Ends, MeetsOutcomeOf, IsModelled, EndsOf, Done, NotEmbedded}
+use Rattle.command_words.specs.declared.commands.Request.TheVariants as requests
 use Rattle.program_run.proofs.OneModel.{one_model}
 
 -- ---- of a plan
@@ -47,16 +48,24 @@ one_end end last status done is = grind (arith, nat_tests, plan_done)
 
 -- a status that is neither a fault nor want of memory is Done where all is done
 pub done_is_met : (plans : Steps Plan) (last : ℕ → Written → Steps Last)
-    (status : Status) → IsEnd plans.end last Done → Ends status plans last
-    → ((which : Which) → status ≡ ReadFault which → ⊥) → (status ≡ WriteFault → ⊥)
-    → IsDoneOrWant status
-done_is_met plans last status done is read write = grind (arith, nat_tests, one_end)
+    (status : Status) → IsEnd plans.end last Done → Ends status plans last → IsDoneOrFault status
+done_is_met plans last status done is = grind (arith, nat_tests, one_end)
 
--- where no count of faults rose, the status is Done where the outcome is
+-- so it is of what is asked
 pub done_is_complete : (words : List (List ℕ)) (held : NamedFiles) (said : Result Request ℕ)
-    (status : Status) (old new : Counts) → MeetsOutcomeOf words held said status
-    → IfOk said (λ request. AreFilesAsked words request status old new)
-    → ¬ (Rose old.faults new.faults) → (status ≡ WriteFault → ⊥)
-    → MeetsOutcomeOf words held said Done → IsDoneOrWant status
-done_is_complete words held said status old new meets files calm quiet done =
-    grind (arith, nat_tests, done_is_met)
+    (status : Status) → MeetsOutcomeOf words held said status
+    → MeetsOutcomeOf words held said Done → IsDoneOrFault status
+done_is_complete words held said status meets done = grind (arith, nat_tests, done_is_met)
+
+-- ---- faults are counted
+
+-- a command's status is a fault of its files exactly where the store counted one
+pub command_counted : (words : List (List ℕ)) (said : Result Request ℕ) (command : Command)
+    (status : Status) (a b : Counts) → said ≡ Ok (requests.Command command)
+    → IsUsageOf status said → IfOk said (λ request. AreFilesAsked words request status a b)
+    → CountsReadFault status a.faults b.faults
+command_counted words said command status a b is usage files =
+    faults_counted (name_of words command) (model_files command) (last_files command) status
+    (requests.Command command) a b
+    (subst (λ (s : Result Request ℕ). IsUsageOf status s) is usage)
+    (subst (λ (s : Result Request ℕ). IfOk s (λ request. AreFilesAsked words request status a b)) is files)

@@ -1,5 +1,6 @@
 -- A plan makes one model.
-use Rattle.program_run.proofs.Common.{nat_tests, arith, ◌≡◌, ℕ, sym, ap, ◌∙◌, UnitChoice, Written, Choices, ProblemContent, Embedding, checked_unique, ising_figures, ising_of, site_chains, kind_of, qubit_model, graph_in, fabric_in, Placement, IsModelOn, PlansMakeOneModel}
+use Rattle.program_run.proofs.Common.{nat_tests, arith, ◌≡◌, ℕ, sym, ap, ◌∙◌, UnitChoice, Written, Choices, ProblemContent, Embedding, checked_unique, ising_figures, ising_of, site_chains, qubit_model, graph_in, fabric_in, Placement, IsModelOn, PlansMakeOneModel}
+use Rattle.bits_model.specs.declared.output.Kind.TheVariants as kinds
 use Rattle.penalty_layer.specs.Penalty as penalty
 use Rattle.run_steps.specs.declared.placements.Placement.TheVariants.{Nodes, Qubits}
 
@@ -11,7 +12,7 @@ one_model_on (Qubits site) choices unit own p m n first second =
     let fabric = fabric_in site.qubits in
     let model : Embedding → Written =
     λ e. qubit_model unit site.ties e own (ising_figures (penalty.figures p))
-    (kind_of (graph_in site.qubits)) in
+    (kinds.Qubits (graph_in site.qubits)) in
     let same : first.0 ≡ second.0 =
     checked_unique fabric.joined fabric.qubits (ising_of choices p) (site_chains site choices p)
     first.0 second.0 first.1 second.1 in

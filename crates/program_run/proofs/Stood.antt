@@ -1,5 +1,5 @@
 -- A model of the problem that a source is read into stands for the source.
-use Rattle.program_run.proofs.Common.{nat_tests, ◌≡◌, ◌≤◌, ℕ, ℤ, ◌+ℤ◌, ◌*ℤ◌, Bool, List, take, refl, sym, ap, ◌∙◌, subst, arith, take-take, take-map, Kind, Form, Source, Figures, Decoding, Relaxes, first_decoded, rewritten_relaxes, Written, IsWellFormed, form_of, decoding_of, read_off, IsBounded, HasUnit, HasChains, scale_of, DecodesAlike, relaxes_alike, StandsAtLeast, IsLeast, relaxed_stands, standing_is_faithful, rewritten_stands, UnitChoice, FitsFields, upper, Read, StandsFor, ChainStrength, decoding_to, StandsBy, Placement, ties_of, demand_of, EveryStateStands, IsModelFor, Choi, Cut}
+use Rattle.program_run.proofs.Common.{nat_tests, ◌≡◌, ◌≤◌, ℕ, ℤ, ◌+ℤ◌, ◌*ℤ◌, Bool, List, take, refl, sym, ap, ◌∙◌, subst, arith, take-take, take-map, Kind, Form, Source, Figures, Decoding, Relaxes, first_decoded, rewritten_relaxes, Written, IsWellFormed, form_of, decoding_of, read_off, IsBounded, HasUnit, HasChains, scale_of, DecodesAlike, relaxes_alike, StandsAtLeast, IsLeast, relaxed_stands, standing_is_faithful, rewritten_stands, UnitChoice, FitsFields, upper, Read, StandsFor, ChainStrength, decoding_to, StandsBy, Placement, ties_of, demand_of, EveryStateStands, IsModelFor, Choi, Cut, Global}
 use Rattle.run_steps.specs.Placements.{kind_of}
 use Rattle.problem_form.specs.Problems as problems
 
@@ -31,7 +31,7 @@ pub record IsMade (r : Read) (choice : UnitChoice) (ties : ChainStrength) (m : W
   pub scale : m.figures.scale ≡ scale_of m.kind
   pub threshold : m.figures.threshold ≡ m.figures.scale *ℤ upper r.problem +ℤ m.figures.offset
   pub unit : HasUnit choice m
-  pub stands : StandsBy ties (problems.form_of r.problem) (form_of m)
+  pub stands : StandsBy ties Global (problems.form_of r.problem) (form_of m)
       (decoding_to r.problem.variables m) m.unit m.figures
 
 module _ (unit : UnitChoice) (s : Source) (r : Read) (m : Written) (stands : StandsFor s r)
@@ -63,15 +63,15 @@ module _ (unit : UnitChoice) (s : Source) (r : Read) (m : Written) (stands : Sta
 
   -- as its ties allow
   every : (ties : ChainStrength)
-      → StandsBy ties (problems.form_of r.problem) (form_of m) (decoding_to r.problem.variables m)
+      → StandsBy ties Global (problems.form_of r.problem) (form_of m) (decoding_to r.problem.variables m)
       m.unit m.figures → EveryStateStands ties s m
   every ties relaxes = grind (arith, nat_tests, source_relaxed)
 
   at_least : (ties : ChainStrength)
-      → StandsBy ties (problems.form_of r.problem) (form_of m) (decoding_to r.problem.variables m)
+      → StandsBy ties Global (problems.form_of r.problem) (form_of m) (decoding_to r.problem.variables m)
       m.unit m.figures → StandsAtLeast s.form (form_of m) (decoding_of m) m.unit m.figures
   at_least Choi relaxes =
-      relaxed_stands s.form (form_of m) (decoding_of m) m.unit m.figures (source_relaxed relaxes)
+      relaxed_stands Global s.form (form_of m) (decoding_of m) m.unit m.figures (source_relaxed relaxes)
   at_least Cut standing = source_stands standing
 
 -- what is made stands for the source, where it has the chains that are asked for

@@ -52,7 +52,7 @@ use Rattle.program_run.specs.declared.answer.Answer.TheVariants.{Model, Scores, 
 use Rattle.run_steps.specs.declared.status.Status.{Status}
 use Rattle.run_steps.specs.declared.status.Status.TheVariants.{Done, WriteFault}
 use Rattle.run_steps.specs.Causes.{WhereHeld}
-use Rattle.run_steps.specs.Statuses.{IsDoneOrWant}
+use Rattle.run_steps.specs.Statuses.{IsDoneOrFault}
 use Rattle.program_run.specs.Outcome.{MeetsOutcome}
 
 -- ---- a source and its model
@@ -294,8 +294,8 @@ DeliversAnswer words told status old new = Delivers (IsAnswered words) words tol
 abbrev pub WritesText : (old new : Taken) → Type 0
 WritesText old new = (text : List ℕ) × (text ≢ []) × Takes old new text
 
--- whatever files may be held, where the outcome of the words is Done, so is the status, or memory was
--- wanting
+-- whatever files may be held, where the outcome of the words is Done, so is the status, unless a call
+-- failed or memory was wanting
 abbrev pub Completes : List (List ℕ) → Option NamedFiles → Status → Type 0
 Completes words told status =
-    WhereHeld told (files_in words) (λ held. MeetsOutcome words held Done → IsDoneOrWant status)
+    WhereHeld told (files_in words) (λ held. MeetsOutcome words held Done → IsDoneOrFault status)

@@ -1,18 +1,13 @@
--- How a process ends: with the number of the status of a run, or without one.
-use Rattle.std.specs.Prelude.{◌≡◌, ◌⊎◌, ℕ, List, None, IfOk}
+-- How a process ends: with the number of the status of a run.
+use Rattle.std.specs.Prelude.{◌≡◌, ℕ, List, None}
 use Rattle.std.specs.declared.option.Option.{Option}
-use Rattle.edge_io.specs.Counts.{Counts, Rose, none_yet}
+use Rattle.edge_io.specs.Counts.{Counts, none_yet}
 use Rattle.edge_io.specs.Held.{NamedFiles}
 use Rattle.edge_io.specs.Sinks.{Taken}
-use Rattle.command_words.specs.Commands.{request_of}
-use Rattle.run_steps.specs.Causes.{WhereHeld}
 use Rattle.run_steps.specs.declared.status.Status.{Status}
-use Rattle.run_steps.specs.declared.status.Status.TheVariants.{WriteFault}
-use Rattle.run_steps.specs.Statuses.{exit_number, IsUntaken, IsUsageOf, OnDone, OnWriting}
-use Rattle.program_run.specs.Answers.{files_in, Completes, DeliversAnswer, WritesText}
-use Rattle.program_run.specs.Headline.{DeliversHeadline}
+use Rattle.run_steps.specs.Statuses.{exit_number}
 use Rattle.program_run.specs.Lines.{error_line, name_said, IsSaid}
-use Rattle.program_run.specs.Outcome.{AreFilesAsked, MeetsOutcome, NoFault}
+use Rattle.program_run.specs.Runs.{IsRun}
 
 -- what the ends of a run tell: which files the store holds and what it counted, and of the output and
 -- the error output what they took and how often they failed
@@ -24,25 +19,12 @@ pub record Ends : Type 0 where
   pub err : Taken
   pub err_faults : ℕ
 
--- the status of a run on these words, and what its ends tell before and after
-pub record IsRun (words : List (List ℕ)) (status : Status) (old new : Ends) : Type 0 where
-  pub usage : IsUsageOf status (request_of words)
-  pub files : IfOk (request_of words) (λ request.
-      AreFilesAsked words request status old.files new.files)
-  pub outcome : WhereHeld old.held (files_in words) (λ held. MeetsOutcome words held status)
-  pub complete : NoFault old.files new.files → ¬ (Rose old.out_faults new.out_faults)
-      → Completes words old.held status
-  pub write_fault : status ≡ WriteFault → Rose old.out_faults new.out_faults
-  pub headline : OnWriting status (DeliversHeadline words old.held status old.out new.out)
-  pub answered : OnWriting status (DeliversAnswer words old.held status old.out new.out)
-  pub written : OnDone status (WritesText old.out new.out)
-  pub line : IsSaid old.err new.err old.err_faults new.err_faults
-      (error_line status (name_said words status))
-
--- the number is that of the status of a run on these words
+-- the number is that of the status of a run on these words, whose line was written
 abbrev pub IsNumber : List (List ℕ) → (old new : Ends) → ℕ → Type 0
 IsNumber words old new number =
-    (status : Status) × (number ≡ exit_number status) × IsRun words status old new
+    (status : Status) × (number ≡ exit_number status)
+    × IsRun words status old.held old.files new.files old.out new.out old.out_faults new.out_faults
+    × IsSaid old.err new.err old.err_faults new.err_faults (error_line status (name_said words status))
 
 -- the same, of a run whose ends tell this
 abbrev pub IsNumberOf : {A : Type 0} → List (List ℕ) → (A → Ends) → (old new : A) → ℕ → Type 0
@@ -72,18 +54,7 @@ sinks_by out out_faults err err_faults sinks files = record {
   err_faults = err_faults sinks.1;
 }
 
--- the number is that of a run on some words, over files that tell nothing and of which none was begun
-abbrev pub IsRunOnce : {A : Type 0} → (A → Counts → Ends) → (old new : A) → ℕ → Type 0
-IsRunOnce told old new number =
-    (words : List (List ℕ)) × (files : Counts)
-    × IsNumber words (told old none_yet) (told new files) number
-
--- no words could be taken, as the number says, and then nothing was written
-abbrev pub IsNoRun : {A : Type 0} → (A → Counts → Ends) → (old new : A) → ℕ → Type 0
-IsNoRun told old new number =
-    (status : Status) × (number ≡ exit_number status) × IsUntaken status
-    × (told new none_yet ≡ told old none_yet)
-
--- how a process ends: with the number of a run, or without a run
-abbrev pub IsEnded : {A : Type 0} → (A → Counts → Ends) → (old new : A) → ℕ → Type 0
-IsEnded told old new number = IsRunOnce told old new number ⊎ IsNoRun told old new number
+-- the number is that of a run on these words, over files that tell nothing and of which none was begun
+abbrev pub IsRunOn : {A : Type 0} → List (List ℕ) → (A → Counts → Ends) → (old new : A) → ℕ → Type 0
+IsRunOn words told old new number =
+    (files : Counts) × IsNumber words (told old none_yet) (told new files) number

@@ -6,4 +6,5 @@ pub mod Made
 pub mod Answers
 pub mod Headline
 pub mod Lines
+pub mod Runs
 pub mod Exits

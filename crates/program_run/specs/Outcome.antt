@@ -14,7 +14,7 @@ use Rattle.run_steps.specs.declared.plans.Plan.{Plan}
 use Rattle.run_steps.specs.Plans.{CanStand, IsFaultOn, IsModelBy, form_in}
 use Rattle.run_steps.specs.declared.status.Status.{Status}
 use Rattle.run_steps.specs.declared.status.Status.TheVariants.{Done, Usage, ReadFault, WriteFault, NotEmbedded, NoMemory}
-use Rattle.edge_io.specs.Counts.{Counts, Rose}
+use Rattle.edge_io.specs.Counts.{Counts}
 
 -- the plan can stand, and of its model this holds
 abbrev pub OfModel : Plan → (Written → Type 0) → Type 0
@@ -69,7 +69,3 @@ MeetsOutcome words held status = MeetsOutcomeOf words held (request_of words) st
 abbrev pub AreFilesAsked : List (List ℕ) → Request → Status → Counts → Counts → Type 0
 AreFilesAsked words (requests.Notice notice) status old new = new ≡ old
 AreFilesAsked words (requests.Command command) status old new = AreFiles words command status old new
-
--- the store of files counted no fault more
-abbrev pub NoFault : Counts → Counts → Type 0
-NoFault old new = ¬ (Rose old.faults new.faults)

@@ -1,8 +1,7 @@
 //! The delivery of an answer. Nothing here has an allocator: all memory is taken before.
 ghost use Rattle.std.specs.Prelude.{◌≡◌, []};
-ghost use Rattle.edge_io.specs.Counts.{Rose};
 ghost use Rattle.model_text.specs.Rows.{model_text};
-ghost use Rattle.run_steps.specs.Statuses.{OnRefusal};
+ghost use Rattle.run_steps.specs.Statuses.{CountsWriteFault, OnRefusal};
 ghost use Rattle.program_run.specs.Answers.{text_of, IsDelivered};
 
 use crate::answer::Answer;
@@ -17,7 +16,7 @@ fn deliver_model<O: Sink>(model: &OutputModel, buffer: &mut LineBuffer, out: &mu
     requires unused { buffer.old ≡ [] }
     ensures delivered { IsDelivered result (O.taken out.old) (O.taken out.new)
         (model_text model.now) }
-    ensures fault { result ≡ Status.WriteFault → Rose (O.faults out.old) (O.faults out.new) }
+    ensures fault { CountsWriteFault result (O.faults out.old) (O.faults out.new) }
     ensures refused { OnRefusal result (out.new ≡ out.old) }
 {
     match write_text(model, buffer, out) {
@@ -30,7 +29,7 @@ fn deliver_model<O: Sink>(model: &OutputModel, buffer: &mut LineBuffer, out: &mu
 fn deliver_scores<O: Sink>(text: &EvaluationText, buffer: &mut LineBuffer, out: &mut O) -> Status
     requires unused { buffer.old ≡ [] }
     ensures delivered { IsDelivered result (O.taken out.old) (O.taken out.new) text.now }
-    ensures fault { result ≡ Status.WriteFault → Rose (O.faults out.old) (O.faults out.new) }
+    ensures fault { CountsWriteFault result (O.faults out.old) (O.faults out.new) }
     ensures refused { OnRefusal result (out.new ≡ out.old) }
 {
     match text.write(buffer, out) {
@@ -42,7 +41,7 @@ fn deliver_scores<O: Sink>(text: &EvaluationText, buffer: &mut LineBuffer, out: 
 /// Writes a text that stands.
 pub fn deliver_text<O: Sink>(text: &[u8], out: &mut O) -> Status
     ensures delivered { IsDelivered result (O.taken out.old) (O.taken out.new) text.now }
-    ensures fault { result ≡ Status.WriteFault → Rose (O.faults out.old) (O.faults out.new) }
+    ensures fault { CountsWriteFault result (O.faults out.old) (O.faults out.new) }
     ensures refused { OnRefusal result (out.new ≡ out.old) }
 {
     match write_pieces(out, &[text]) {
@@ -56,7 +55,7 @@ pub fn deliver<O: Sink>(answer: &Answer, buffer: &mut LineBuffer, out: &mut O) -
     requires unused { buffer.old ≡ [] }
     ensures delivered { IsDelivered result (O.taken out.old) (O.taken out.new)
         (text_of answer.now) }
-    ensures fault { result ≡ Status.WriteFault → Rose (O.faults out.old) (O.faults out.new) }
+    ensures fault { CountsWriteFault result (O.faults out.old) (O.faults out.new) }
     ensures refused { OnRefusal result (out.new ≡ out.old) }
 {
     match answer {

@@ -1,10 +1,8 @@
 //! The program, over the real words and files.
-ghost use Rattle.std.specs.Prelude.{◌≡◌, ◌≢◌, IfOk, IfErr, OnErr};
-ghost use Rattle.edge_io.specs.Counts.{Rose};
+ghost use Rattle.std.specs.Prelude.{◌≡◌, ◌≢◌, IfOk, IfErr, OnErr, OnOk};
 ghost use Rattle.run_steps.specs.Causes.{spelled};
-ghost use Rattle.run_steps.specs.Statuses.{IsUntaken, IsExitNumber};
-ghost use Rattle.program_run.specs.Answers.{WritesText};
-ghost use Rattle.program_run.specs.Exits.{ends_by, sinks_by, IsNumberOf, IsRunOnce, IsEnded};
+ghost use Rattle.run_steps.specs.Statuses.{IsUntaken, exit_number};
+ghost use Rattle.program_run.specs.Exits.{ends_by, sinks_by, IsNumberOf, IsRunOn};
 
 use crate::running::run;
 use edge_io::{Files, RealFiles, Sink};
@@ -48,39 +46,30 @@ pub fn given_words(rt: &HostRuntime) -> Result<Vec<String>, Status>
     collected.map_err(|_| Status::NoMemory)
 }
 
-/// The number of a run on the words of the command line and the files of the system, or the status
-/// where no words can be taken, and then nothing is written.
-fn ending<O: Sink, E: Sink>(rt: HostRuntime, out: &mut O, err: &mut E) -> Result<u8, Status>
-    ensures run { IfOk result (λ number. IsRunOnce (sinks_by O.taken O.faults E.taken E.faults)
-        (out.old, err.old) (out.new, err.new) number) }
-    ensures refused { IfOk result (λ number. number ≢ 0 → number ≢ 4 → out.new ≡ out.old) }
-    ensures silent { IfOk result (λ number. number ≡ 0 → err.new ≡ err.old) }
-    ensures untaken { IfErr result IsUntaken }
-    ensures unwritten { OnErr result (out.new ≡ out.old) }
-    ensures unsaid { OnErr result (err.new ≡ err.old) }
+/// The number to exit with: that of a run on these words and the files of the system, or of the status
+/// where no words could be taken, and then nothing is written.
+pub fn exit_number<O: Sink, E: Sink>(
+    rt: HostRuntime,
+    words: Result<Vec<String>, Status>,
+    out: &mut O,
+    err: &mut E,
+) -> u8
+    ensures run { IfOk words (λ given. IsRunOn (spelled given.items)
+        (sinks_by O.taken O.faults E.taken E.faults)
+        (out.old, err.old) (out.new, err.new) result) }
+    ensures refused { OnOk words (result ≢ 0 → result ≢ 4 → out.new ≡ out.old) }
+    ensures silent { OnOk words (result ≡ 0 → err.new ≡ err.old) }
+
+    // Without words nothing is written.
+    ensures untaken { IfErr words (λ status. result ≡ exit_number status) }
+    ensures unwritten { OnErr words (out.new ≡ out.old) }
+    ensures unsaid { OnErr words (err.new ≡ err.old) }
 {
-    let words = given_words(&rt)?;
-    let alloc: Global = rt.alloc();
-    Ok(finish(alloc, &words, &mut RealFiles::new(rt), out, err))
-}
-
-/// One run on the words of the command line and the files of the system. The result is the number to
-/// exit with: that of the run's status, or of the one where there are no words.
-pub fn exit_number<O: Sink, E: Sink>(rt: HostRuntime, out: &mut O, err: &mut E) -> u8
-    ensures number { IsExitNumber result }
-    ensures run { IsEnded (sinks_by O.taken O.faults E.taken E.faults)
-        (out.old, err.old) (out.new, err.new) result }
-
-    // Something is written to `out` with 0 and, after a fault of it, with 4, and else nothing.
-    ensures written { result ≡ 0 → WritesText (O.taken out.old) (O.taken out.new) }
-    ensures refused { result ≢ 0 → result ≢ 4 → out.new ≡ out.old }
-    ensures write_fault { result ≡ 4 → Rose (O.faults out.old) (O.faults out.new) }
-
-    // With 0 no line goes to `err`.
-    ensures silent { result ≡ 0 → err.new ≡ err.old }
-{
-    match ending(rt, out, err) {
-        Ok(number) => number,
+    match words {
+        Ok(words) => {
+            let alloc: Global = rt.alloc();
+            finish(alloc, &words, &mut RealFiles::new(rt), out, err)
+        }
         Err(status) => status.number(),
     }
 }

@@ -1,14 +1,13 @@
 //! One run: the answer to a command, its delivery, and the line for the status.
 ghost use Rattle.std.specs.Prelude.{◌≡◌, ℕ, Ok, Err, IfOk, IfErr};
-ghost use Rattle.edge_io.specs.Counts.{Rose};
 ghost use Rattle.command_words.specs.declared.commands.Request.TheVariants as requests;
 ghost use Rattle.command_words.specs.Commands.{asked, AsksForFewClauses, HasFewClauses};
 ghost use Rattle.command_words.specs.Notices.{notice_text};
-ghost use Rattle.run_steps.specs.Statuses.{IsUsageOf, OnUsage, OnWriting, OnDone, OnRefusal};
-ghost use Rattle.program_run.specs.Outcome.{AreFilesAsked, MeetsOutcome, NoFault};
+ghost use Rattle.run_steps.specs.Statuses.{IsUsageOf, OnUsage, OnWriting, OnDone, OnRefusal, CountsWriteFault};
+ghost use Rattle.program_run.specs.Outcome.{AreFilesAsked, MeetsOutcome};
 ghost use Rattle.run_steps.specs.Causes.{WhereHeld, spelled};
-ghost use Rattle.program_run.specs.Answers.{files_in, Completes, DeliversAnswer, IsDelivered, WritesText};
-ghost use Rattle.program_run.specs.Headline.{DeliversHeadline};
+ghost use Rattle.program_run.specs.Answers.{files_in, DeliversAnswer, IsDelivered, WritesText};
+ghost use Rattle.program_run.specs.Runs.{IsRun};
 ghost use Rattle.program_run.specs.Lines.{error_line, name_in, name_said, file_in, IsSaid};
 
 use crate::answers::answer_to;
@@ -58,7 +57,7 @@ fn request_asked(words: &[String]) -> Result<Request, Status>
 fn noticed<O: Sink>(notice: Notice, out: &mut O) -> Status
     ensures delivered { IsDelivered result (O.taken out.old) (O.taken out.new)
         (notice_text notice) }
-    ensures fault { result ≡ Status.WriteFault → Rose (O.faults out.old) (O.faults out.new) }
+    ensures fault { CountsWriteFault result (O.faults out.old) (O.faults out.new) }
     ensures refused { OnRefusal result (out.new ≡ out.old) }
 {
     deliver_text(notice_text(notice).as_bytes(), out)
@@ -80,8 +79,7 @@ fn carried_out<F: Files, O: Sink>(
     ensures files { IfOk (asked words.now) (λ request.
         AreFilesAsked (spelled words.now) request result
         (F.counts files.old) (F.counts files.new)) }
-    ensures write_fault { result ≡ Status.WriteFault
-        → Rose (O.faults out.old) (O.faults out.new) }
+    ensures write_fault { CountsWriteFault result (O.faults out.old) (O.faults out.new) }
     ensures outcome { WhereHeld (F.held files.old) (files_in (spelled words.now)) (λ held.
         MeetsOutcome (spelled words.now) held result) }
     ensures answered { OnWriting result (DeliversAnswer (spelled words.now) (F.held files.old)
@@ -110,29 +108,12 @@ pub fn answered<F: Files, O: Sink>(
     files: &mut F,
     out: &mut O,
 ) -> Status
-    ensures usage { IsUsageOf result (asked words.now) }
+    ensures run { IsRun (spelled words.now) result (F.held files.old)
+        (F.counts files.old) (F.counts files.new) (O.taken out.old) (O.taken out.new)
+        (O.faults out.old) (O.faults out.new) }
+
+    // A usage fault calls nothing, and nothing is written before the whole answer stands.
     ensures no_call { OnUsage result (files.new ≡ files.old) }
-
-    // Why a file was not read, how many were begun, and that no more was read.
-    ensures files { IfOk (asked words.now) (λ request.
-        AreFilesAsked (spelled words.now) request result
-        (F.counts files.old) (F.counts files.new)) }
-    ensures write_fault { result ≡ Status.WriteFault
-        → Rose (O.faults out.old) (O.faults out.new) }
-
-    // Of what the store holds, or of whatever it may hold where no file is taken.
-    ensures outcome { WhereHeld (F.held files.old) (files_in (spelled words.now)) (λ held.
-        MeetsOutcome (spelled words.now) held result) }
-    ensures complete { NoFault (F.counts files.old) (F.counts files.new)
-        → ¬ (Rose (O.faults out.old) (O.faults out.new))
-        → Completes (spelled words.now) (F.held files.old) result }
-
-    // The headline, and the answer whole.
-    ensures headline { OnWriting result (DeliversHeadline (spelled words.now) (F.held files.old)
-        result (O.taken out.old) (O.taken out.new)) }
-    ensures answered { OnWriting result (DeliversAnswer (spelled words.now) (F.held files.old)
-        result (O.taken out.old) (O.taken out.new)) }
-    ensures written { OnDone result (WritesText (O.taken out.old) (O.taken out.new)) }
     ensures refused { OnRefusal result (out.new ≡ out.old) }
 {
     match request_asked(words) {
@@ -150,31 +131,15 @@ pub fn run<F: Files, O: Sink, E: Sink>(
     out: &mut O,
     err: &mut E,
 ) -> Status
-    ensures usage { IsUsageOf result (asked words.now) }
+    ensures run { IsRun (spelled words.now) result (F.held files.old)
+        (F.counts files.old) (F.counts files.new) (O.taken out.old) (O.taken out.new)
+        (O.faults out.old) (O.faults out.new) }
+
+    // A usage fault calls nothing, and nothing is written before the whole answer stands.
     ensures no_call { OnUsage result (files.new ≡ files.old) }
-
-    // Why a file was not read, how many were begun, and that no more was read.
-    ensures files { IfOk (asked words.now) (λ request.
-        AreFilesAsked (spelled words.now) request result
-        (F.counts files.old) (F.counts files.new)) }
-    ensures write_fault { result ≡ Status.WriteFault
-        → Rose (O.faults out.old) (O.faults out.new) }
-
-    // Of what the store holds, or of whatever it may hold where no file is taken.
-    ensures outcome { WhereHeld (F.held files.old) (files_in (spelled words.now)) (λ held.
-        MeetsOutcome (spelled words.now) held result) }
-    ensures complete { NoFault (F.counts files.old) (F.counts files.new)
-        → ¬ (Rose (O.faults out.old) (O.faults out.new))
-        → Completes (spelled words.now) (F.held files.old) result }
-
-    // The headline, and the answer whole.
-    ensures headline { OnWriting result (DeliversHeadline (spelled words.now) (F.held files.old)
-        result (O.taken out.old) (O.taken out.new)) }
-    ensures answered { OnWriting result (DeliversAnswer (spelled words.now) (F.held files.old)
-        result (O.taken out.old) (O.taken out.new)) }
-    ensures written { OnDone result (WritesText (O.taken out.old) (O.taken out.new)) }
     ensures refused { OnRefusal result (out.new ≡ out.old) }
 
+    // The line, and none at `Done`.
     ensures line { IsSaid (E.taken err.old) (E.taken err.new) (E.faults err.old) (E.faults err.new)
         (error_line result (name_said (spelled words.now) result)) }
     ensures silent { OnDone result (err.new ≡ err.old) }

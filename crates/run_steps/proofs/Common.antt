@@ -16,7 +16,8 @@ pub use Rattle.command_words.specs.Names.{text_at, place_of, name_of, certificat
 pub use Rattle.run_steps.specs.declared.status.Status.{Status}
 pub use Rattle.run_steps.specs.Steps.{asked_width, bits_at, Steps, ends, certifying, proof_end, ◌>>=◌, Last, Bits, gives, last_step, Meets, Refuses, go_on, taking, text_end, wanted, limited}
 unfoldable pub use Rattle.run_steps.specs.Steps.{stating, certified, proving, checking, reading_source, sourcing, ordered, chains_step, placing, siting, surveying, planning}
-pub use Rattle.run_steps.specs.Statuses.{IsReading, IsRefusal, IsUnproved, ended}
+pub use Rattle.run_steps.specs.Statuses.{IsReading, IsRefusal, IsUnproved, ended, IsUsageOf, CountsReadFault}
+pub use Rattle.command_words.specs.declared.commands.Request.{Request}
 pub use Rattle.run_steps.specs.Causes.{AreRead, AreRefused, AreFilesOf, AreBegun, IsBegun, AreWanting, IsReadTo, IsCause, IsLimited, last_of, IsAt, IsRefusedBy, MayHold, board_files, state_files}
 pub use Rattle.std.specs.Io.KnownBytes.{Consumes, IsAtEnd}
 pub use Rattle.std.proofs.lemmas.List.Elements.{Contains-append_left, Contains-append_right}

@@ -14,6 +14,10 @@ pub ended_fault : {T : Type 0} (limit faults : ℕ) (now : Counts) (result : Res
     → HasEnded limit faults now result → IsErrOf result ReadFault → Rose faults now.faults
 ended_fault limit faults now result ended is = grind (arith, nat_tests)
 
+pub ended_calm : {T : Type 0} (limit faults : ℕ) (now : Counts) (result : Result T ReadAnswer)
+    → HasEnded limit faults now result → ¬ (IsErrOf result ReadFault) → now.faults ≡ faults
+ended_calm limit faults now result ended other = grind (arith, nat_tests)
+
 pub ended_taken : {T : Type 0} (limit faults : ℕ) (now : Counts) (result : Result T ReadAnswer)
     → HasEnded limit faults now result
     → (now.taken ≤ limit + 1) × (IsErrOf result TooLong ↔ (now.taken ≡ limit + 1))

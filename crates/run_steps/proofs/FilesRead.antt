@@ -1,12 +1,12 @@
 -- What the store of files counts where files are taken, and then others.
-use Rattle.run_steps.proofs.Common.{nat_tests, ◌≡◌, ◌≤◌, ℕ, suc, ◌+◌, List, [], ◌∷◌, ◌++◌, length, refl, sym, ap, subst, append_assoc, arith, inl, inr, append-nil, length-append, Counts, LimitKind, Which, Status, AreBegun, IsBegun, AreWanting, IsReadTo, IsCause, IsLimited, last_of, AreRead, IsAt, AreRefused, AreFilesOf, IsRefusedBy, State, Done, Usage, ReadFault, WriteFault, BadText, Limit, NotEmbedded, TooWide, NotProved, NoState, NoMemory}
+use Rattle.run_steps.proofs.Common.{nat_tests, ◌≡◌, ℕ, suc, ◌+◌, List, [], ◌∷◌, ◌++◌, length, refl, sym, ap, subst, append_assoc, arith, inl, inr, append-nil, length-append, Counts, LimitKind, Which, Status, AreBegun, IsBegun, AreWanting, IsReadTo, IsCause, IsLimited, last_of, AreRead, IsAt, AreRefused, AreFilesOf, IsRefusedBy, Ok, Request, Bytes, IsUsageOf, CountsReadFault, State, Done, Usage, ReadFault, WriteFault, BadText, Limit, NotEmbedded, TooWide, NotProved, NoState, NoMemory}
 
 -- ---- files after others
 
--- so many files were begun, and the count of faults did not fall
+-- so many files were begun, and no call failed
 record IsMoved (count : ℕ) (old new : Counts) : Type 0 where
   begun : AreBegun count old new
-  later : old.faults ≤ new.faults
+  calm : new.faults ≡ old.faults
 
 moved : (name : Which → List ℕ) (files : List Which) (a b : Counts) → AreRead name files a b
     → IsMoved (length files) a b
@@ -172,3 +172,42 @@ made_then name made last (NotProved fault) a b c some read = read_then name made
 made_then name made last (Usage position) a b c some at = tt
 made_then name made last (NotEmbedded fault) a b c some same = grind (arith, nat_tests)
 made_then name made last status a b c some at = refused_then name made last status a b c some at
+
+-- ---- the count of faults
+
+-- no call failed where all were read
+read_calm : (name : Which → List ℕ) (files : List Which) (a b : Counts) → AreRead name files a b
+    → b.faults ≡ a.faults
+read_calm name [] a b same = ap (λ (c : Counts). c.faults) same
+read_calm name (file ∷ files) a b read = read.begun.calm
+
+-- nor where memory was wanting
+wanting_calm : (name : Which → List ℕ) (files : List Which) (a b : Counts)
+    → AreWanting name files a b → b.faults ≡ a.faults
+wanting_calm name files a b (inl same) = ap (λ (c : Counts). c.faults) same
+wanting_calm name files a b (inr at) = at.1.3.calm
+
+-- nor where a limit was passed
+limited_calm : (kind : LimitKind) (number : ℕ) (name : List ℕ) (count : ℕ) (a b : Counts)
+    → IsLimited kind number name count a b → b.faults ≡ a.faults
+limited_calm Bytes number name count a b is = is.1.begun.calm
+limited_calm kind number name count a b is = is.begun.calm
+
+-- one call failed where a file could not be read, and else none
+pub faults_counted : (name : Which → List ℕ) (made last : List Which) (status : Status)
+    (request : Request) (a b : Counts) → IsUsageOf status (Ok request)
+    → AreFilesOf name made last status a b → CountsReadFault status a.faults b.faults
+faults_counted name made last Done request a b asked is = read_calm name (made ++ last) a b is
+faults_counted name made last WriteFault request a b asked is = read_calm name (made ++ last) a b is
+faults_counted name made last (NotEmbedded fault) request a b asked is = read_calm name made a b is
+faults_counted name made last (TooWide node width) request a b asked is = read_calm name (made ++ last) a b is
+faults_counted name made last (NotProved fault) request a b asked is = read_calm name (made ++ last) a b is
+faults_counted name made last (Usage position) request a b asked is = absurd asked
+faults_counted name made last (ReadFault which) request a b asked is =
+    let cause = is.3 in
+    omega (arith, cause.calm, cause.rose)
+faults_counted name made last (Limit which kind number) request a b asked is =
+    limited_calm kind number (name which) _ a b is.3
+faults_counted name made last (BadText which kind line) request a b asked is = is.3.begun.calm
+faults_counted name made last (NoState width) request a b asked is = is.3.begun.calm
+faults_counted name made last NoMemory request a b asked is = wanting_calm name (made ++ last) a b is

@@ -1,6 +1,6 @@
 -- Which files were begun, how far the last of them was read, and why one could not be read: by what
 -- the store of files counted before and after.
-use Rattle.std.specs.Prelude.{◌≡◌, ◌≤◌, ◌⊎◌, ℕ, zero, suc, List, [], ◌∷◌, ◌++◌, length, map, String, string_bytes, Result, None, Some, ⊤}
+use Rattle.std.specs.Prelude.{◌≡◌, ◌⊎◌, ℕ, zero, suc, List, [], ◌∷◌, ◌++◌, length, map, String, string_bytes, Result, None, Some, ⊤}
 use Rattle.std.specs.declared.option.Option.{Option}
 use Rattle.edge_io.specs.Counts.{Counts, Rose, count_after}
 use Rattle.edge_io.specs.Held.{NamedFiles}
@@ -45,32 +45,30 @@ abbrev pub AreBegun : ℕ → Counts → Counts → Type 0
 AreBegun zero old new = new.begun ≡ old.begun
 AreBegun (suc n) old new = new.begun ≡ count_after old.begun (suc n)
 
--- so many files were begun, the last of them by this name
+-- so many files were begun, the last of them by this name, and no call failed
 pub record IsBegun (name : List ℕ) (count : ℕ) (old new : Counts) : Type 0 where
   pub begun : AreBegun count old new
   pub named : new.name ≡ name
+  pub calm : new.faults ≡ old.faults
 
--- so many files were begun, the last of them, of this name, was read to its end and no further (one
--- read gave nothing), and the count of faults did not fall
+-- so many files were begun, and the last of them, of this name, was read to its end and no further: one
+-- read gave nothing; no call failed
 pub record IsReadTo (name : List ℕ) (count : ℕ) (old new : Counts) : Type 0 where
-  pub begun : AreBegun count old new
-  pub named : new.name ≡ name
+  pub begun : IsBegun name count old new
   pub ended : new.empty_reads ≡ 1
-  pub later : old.faults ≤ new.faults
 
 -- so many files were begun, and of the last of them, of this name, one byte more than is accepted was
--- taken and nothing else
+-- taken and nothing else; no call failed
 pub record IsTooLong (name : List ℕ) (count : ℕ) (old new : Counts) : Type 0 where
-  pub begun : AreBegun count old new
-  pub named : new.name ≡ name
+  pub begun : IsBegun name count old new
   pub taken : new.taken ≡ 16777217
   pub filled : new.empty_reads ≡ 0
 
--- so many files were begun, the last of them by this name, and the count of faults rose since; the
--- count at that `begin` is at least the one before
+-- so many files were begun, the last of them by this name, and the count of faults rose since, and not
+-- before
 pub record IsCause (name : List ℕ) (count : ℕ) (old new : Counts) : Type 0 where
   pub rose : Rose new.faults_at_begin new.faults
-  pub later : old.faults ≤ new.faults_at_begin
+  pub calm : new.faults_at_begin ≡ old.faults
   pub named : new.name ≡ name
   pub begun : AreBegun count old new
 

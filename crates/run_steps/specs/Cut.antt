@@ -29,12 +29,15 @@ pub record IsCut (held : Option NamedFiles) (name : List ℕ) (taken : ℕ) (res
   pub front : IsFront held name text rest
 
 -- how the taking of a begun file ended: at its end, where one read gave nothing; at a fault; one byte
--- beyond the limit, and no read gave nothing; or for want of memory
+-- beyond the limit, and no read gave nothing; or for want of memory; the count of faults, which was
+-- this, rose at a fault alone
 abbrev pub HasEnded : {T : Type 0} → ℕ → ℕ → Counts → Result T ReadAnswer → Type 0
-HasEnded limit faults now (Ok value) = (now.taken ≤ limit) × (now.empty_reads ≡ 1)
+HasEnded limit faults now (Ok value) =
+    (now.taken ≤ limit) × (now.empty_reads ≡ 1) × (now.faults ≡ faults)
 HasEnded limit faults now (Err ReadFault) = (now.taken ≤ limit) × Rose faults now.faults
-HasEnded limit faults now (Err TooLong) = (now.taken ≡ limit + 1) × (now.empty_reads ≡ 0)
-HasEnded limit faults now (Err NoMemory) = now.taken ≤ limit
+HasEnded limit faults now (Err TooLong) =
+    (now.taken ≡ limit + 1) × (now.empty_reads ≡ 0) × (now.faults ≡ faults)
+HasEnded limit faults now (Err NoMemory) = (now.taken ≤ limit) × (now.faults ≡ faults)
 
 -- no file was begun in between, and the count of faults did not fall
 pub record IsSameBegin (before now : Counts) : Type 0 where

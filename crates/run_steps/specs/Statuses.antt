@@ -1,5 +1,6 @@
 -- What holds at one status.
 use Rattle.std.specs.Prelude.{◌≡◌, ℕ, Ok, Err, Result, ⊤}
+use Rattle.edge_io.specs.Counts.{Rose}
 use Rattle.command_words.specs.declared.commands.Request.{Request}
 use Rattle.command_words.specs.declared.names.Which.{Which}
 use Rattle.run_steps.specs.declared.status.Status.{Status}
@@ -47,11 +48,23 @@ IsWriting Done = ⊤
 IsWriting WriteFault = ⊤
 IsWriting _ = ⊥
 
--- the whole text was written, or memory was refused
-abbrev pub IsDoneOrWant : Status → Type 0
-IsDoneOrWant Done = ⊤
-IsDoneOrWant NoMemory = ⊤
-IsDoneOrWant _ = ⊥
+-- the whole text was written, a call of a file or of the output failed, or memory was refused
+abbrev pub IsDoneOrFault : Status → Type 0
+IsDoneOrFault Done = ⊤
+IsDoneOrFault (ReadFault which) = ⊤
+IsDoneOrFault WriteFault = ⊤
+IsDoneOrFault NoMemory = ⊤
+IsDoneOrFault _ = ⊥
+
+-- the files' count of faults rose at `ReadFault`, and at each other status is what it was
+abbrev pub CountsReadFault : Status → ℕ → ℕ → Type 0
+CountsReadFault (ReadFault which) before now = Rose before now
+CountsReadFault status before now = now ≡ before
+
+-- the output's count of faults rose at `WriteFault`, and at each other status is what it was
+abbrev pub CountsWriteFault : Status → ℕ → ℕ → Type 0
+CountsWriteFault WriteFault before now = Rose before now
+CountsWriteFault status before now = now ≡ before
 
 -- the status of what a command answers
 abbrev pub ended : {A : Type 0} → Result A Status → Status

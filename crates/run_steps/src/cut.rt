@@ -107,6 +107,8 @@ pub fn read_words<F: Files>(
     ensures no_fall { (F.counts files.old).faults ≤ (F.counts files.new).faults }
     ensures fault { IsErrOf result ReadAnswer.ReadFault →
         Rose (F.counts files.old).faults (F.counts files.new).faults }
+    ensures calm { ¬ (IsErrOf result ReadAnswer.ReadFault) →
+        (F.counts files.new).faults ≡ (F.counts files.old).faults }
     ensures unheld { WhereTold (F.held files.old) (λ held.
         find_file held (string_bytes name) ≡ None → IsErrOf result ReadAnswer.ReadFault) }
 

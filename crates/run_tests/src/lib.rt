@@ -30,4 +30,6 @@ mod soft_sources;
 mod states;
 #[cfg(test)]
 mod steps;
+#[cfg(test)]
+mod streams;
 mod worked;

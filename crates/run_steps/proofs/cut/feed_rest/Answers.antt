@@ -22,5 +22,6 @@ loop-count-preserved g c =
         named = read.name ∙ i.same.named;
         later = omega (arith, read.cause.later, i.same.later);
       };
+      calm = read.cause.calm ∙ i.calm;
       held = read.held ∙ i.held;
     }

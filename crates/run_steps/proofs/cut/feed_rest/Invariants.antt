@@ -11,6 +11,7 @@ invariant-loop-count g l = record {
   cut : IsCut (g.F.Files.held l.fn.files) (g.F.Files.counts l.fn.files).name l.taken (g.F.Files.rest l.files) l.lexer;
   styled : l.lexer.style ≡ l.fn.lexer.style;
   same : IsSameBegin (g.F.Files.counts l.fn.files) (g.F.Files.counts l.files);
+  calm : (g.F.Files.counts l.files).faults ≡ (g.F.Files.counts l.fn.files).faults;
   held : g.F.Files.held l.files ≡ g.F.Files.held l.fn.files;
 }
 

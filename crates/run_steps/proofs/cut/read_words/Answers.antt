@@ -1,6 +1,6 @@
 use Rattle.std.proofs.Common.{string_bytes}
 use Rattle.run_steps.proofs.Lemmas.{begun_held}
-use Rattle.run_steps.proofs.Ended.{ended_to_end, ended_too_long, ended_fault, ended_taken}
+use Rattle.run_steps.proofs.Ended.{ended_to_end, ended_too_long, ended_fault, ended_calm, ended_taken}
 use Rattle.run_steps.proofs.cut.read_words.Goals as goal
 
 pub cut_begun-requires-clause-front : goal.cut_begun-requires-clause-front
@@ -22,6 +22,10 @@ returns-in-Ok-clause-no_end g c = ended_too_long _ _ (g.F.Files.counts c.cut_beg
 pub returns-in-Ok-clause-fault : goal.returns-in-Ok-clause-fault
 returns-in-Ok-clause-fault g c =
     rw c.in-Ok.ensures.faults at (ended_fault _ _ (g.F.Files.counts c.cut_begun.new.files) _ c.cut_begun.ensures.end)
+
+pub returns-in-Ok-clause-calm : goal.returns-in-Ok-clause-calm
+returns-in-Ok-clause-calm g c =
+    rw c.in-Ok.ensures.faults at (ended_calm _ _ (g.F.Files.counts c.cut_begun.new.files) _ c.cut_begun.ensures.end)
 
 pub returns-in-Ok-clause-unheld : goal.returns-in-Ok-clause-unheld
 returns-in-Ok-clause-unheld g c =
