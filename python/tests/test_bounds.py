@@ -1,21 +1,19 @@
 """Under a bound every state of every model stands for its assignment: forty drawn files of each format.
 
-The costs come from the second program of bench/. The bounds are drawn below all possible costs, among
+The costs come from the second program of reference/. The bounds are drawn below all possible costs, among
 them, and above; the models are of bits, of spins, and of spins on chains, with and without a reduced
 unit. A state is to cost at least what it decodes to, or to lie above the threshold where that is
 infinite; each assignment within the bound is reached, and the threshold is the lesser of both bounds.
 """
-import os
 import random
 import subprocess
 import sys
-import tempfile
 import unittest
 from itertools import product
 
 from helper import ROOT, find_program, needs_program
 
-sys.path.insert(0, str(ROOT / 'bench'))
+sys.path.insert(0, str(ROOT / 'reference'))
 
 from readings import read_source  # noqa: E402 (the path comes first)
 from translation import Model, cost, gain, own_upper  # noqa: E402
@@ -148,12 +146,8 @@ def fault(model, costs, most):
 class Bounds(unittest.TestCase):
     def compiled(self, layout, text, words):
         """The model that the program writes of a text."""
-        with tempfile.TemporaryDirectory() as folder:
-            name = os.path.join(folder, 'a')
-            with open(name, 'w', encoding='ascii') as file:
-                file.write(text)
-            ran = subprocess.run([find_program(), 'compile', layout, words[0], name] + words[1:],
-                                 capture_output=True, check=False, text=True)
+        ran = subprocess.run([find_program(), 'compile', layout, words[0], '/dev/stdin'] + words[1:],
+                             input=text, capture_output=True, check=False, text=True)
         self.assertEqual(ran.returncode, 0, (layout, text, words, ran.stderr))
         return Written(ran.stdout)
 

@@ -1,7 +1,7 @@
 #!/usr/bin/env python3
 """Works out the cases of crates/worked_examples by a second program, and looks at what is stored.
 
-    cases.py [--write] [--program PROGRAM] [CASE..]
+    cases.py [--write] [CASE..]        cases.py --program PROGRAM [CASE..]
 
 A case is a file of data/, which its words begin; the program of that crate says how it is laid out.
 Without names all cases of `args` are taken. Of each that asks for a model on nodes the answer is
@@ -10,8 +10,8 @@ worked out by readings.py, translation.py, conflicts.py and optima.py, and compa
 graph, `solve` of a model that is not small, what `prove` refuses, wrong words in front, and missing
 or too long files. With --write `stdout` gets the blocks that were worked out, and keeps the others.
 
-With PROGRAM, a built program, each case is run on files in a folder of its own, but for one whose file
-has an empty name, and status, output and error line are compared with `stdout`. Exits with 1 where
+With PROGRAM, a built program, each case is run instead on files in a folder of its own, but for one whose
+file has an empty name, and status, output and error line are compared with `stdout`. Exits with 1 where
 anything differs.
 """
 import argparse
@@ -350,16 +350,15 @@ def main():
     options = parser.parse_args()
     names, blocks = stored()
     chosen = options.cases or names
+    if options.program:
+        with tempfile.TemporaryDirectory() as folder:
+            found = blocks_by(runner(os.path.abspath(options.program), folder), chosen)
+        sys.exit(report('run', chosen, found, blocks))
     found = blocks_by(work_out, chosen)
     if options.write:
         blocks.update(found)
         write(names, blocks)
-    wrong = report('worked out', chosen, found, blocks)
-    if options.program:
-        with tempfile.TemporaryDirectory() as folder:
-            by_program = blocks_by(runner(os.path.abspath(options.program), folder), chosen)
-        wrong |= report('run', chosen, by_program, blocks)
-    sys.exit(wrong)
+    sys.exit(report('worked out', chosen, found, blocks))
 
 
 if __name__ == '__main__':
