@@ -19,6 +19,8 @@ Name: pbising
 Version: {VERSION}
 Summary: QUBO and Ising models of MaxSAT, 0-1 programs and polynomials
 Requires-Python: >=3.9
+Provides-Extra: fast
+Requires-Dist: numpy; extra == 'fast'
 Description-Content-Type: text/markdown
 
 """

@@ -9,9 +9,10 @@ import argparse
 import ast
 import os
 import sys
-from typing import Any, Callable, Iterable, List, NamedTuple, NoReturn, Optional, Sequence, Tuple
+from typing import (Any, Callable, Dict, Iterable, List, NamedTuple, NoReturn, Optional, Sequence,
+                    Tuple)
 
-from . import __version__, neighbours
+from . import __version__, front, neighbours
 from .annealing import anneal
 from .compiling import Request, words_of
 from .decoding import Decoded, Decoding, decoded
@@ -20,10 +21,12 @@ from .elimination import SOLVE_WIDTH, certificate, elimination_order, file_width
 from .errors import PbisingError
 from .exports import qpbo_notes, to_coo, to_qpbo
 from .graphs import chain_map, dead, read_dead, working_lists
+from .hardware import hardware, listed
 from .judging import check_variables, judge, judged_keys, told_model
+from .keys import FORMATS, stands
 from .models import FIGURES, Model, load, parse
+from .pictures import plot_chains, plot_costs, plot_weights
 from .program import find_program
-from .readers import FORMATS
 from .samples import Sample, first_state, text_assignments, text_samples, written
 from .search import completed, least_state
 from .sources import Source, source_of
@@ -178,6 +181,13 @@ def _to_dead(words: Words) -> None:
         raise PbisingError(f'{called(words.WORKING)}: {fault}') from None
 
 
+def _to_graph(words: Words) -> None:
+    try:
+        sys.stdout.write(hardware(listed(_text(words.GRAPH))))
+    except PbisingError as fault:
+        raise PbisingError(f'{called(words.GRAPH)}: {fault}') from None
+
+
 def _to_map(words: Words) -> None:
     try:
         chains = ast.literal_eval(_text(words.CHAINS).strip())
@@ -218,19 +228,41 @@ def _widths(words: Words) -> int:
 
 def _draw(words: Words) -> None:
     model = load(words.MODEL)
-    if model.shape is None:
-        raise PbisingError(f'{called(words.MODEL)}: this is no model on a Chimera graph')
     state = first_state(_text(words.state), model.nodes, words.state) if words.state else None
-    parts = read_dead(_text(words.dead), words.dead, model.shape) if words.dead else []
-    sys.stdout.write(draw(model, state, parts, words.strengths))
+    if words.dead and model.shape is None:
+        raise PbisingError(f'{called(words.MODEL)}: dead parts are those of a Chimera graph, and '
+                           'this is no model on one')
+    parts = (read_dead(_text(words.dead), words.dead, model.shape) if words.dead and model.shape
+             else [])
+    try:
+        sys.stdout.write(draw(model, state, parts, words.strengths))
+    except PbisingError as fault:
+        raise PbisingError(f'{called(words.MODEL)}: {fault}') from None
+
+
+def _plot(words: Words) -> None:
+    model = load(words.MODEL)
+    samples = _samples(model, words.samples) if words.samples else []
+    if words.chains:
+        best = min((sample.state for sample in samples), key=model.energy, default=None)
+        picture = plot_chains(model, best)
+    elif samples:
+        if not words.source:
+            raise PbisingError('costs are those of a problem: name it by --source FORMAT FILE')
+        source = source_of(words.source[1], words.source[0])
+        check_variables(model, called(words.MODEL), source)
+        picture = plot_costs(Decoding(decoded(model, source, samples), 0, 'package', model))
+    else:
+        picture = plot_weights(model)
+    sys.stdout.write(picture)
 
 
 def _info(words: Words) -> None:
     model = load(words.MODEL)
     graph = []
-    if model.shape:
-        qubits = sum(map(len, model.chains))
-        graph = [f'graph {" ".join(map(str, model.shape))}',
+    if model.chains is not None:
+        qubits = sum(len(chain) for chain in model.chains)
+        graph = [f'graph {" ".join(map(str, model.shape or (model.qubits,)))}',
                  f'chains {len(model.chains)} of {qubits} qubits']
     _say([f'kind {model.kind}', f'nodes {model.nodes}', f'couplers {model.couplers}', *graph,
           *(f'{figure} {getattr(model, figure)}' for figure in FIGURES), model.precision()])
@@ -244,9 +276,7 @@ def _least_state(words: Words) -> None:
     if model.above(energy):
         _say(['infeasible'])
         return
-    literals = (number if bit else -number
-                for number, bit in enumerate(model.assignment(state), 1))
-    _say([f'cost {model.cost(energy)}', ' '.join(['assignment', *map(str, literals)])])
+    _say([f'cost {model.cost(energy)}', f'assignment {written(model.assignment(state))}'])
 
 
 def _from(words: Words) -> None:
@@ -264,17 +294,16 @@ class Word(NamedTuple):
 
     name: str
     help: str
-    more: dict = {}
+    more: Dict[str, Any] = {}
 
 
-MODEL = Word('MODEL', 'a QUBO file, an Ising file, or one on a Chimera graph; - is the standard '
-             'input')
+MODEL = Word('MODEL', 'a QUBO file, an Ising file, or one on a graph; - is the standard input')
 MODEL_OR_INPUT = Word('MODEL', 'a model; without it the standard input', {'nargs': '?',
                                                                           'default': '-'})
 FORMAT = Word('FORMAT', f'the format of FILE: {", ".join(FORMATS)}', {'choices': FORMATS,
                                                                       'metavar': 'FORMAT'})
 KEYS = Word('KEY', 'the keys that the model was made with, as high=rosenberg',
-            {'nargs': '*', 'metavar': 'KEY=VALUE'})
+            {'nargs': '*', 'metavar': 'KEY=VALUE', 'default': []})
 ALL = {'action': 'store_true'}
 
 
@@ -311,6 +340,9 @@ COMMANDS = {
         Word('COLS', 'columns of cells', {'type': _count}),
         Word('SHORE', 'qubits on each side of a cell', {'type': _count}),
         Word('WORKING', 'lists of qubits and couplers, as JSON or Python prints them'))),
+    'to-graph': Command('write the file of a graph of qubits, of what a tool says of it', _to_graph, (
+        Word('GRAPH', 'a list of edges, a line each, or JSON: a list, a dict of neighbours, or '
+             'nodelist and edgelist; - is the standard input'),)),
     'to-map': Command('write the file of chains for map=, of a dict of minorminer', _to_map,
                       (Word('CHAINS', 'a dict of chains by nodes: {0: [0, 4], 1: [1]}'),)),
     'certificate': Command('write a certificate of the least energy, for `prove`', _certificate, (
@@ -320,11 +352,18 @@ COMMANDS = {
                     {'type': _count, 'default': SOLVE_WIDTH}))),
     'widths': Command('tell whether `solve` takes a model without an order', _widths,
                       (MODEL_OR_INPUT,)),
-    'draw': Command('draw a model on a Chimera graph as SVG', _draw, (
+    'draw': Command('draw a model on a graph as SVG', _draw, (
         MODEL_OR_INPUT,
         Word('--state', 'make qubits of bit 0 hollow, name broken chains', {'metavar': 'STATE'}),
         Word('--dead', 'cross out what is dead', {'metavar': 'LIST'}),
         Word('--strengths', 'each tie is as thick as it is strong', ALL))),
+    'plot': Command('draw the weights of a model, the costs of samples, or chains, as SVG', _plot, (
+        MODEL,
+        Word('--samples', 'a file of samples', {'metavar': 'FILE'}),
+        Word('--source', 'draw what the samples cost in this problem',
+             {'nargs': 2, 'metavar': ('FORMAT', 'FILE')}),
+        Word('--chains', 'draw the chains, with the broken ones of the sample of least energy',
+             ALL))),
     'info': Command('tell the kind, the size, the figures and the precision of a model', _info,
                     (MODEL,)),
     'least-state': Command('find a least state of a model of at most 24 nodes', _least_state,
@@ -344,11 +383,13 @@ COMMANDS = {
 
 def _parser() -> argparse.ArgumentParser:
     """The parser of all commands."""
-    parser = _Parser(prog='pbising', description='Tools around compile_program: models, samples, '
-                     'graphs and proofs.')
-    parser.add_argument('--version', action='version', version=f'pbising {__version__}')
+    parser = _Parser(prog='pbising', description='QUBO and Ising models by compile_program, and '
+                     'tools around them: samples, graphs and proofs.')
+    parser.add_argument('-V', '--version', action='version', version=f'pbising {__version__}')
     parts = parser.add_subparsers(dest='command', metavar='COMMAND', required=True,
                                   parser_class=_Parser)
+    for name, part_of_program in front.PARTS.items():
+        parts.add_parser(name, help=part_of_program.help)
     for name, command in COMMANDS.items():
         part = parts.add_parser(name, help=command.help, description=command.help)
         for word in command.words:
@@ -358,16 +399,37 @@ def _parser() -> argparse.ArgumentParser:
 
 def main(words: Optional[Sequence[str]] = None) -> int:
     """Runs a command; its status."""
+    words = _without_help(sys.argv[1:] if words is None else list(words))
+    command = words[0] if words else ''
     try:
-        found = _parser().parse_args(words)
-        status = COMMANDS[found.command].run(found)
+        status = _status(command, words)
         sys.stdout.flush()
-        return status or 0
+        return status
     except BrokenPipeError:
         os.dup2(os.open(os.devnull, os.O_WRONLY), sys.stdout.fileno())
-    except (PbisingError, OSError) as fault:
-        named: Any = isinstance(fault, OSError) and fault.filename
-        _note(f'cannot write {fault.filename}: {fault.strerror}' if named else str(fault))
+    except OSError as fault:
+        _note(f'cannot write {fault.filename}: {fault.strerror}' if fault.filename else str(fault))
+    except PbisingError as fault:
+        _note(str(fault))
+        return front.status_of(fault) if command in front.PARTS else 2
     except KeyboardInterrupt:
         return 130
     return 2
+
+
+def _status(command: str, words: List[str]) -> int:
+    """Runs a command of the program, or one of the package."""
+    if command in front.PARTS:
+        for line in front.run(command, words[1:]):
+            _note(line)
+        return 0
+    if command and not command.startswith('-') and command not in COMMANDS:
+        every = [*front.PARTS, *COMMANDS]
+        raise PbisingError(f'pbising: {stands(command, "a command", every)} (pbising --help)')
+    found = _parser().parse_args(words)
+    return COMMANDS[found.command].run(found) or 0
+
+
+def _without_help(words: List[str]) -> List[str]:
+    """`help COMMAND` as `COMMAND --help`."""
+    return [*words[1:2], '--help'] if words[:1] == ['help'] else words

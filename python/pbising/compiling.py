@@ -3,19 +3,20 @@ from __future__ import annotations
 
 import os
 from dataclasses import dataclass, field
+from operator import index
 from typing import Any, Dict, Iterable, List, Mapping, Optional, Sequence, Tuple, Union
 
 from .decoding import Decoded, Decoding, Told, decoded, rank
-from .elimination import certificate
+from .elimination import certificate, elimination_order
 from .errors import PbisingError, TextError, UsageError
 from .graphs import chain_map
+from .keys import FILES, fault
 from .models import Model, Size, parse
 from .program import FileWord, Word, run
-from .samples import Sample, states_of, written
+from .samples import Naming, Sample, states_of, written
 from .sources import Source, bits_of, source_of
 from .texts import PathName, called, read_bytes, text_of
 
-FILE_KEYS = ('map', 'dead', 'order')
 MOST_BYTES = 2 ** 24
 WANTED = {'map=': 'the number of the next node, and its qubits,',
           'dead=': 'a qubit, or two qubits that are joined,',
@@ -32,7 +33,7 @@ class Answer:
     cost: Optional[int] = None
     state: Optional[List[int]] = None
     assignment: Optional[List[int]] = None
-    values: Dict[Any, int] = field(default_factory=dict)
+    values: Dict[Any, Any] = field(default_factory=dict)
 
     @property
     def feasible(self) -> bool:
@@ -56,54 +57,74 @@ class Request:
     def run(self, command: str, *files: FileWord, **keys: Any) -> bytes:
         """The output of a command of the program for this model."""
         source = self.source
-        keys = {**self.keys, **words_of(keys)}
-        words = [command, source.format, self.target, FileWord(source.name, source.data), *files]
-        words += keys.values()
+        values = {**self.keys, **words_of(keys)}
+        words: List[Word] = [command, source.format, self.target,
+                             FileWord(source.name, source.data), *files, *values.values()]
         try:
             return run(words)
-        except TextError as fault:
-            raise _explained(fault, source, words) from None
+        except TextError as told:
+            raise _explained(told, source, words) from None
+        except UsageError as told:
+            exact = fault(command, source.format, self.target, _values(values))
+            raise UsageError(2, f'usage: {exact}') if exact else told from None
 
 
-@dataclass
+@dataclass(repr=False)
 class CompiledModel(Model):
     """A model that knows what it was made of."""
 
-    request: Request = field(default=None, repr=False)
+    request: Request = field(default=None, repr=False)  # type: ignore[assignment]
 
     @property
     def source(self) -> Source:
         """The problem."""
         return self.request.source
 
+    def names(self) -> List[Any]:
+        """What the variables are called."""
+        return self.source.names(self.variables)
+
     def decode(self, samples: Any) -> Decoding:
         """What samples mean.
 
         They are a dict, a list or an array of bits or spins, many of these, a dimod sample set, or
-        the text that a solver wrote. Cost and energy are those that the program's `evaluate`
-        tells; what is broken the package counts once it is asked for. A program without `evaluate`
-        confirms the best sample by its `decode`; the package counts the others.
+        the text that a solver wrote. A dict is by nodes, or by what `labels()` calls them; one of
+        the variables alone has the state that `extend` gives. Cost and energy are those that the
+        program's `evaluate` tells; what is broken the package counts once it is asked for. A
+        program without `evaluate` confirms the best sample by its `decode`; the package counts
+        the others.
         """
-        states = states_of(self, samples)
+        labels = self.labels() if self.chains is None else self.names()
+        naming = Naming({label: node for node, label in enumerate(labels)}, self.variables,
+                        self._extended)
+        states = states_of(self, samples, naming)
         told = self._evaluated(states)
         found = decoded(self, self.source, states, told)
         if told is None:
             best = min(found, key=rank)
             _confirm(best, *self._decoded(best.state))
-        return Decoding(found, len(self.chains or ()), 'package' if told is None else 'program')
+        by = 'package' if told is None else 'program'
+        return Decoding(found, len(self.chains or ()), by, self)
+
+    def _extended(self, bits: List[int]) -> List[int]:
+        """The state of an assignment."""
+        return self.extend(bits).state or []
 
     def extend(self, assignment: Union[Mapping[Any, Any], Sequence[Any]]) -> Answer:
         """The state of the least energy for an assignment: a list of bits, or a dict by names."""
         bits = self.source.bits(assignment)
         answer = self._answer(self.request.run('extend', _state_file('assignment', bits)))
-        answer.assignment, answer.values = bits, dict(zip(self.source.names(), bits))
+        answer.assignment, answer.values = bits, self.source.values(bits)
         return answer
 
     def solve(self, **keys: Any) -> Answer:
         """A least state and the optimum, by elimination; `WidthError` where the model is too wide.
 
-        A program that has the key `order=` takes a list of nodes: `solve(order=[..])`.
+        `solve(order=[..])` eliminates the nodes in this order, and `solve(order='auto')` in the
+        one of `elimination_order`.
         """
+        if keys.get('order') == 'auto':
+            keys['order'] = elimination_order(self).nodes
         return self._answer(self.request.run('solve', **keys))
 
     def prove(self, state: Optional[Sequence[Any]] = None,
@@ -126,7 +147,7 @@ class CompiledModel(Model):
         rows = dict(_rows(output))
         cost = rows.get('optimum', rows.get('cost', 'infinite'))
         bits = _bits(rows.get('assignment'))
-        values = {} if bits is None else dict(zip(self.source.names(self.variables), bits))
+        values = {} if bits is None else self.source.values(bits)
         return Answer(int(rows['energy']), None if cost == 'infinite' else int(cost),
                       _bits(rows.get('state')), bits, values)
 
@@ -157,20 +178,32 @@ class CompiledModel(Model):
         return dict(zip(states, told))
 
 
-def _explained(fault: TextError, source: Source, words: Sequence[Word]) -> TextError:
+def _explained(told: TextError, source: Source, words: Sequence[Word]) -> TextError:
     """A fault with the token, or the line, and what was wanted there."""
-    if fault.name == source.name:
+    if told.name == source.name:
         try:
             source.problem
         except TextError as exact:
-            if (exact.line, exact.kind) == (fault.line, fault.kind):
+            if (exact.line, exact.kind) == (told.line, told.kind):
                 return exact
     for word in words:
-        if isinstance(word, FileWord) and word.called == fault.name and word.before in WANTED:
-            line = text_of(word.data).split('\n')[fault.line - 1].strip()
-            token = None if fault.kind == 'end' else line
-            return TextError(fault.name, fault.line, fault.kind, token, WANTED[word.before])
-    return fault
+        if isinstance(word, FileWord) and word.called == told.name and word.before in WANTED:
+            return TextError(told.name, told.line, told.kind, _token_of(word, told),
+                             WANTED[word.before])
+    return told
+
+
+def _token_of(word: FileWord, told: TextError) -> Optional[str]:
+    """What stands where a file is wrong: its line, or in an order the node that comes again."""
+    lines = text_of(word.data).split('\n')
+    if told.kind == 'end':
+        return None
+    seen = set(' '.join(lines[:told.line - 1]).split())
+    for token in lines[told.line - 1].split() if word.before == 'order=' else ():
+        if token in seen:
+            return token
+        seen.add(token)
+    return lines[told.line - 1].strip()
 
 
 def compile(source: Union[Source, PathName], format: Optional[str] = None, target: str = 'qubo',
@@ -179,8 +212,8 @@ def compile(source: Union[Source, PathName], format: Optional[str] = None, targe
 
     The source is the name of a file, or a text (a str with a line feed in it), or what one of the
     writers gives. Without a format it is the ending of the file's name. Keys are those of the
-    program, as `high='rosenberg'` or `rows=2`; `map` and `dead` are names of files, texts, or, for
-    `map`, a dict of chains by nodes.
+    program, as `high='rosenberg'` or `rows=2`; one that is None is left out. `map` and `dead` are
+    names of files, or texts, or a dict of chains by nodes and a list of qubits and of pairs.
     """
     request = _request(source, format, target, keys)
     model = parse(request.run('compile'))
@@ -204,23 +237,47 @@ def _request(source: Union[Source, PathName], layout: Optional[str], target: str
 
 
 def words_of(keys: Mapping[str, Any]) -> Dict[str, Word]:
-    """The words of keys; what files hold is remembered."""
-    return {key: _file_word(key, value) if key in FILE_KEYS else f'{key}={value}'
-            for key, value in keys.items()}
+    """The words of keys; what files hold is remembered. A key that is None is left out."""
+    return {key: _file_word(key, value) if key in FILES else f'{key}={_plain(value)}'
+            for key, value in keys.items() if value is not None}
+
+
+def _values(words: Mapping[str, Word]) -> Dict[str, str]:
+    """What stands behind the = of each key."""
+    return {key: word.called if isinstance(word, FileWord) else word.partition('=')[2]
+            for key, word in words.items()}
+
+
+def _plain(value: Any) -> Any:
+    """A value as a word has it: a double that is whole as a whole number."""
+    return int(value) if isinstance(value, float) and value.is_integer() else value
 
 
 def _file_word(key: str, value: Any) -> FileWord:
-    """The word of a key whose value is a file, a text, a dict of chains, or a list of nodes."""
+    """The word of a key whose value is a file, a text, a dict of chains, or a list of numbers, in
+    a list of dead parts also of pairs."""
     before = f'{key}='
+    value = value.tolist() if hasattr(value, 'tolist') else value
     if isinstance(value, Mapping):
         return FileWord(key, chain_map(value).encode(), before)
-    if isinstance(value, (list, tuple)):
-        return FileWord(key, ' '.join(map(str, value)).encode(), before)
     if isinstance(value, str) and ('\n' in value or not value):
         return FileWord(key, value.encode(), before)
-    if not isinstance(value, (str, os.PathLike)):
-        raise PbisingError(f'{key}={value!r} is no name of a file, and no text')
-    return FileWord(called(value), read_bytes(value), before)
+    if isinstance(value, (str, os.PathLike)):
+        return FileWord(called(value), read_bytes(value), before)
+    if not isinstance(value, Iterable) or isinstance(value, bytes):
+        raise PbisingError(f'{key}={value!r} is no name of a file, no text and no list')
+    lines = [_line_of(key, part) for part in value]
+    return FileWord(key, ''.join(f'{line}\n' for line in lines).encode(), before)
+
+
+def _line_of(key: str, part: Any) -> str:
+    """The line of a number, or of some of them."""
+    numbers = sorted(part) if isinstance(part, (set, frozenset)) else part
+    numbers = numbers if isinstance(numbers, (list, tuple)) else [numbers]
+    try:
+        return ' '.join(str(index(number)) for number in numbers)
+    except TypeError:
+        raise PbisingError(f'{key}=: {part!r} is no number and no pair of numbers') from None
 
 
 def _state_file(name: str, bits: Sequence[int]) -> FileWord:

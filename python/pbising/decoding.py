@@ -5,14 +5,18 @@ from __future__ import annotations
 from collections import Counter
 from dataclasses import dataclass, field, replace
 from functools import cached_property
-from typing import Any, Dict, Iterable, Iterator, List, Mapping, Optional, Sequence, Tuple
+from typing import (Any, Dict, Iterable, Iterator, List, Mapping, Optional, Sequence, Tuple, Union,
+                    overload)
 
+from .bridges import sampleset_of
 from .errors import PbisingError
 from .models import Model
 from .problems import Broken, Verdict
 from .samples import Sample, written
 from .sources import Source
 
+MOST_JUDGED = 100
+MOST_PARTS = 200_000
 Told = Tuple[Optional[int], int]
 
 
@@ -38,7 +42,7 @@ class Judged:
         return self.verdict.broken()
 
 
-@dataclass
+@dataclass(repr=False)
 class Decoded:
     """One sample. The cost is None where it is infinite: where a hard clause or constraint is
     broken, or the weights of broken soft ones reach TOP.
@@ -54,7 +58,11 @@ class Decoded:
     occurrences: int
     broken_chains: List[int]
     excess: Optional[int]
-    judged: Judged = field(repr=False, compare=False)
+    judged: Judged = field(compare=False)
+
+    def __repr__(self) -> str:
+        cost = 'infinite' if self.cost is None else self.cost
+        return f'<Decoded: cost {cost}, energy {self.energy}, {len(self.assignment)} variables>'
 
     @property
     def feasible(self) -> bool:
@@ -67,9 +75,9 @@ class Decoded:
         return self.judged.source.names(len(self.assignment))
 
     @property
-    def values(self) -> Dict[Any, int]:
-        """The bit of each variable, by its name or label."""
-        return dict(zip(self.names, self.assignment))
+    def values(self) -> Dict[Any, Any]:
+        """The bit of each variable, by its name or label; of a `Problem` the value of each."""
+        return self.judged.source.values(self.assignment)
 
     @property
     def verdict(self) -> Verdict:
@@ -83,17 +91,24 @@ class Decoded:
         return self.judged.broken
 
 
-class Decoding(Sequence):
-    """All samples, in their order.
+class Decoding(Sequence[Decoded]):
+    """All samples, in their order; printed, a table of them.
 
     `by` is 'program' where the program itself told cost and energy of each, and 'package' where it
-    has no `evaluate`, and the package counted them.
+    has no `evaluate`, and the package counted them. `model` is theirs, where it is known.
     """
 
-    def __init__(self, samples: List[Decoded], chains: int, by: str) -> None:
-        self.samples, self.chains, self.by = samples, chains, by
+    def __init__(self, samples: List[Decoded], chains: int, by: str,
+                 model: Optional[Model] = None) -> None:
+        self.samples, self.chains, self.by, self.model = samples, chains, by, model
 
-    def __getitem__(self, at: Any) -> Any:
+    @overload
+    def __getitem__(self, at: int) -> Decoded: ...
+
+    @overload
+    def __getitem__(self, at: slice) -> List[Decoded]: ...
+
+    def __getitem__(self, at: Union[int, slice]) -> Union[Decoded, List[Decoded]]:
         return self.samples[at]
 
     def __len__(self) -> int:
@@ -114,17 +129,18 @@ class Decoding(Sequence):
 
     def costs(self) -> List[Tuple[Optional[int], int]]:
         """Each cost with how often it was sampled, the least first and the infinite one last."""
-        counts: Counter = Counter()
+        counts: Counter[Optional[int]] = Counter()
         for one in self.samples:
             counts[one.cost] += one.occurrences
         return sorted(counts.items(), key=lambda pair: (pair[0] is None, pair[0] or 0))
 
-    def broken_lines(self) -> List[Tuple[Broken, int]]:
-        """What is broken with how often, the most often first."""
-        counts: Counter = Counter()
+    def broken_lines(self, most: Optional[int] = None) -> List[Tuple[Broken, int]]:
+        """What is broken with how often, the most often first: in all samples, or in the first
+        `most` of them."""
+        counts: Counter[int] = Counter()
         first: Dict[int, Broken] = {}
-        for one in self.samples:
-            for part in one.broken:
+        for one in self.samples[:most]:
+            for part in one.broken if one.judged.source.has_parts else ():
                 counts[part.line] += one.occurrences
                 first.setdefault(part.line, part)
         return [(first[line], count) for line, count in counts.most_common()]
@@ -135,22 +151,50 @@ class Decoding(Sequence):
         broken = sum(len(one.broken_chains) * one.occurrences for one in self.samples)
         return broken / total if total else 0.0
 
+    def to_sampleset(self) -> Any:
+        """The samples as a `dimod.SampleSet`: bits by the labels of the variables, costs as
+        energies, and the vectors `is_feasible` and `model_energy`."""
+        return sampleset_of(self)
+
     def __str__(self) -> str:
         return '\n'.join(self.table())
 
+    def _repr_html_(self) -> str:
+        from .pictures import decoding_html
+        return decoding_html(self)
+
+    def __repr__(self) -> str:
+        return f'<Decoding: {len(self)} samples, told by the {self.by}>'
+
     def table(self, most: int = 10) -> Iterator[str]:
-        """How many samples are feasible, each cost, and what is broken most often."""
+        """How many samples are feasible, each cost, and what is broken most often in as many of
+        the first samples as are soon judged."""
         total = sum(one.occurrences for one in self.samples)
         feasible = sum(one.occurrences for one in self.samples if one.feasible)
         yield f'samples {total}, feasible {feasible}'
         for cost, count in self.costs()[:most]:
             yield f'  cost {"infinite" if cost is None else cost}: {count}'
-        lines = self.broken_lines()
+        yield from self._told_lines(most)
+        if self.chains:
+            yield f'chains broken {100 * self.chain_break_fraction():.1f} %'
+
+    def _told_lines(self, most: int) -> Iterator[str]:
+        """What is broken most often."""
+        judged = self._soon_judged()
+        total = sum(one.occurrences for one in self.samples[:judged])
+        lines = self.broken_lines(judged)
+        if lines and judged < len(self):
+            yield f'of the first {judged} samples:'
         for part, count in lines[:most]:
             kind = 'hard' if part.weight is None else f'weight {part.weight}'
             yield f'broken in {100 * count / total:.0f} %: line {part.line}, {kind}'
-        if self.chains:
-            yield f'chains broken {100 * self.chain_break_fraction():.1f} %'
+
+    def _soon_judged(self) -> int:
+        """How many of the first samples the table judges."""
+        if not self.samples or not self.samples[0].judged.source.has_parts:
+            return 0
+        parts = len(self.samples[0].judged.source.problem.parts)
+        return min(len(self), MOST_JUDGED, max(MOST_PARTS // max(parts, 1), 1))
 
 
 def rank(one: Decoded) -> Tuple[bool, int, int]:

@@ -1,33 +1,98 @@
-"""Pictures of models on a Chimera graph, as SVG.
+"""Pictures of models on a graph of qubits, as SVG.
 
 Each chain has a colour. Thick lines are the ties of a chain, black ones the couplings between
 chains, and thin grey ones the joins of the graph that the model leaves alone. With a state the
-qubits of bit 0 are hollow, and a broken chain is named so; dead parts are crossed out.
+qubits of bit 0 are hollow, and a broken chain is named so, with a red ring around each of its
+qubits; dead parts are crossed out.
 
-Side 0 of a cell lies across it, and is joined to the cells above and below; side 1 stands in it,
-and is joined to the cells to the left and right.
+On a Chimera graph side 0 of a cell lies across it, and is joined to the cells above and below; side
+1 stands in it, and is joined to the cells to the left and right. Of a graph that is a list a model
+does not say the joins: the qubits of its chains stand in a circle, one chain after the other.
 """
 from __future__ import annotations
 
-from typing import Dict, Iterator, List, Optional, Sequence, Tuple
+from math import cos, pi, sin
+from typing import Dict, Iterable, Iterator, List, Optional, Sequence, Tuple, Union
 
 from .errors import PbisingError
-from .graphs import joins_of
+from .graphs import Join, Shape, joins_of
 from .models import Model
 
-COLOURS = ['#0072b2', '#e69f00', '#009e73', '#cc79a7', '#d55e00', '#56b4e9', '#8c6d31', '#6a51a3']
+BLUE, ORANGE = '#0072b2', '#e69f00'
+COLOURS = [BLUE, ORANGE, '#009e73', '#cc79a7', '#d55e00', '#56b4e9', '#8c6d31', '#6a51a3']
 PITCH, RADIUS, MARGIN = 190, 13, 30
-
+MOST_IN_CIRCLE = 64
 
 Point = Tuple[float, float]
 
 
-def _place(cols: int, shore: int, qubit: int) -> Point:
-    """Where a qubit is drawn."""
-    cell, side, at = qubit // shore // 2, qubit // shore % 2, qubit % shore
-    x, y = (MARGIN + PITCH * (n + 0.5) for n in (cell % cols, cell // cols))
-    off = (at + 0.5 - shore / 2) * (0.78 * PITCH / shore)
-    return (x + off, y) if side == 0 else (x, y + off)
+class Svg(str):
+    """The text of a picture, which a notebook shows."""
+
+    def _repr_svg_(self) -> str:
+        return str(self)
+
+
+class _Cells:
+    """A Chimera graph: all its qubits and joins, a cell beside the other."""
+
+    def __init__(self, shape: Shape) -> None:
+        self.shape = shape
+        rows, self.cols, self.shore = shape
+        self.width, self.height = self.cols * PITCH, rows * PITCH
+        self.qubits: Sequence[int] = range(2 * rows * self.cols * self.shore)
+
+    def at(self, qubit: int) -> Point:
+        """The place of a qubit."""
+        shore = self.shore
+        cell, side, at = qubit // shore // 2, qubit // shore % 2, qubit % shore
+        x, y = (MARGIN + PITCH * (n + 0.5) for n in (cell % self.cols, cell // self.cols))
+        off = (at + 0.5 - shore / 2) * (0.78 * PITCH / shore)
+        return (x + off, y) if side == 0 else (x, y + off)
+
+    def joins(self) -> Iterable[Join]:
+        """The joined qubits."""
+        return joins_of(*self.shape)
+
+
+class _Circle:
+    """A graph that is a list: the qubits of chains, and the joins that the model uses."""
+
+    def __init__(self, model: Model) -> None:
+        self.qubits: Sequence[int] = [qubit for chain in model.chains or () for qubit in chain]
+        self.joined = list(zip(model.heads, model.tails))
+        self.places = {qubit: place for place, qubit in enumerate(self.qubits)}
+        self.radius = max(PITCH / 2, len(self.qubits) * (3 * RADIUS) / (2 * pi))
+        self.width = self.height = round(2 * self.radius)
+
+    def at(self, qubit: int) -> Point:
+        """The place of a qubit: the first one is on top, and the others follow clockwise."""
+        turn = 2 * pi * self.places[qubit] / max(len(self.qubits), 1)
+        middle = MARGIN + self.radius
+        return middle + self.radius * sin(turn), middle - self.radius * cos(turn)
+
+    def joins(self) -> Iterable[Join]:
+        """The joined qubits."""
+        return self.joined
+
+
+def _laid_out(model: Model) -> Union[_Cells, _Circle]:
+    """Where the qubits of a model are drawn."""
+    if model.shape is not None:
+        return _Cells(model.shape)
+    if model.chains is None:
+        raise PbisingError('this is no model on a graph')
+    circle = _Circle(model)
+    if not drawable(model):
+        raise PbisingError(f'the chains have {len(circle.qubits)} qubits, and a graph that is a '
+                           f'list is drawn with at most {MOST_IN_CIRCLE}')
+    return circle
+
+
+def drawable(model: Model) -> bool:
+    """Whether there is a picture of a model on a graph: where the graph is a list, of few qubits.
+    """
+    return model.shape is not None or sum(map(len, model.chains or ())) <= MOST_IN_CIRCLE
 
 
 def _line(a: Point, b: Point, colour: str, width: float) -> str:
@@ -63,17 +128,15 @@ class Picture:
 
     def __init__(self, model: Model, state: Optional[Sequence[int]] = None,
                  dead: Sequence[Sequence[int]] = (), strengths: bool = False) -> None:
-        if model.shape is None:
-            raise PbisingError('this is no model on a Chimera graph')
         self.model, self.state, self.dead, self.strengths = model, state, dead, strengths
-        self.rows, self.cols, self.shore = model.shape
+        self.layout, self.chains = _laid_out(model), model.chains or []
         self.weights: Dict[Tuple[int, int], int] = model.weights()
         self.broken = set(model.broken_chains(state)) if state else set()
-        self.owner = {q: node for node, chain in enumerate(model.chains) for q in chain}
+        self.owner = {q: node for node, chain in enumerate(self.chains) for q in chain}
 
     def at(self, qubit: int) -> Point:
         """The place of a qubit."""
-        return _place(self.cols, self.shore, qubit)
+        return self.layout.at(qubit)
 
     def colour(self, qubit: int) -> str:
         """The colour of a qubit's chain."""
@@ -82,7 +145,7 @@ class Picture:
     def joins(self) -> Iterator[str]:
         """All joins, those of the model last."""
         weights = self.weights
-        for a, b in sorted(joins_of(*self.model.shape), key=lambda pair: pair in weights):
+        for a, b in sorted(self.layout.joins(), key=lambda pair: pair in weights):
             ends = self.at(a), self.at(b)
             if (a, b) not in weights:
                 yield _line(*ends, '#ccc', 1)
@@ -103,7 +166,7 @@ class Picture:
 
     def qubits(self) -> Iterator[str]:
         """All qubits."""
-        for qubit in range(2 * self.rows * self.cols * self.shore):
+        for qubit in self.layout.qubits:
             used = qubit in self.owner
             if used and self.state and not self.state[qubit]:
                 edge = f'stroke="{self.colour(qubit)}" stroke-width="3"'
@@ -111,6 +174,13 @@ class Picture:
             else:
                 yield _dot(self.at(qubit), self.colour(qubit) if used else 'white',
                            'stroke="#444"', 'white' if used else '#999', qubit)
+
+    def rings(self) -> Iterator[str]:
+        """A ring around each qubit of a broken chain."""
+        for node in sorted(self.broken):
+            for x, y in map(self.at, self.chains[node]):
+                yield (f'<circle cx="{x:.1f}" cy="{y:.1f}" r="{RADIUS + 5}" fill="none" '
+                       'stroke="#c00" stroke-width="2.5"/>')
 
     def crosses(self) -> Iterator[str]:
         """A cross on each dead qubit, and in the middle of each dead coupler."""
@@ -120,7 +190,7 @@ class Picture:
 
     def legend(self, top: int, across: int) -> Iterator[str]:
         """The colour of each node, so many of them in a row."""
-        for node in range(len(self.model.chains)):
+        for node in range(len(self.chains)):
             x, y = MARGIN + self.step() * (node % across), top + 24 * (node // across)
             name = f'node {node}' + (', broken' if node in self.broken else '')
             yield (f'<rect x="{x}" y="{y - 11}" width="14" height="14" '
@@ -133,20 +203,20 @@ class Picture:
 
     def lines(self) -> Iterator[str]:
         """The lines of the picture."""
-        width, top = 2 * MARGIN + self.cols * PITCH, 2 * MARGIN + self.rows * PITCH + 2
-        across = max(self.cols * PITCH // self.step(), 1)
-        height = top - 2 + 24 * max(-(-len(self.model.chains) // across), 1)
+        width, top = 2 * MARGIN + self.layout.width, 2 * MARGIN + self.layout.height + 2
+        across = max(self.layout.width // self.step(), 1)
+        height = top - 2 + 24 * max(-(-len(self.chains) // across), 1)
         yield (f'<svg xmlns="http://www.w3.org/2000/svg" width="{width}" height="{height}" '
                f'viewBox="0 0 {width} {height}" font-family="sans-serif" font-size="12">')
         yield f'<rect width="{width}" height="{height}" fill="white"/>'
-        for part in (self.joins(), self.told(), self.qubits(), self.crosses(),
+        for part in (self.joins(), self.told(), self.qubits(), self.rings(), self.crosses(),
                      self.legend(top, across)):
             yield from part
         yield '</svg>'
 
 
 def draw(model: Model, state: Optional[Sequence[int]] = None,
-         dead: Sequence[Sequence[int]] = (), strengths: bool = False) -> str:
+         dead: Sequence[Sequence[int]] = (), strengths: bool = False) -> Svg:
     """The picture. With `strengths` each tie is as thick as it is strong, and tells it."""
     lines: List[str] = list(Picture(model, state, dead, strengths).lines())
-    return ''.join(f'{line}\n' for line in lines)
+    return Svg(''.join(f'{line}\n' for line in lines))

@@ -23,7 +23,7 @@ Neighbours = Dict[int, Set[int]]
 def widths(model: Model) -> Iterator[Tuple[int, int]]:
     """Each node from the last one on with its number of neighbours, as `solve` eliminates them
     where it is given no order."""
-    below: List[Optional[Set[int]]] = [set() for _ in range(model.nodes)]
+    below: List[Set[int]] = [set() for _ in range(model.nodes)]
     for i, j, _ in model.pairs():
         below[j].add(i)
     for node in reversed(range(model.nodes)):
@@ -31,7 +31,7 @@ def widths(model: Model) -> Iterator[Tuple[int, int]]:
         if below[node]:
             last = max(below[node])
             below[last] |= below[node] - {last}
-        below[node] = None
+        below[node] = set()
 
 
 def file_width(model: Model, most: int = SOLVE_WIDTH) -> Tuple[int, int]:
@@ -63,7 +63,7 @@ def elimination_order(model: Model, most: int = SOLVE_WIDTH) -> Order:
     width = file_width(model, most)[1]
     if width <= most:
         found.append(Order(list(reversed(range(model.nodes))), width, 'the order of the file'))
-    ways: List[Tuple[str, Callable]] = [('least degree', _degree)]
+    ways: List[Tuple[str, Callable[[Neighbours, int], int]]] = [('least degree', _degree)]
     if len(model.fields) <= FILL_NODES:
         ways.append(('least fill', _fill))
     least = width
@@ -97,7 +97,8 @@ def _greedy(model: Model, key: Callable[[Neighbours, int], int],
         near[j].add(i)
     queue = [(key(near, node), node) for node in near]
     heapq.heapify(queue)
-    order, width = [], 0
+    order: List[int] = []
+    width = 0
     while queue:
         value, node = heapq.heappop(queue)
         if node not in near:

@@ -1,7 +1,7 @@
 """What the package raises. The text of each error is one line."""
 from __future__ import annotations
 
-from typing import Optional
+from typing import Any, Optional, Tuple
 
 
 class PbisingError(ValueError):
@@ -16,6 +16,9 @@ class TextError(PbisingError):
         self.name, self.line, self.kind = name, line, kind
         self.token, self.wanted = token, wanted
         super().__init__(f'{name}:{line}: {kind}{self._told()}')
+
+    def __reduce__(self) -> Tuple[Any, ...]:
+        return type(self), (self.name, self.line, self.kind, self.token, self.wanted)
 
     def _told(self) -> str:
         if self.wanted is None:
@@ -32,6 +35,9 @@ class ProgramError(PbisingError):
     def __init__(self, status: int, line: str) -> None:
         self.status, self.line = status, line
         super().__init__(line or f'the program ended with status {status}')
+
+    def __reduce__(self) -> Tuple[Any, ...]:
+        return type(self), (self.status, self.line)
 
 
 class ProgramMissing(PbisingError):

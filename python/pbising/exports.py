@@ -45,7 +45,7 @@ def qpbo_notes(model: Model) -> Iterator[str]:
     constant, single, couplings = model.over_bits()
     if constant:
         yield f"energy = optimum {'+-'[constant < 0]} {abs(constant)}"
-    if (sum(map(abs, single)) + sum(map(abs, couplings))) * 10 ** 7 > ROOM:
+    if sum(abs(weight) for weight in [*single, *couplings]) * 10 ** 7 > ROOM:
         yield 'the weights are wide: call toulbar2 with -precision=1'
     if model.total() > DOUBLES:
         yield model.precision()

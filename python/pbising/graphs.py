@@ -94,9 +94,9 @@ def _working(parts: Iterable[Any], qubits: int, joins: Set[Join]) -> Tuple[Set[i
         numbers = list(part) if _is_list(part) else [part]
         if not all(isinstance(q, int) and 0 <= q < qubits for q in numbers):
             raise PbisingError(f'{part}: the qubits of this graph are 0 to {qubits - 1}')
-        pair = tuple(sorted(numbers))
+        pair = (min(numbers, default=0), max(numbers, default=0))
         if _is_list(part):
-            if pair not in joins:
+            if len(numbers) != 2 or pair not in joins:
                 raise PbisingError(f'{part}: the graph has no such coupler')
             pairs.add(pair)
         alone.update(numbers)
@@ -126,9 +126,10 @@ def read_dead(text: str, name: str, shape: Shape) -> List[List[int]]:
         if line != last:
             parts.append([])
         last = line
-        parts[-1].append(qubit)
         if qubit is None or not 0 <= qubit < qubits:
             raise PbisingError(f'{name}: line {line}: one qubit or two, below {qubits}, are named')
-        if len(parts[-1]) > 2 or len(parts[-1]) == 2 and tuple(sorted(parts[-1])) not in joins:
+        part = parts[-1]
+        part.append(qubit)
+        if len(part) > 2 or len(part) == 2 and (min(part), max(part)) not in joins:
             raise PbisingError(f'{name}: line {line}: one qubit or two joined ones are named')
     return parts

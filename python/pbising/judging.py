@@ -129,7 +129,8 @@ def _of_parts(kind: str, parts: List[Part], broken: List[Part],
     """How many parts are broken, and which."""
     if not parts:
         return
-    weight = f', of weight {sum(part.weight for part in broken)}' if kind == 'soft' else ''
+    total = sum(part.weight or 0 for part in broken)
+    weight = f', of weight {total}' if kind == 'soft' else ''
     yield f'{kind} {len(broken)} of {len(parts)} broken{weight}'
     for part in broken[:MOST]:
         weight = f'weight {part.weight}: ' if kind == 'soft' else ''

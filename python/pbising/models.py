@@ -1,19 +1,19 @@
-"""Models: QUBO files, Ising files, and Ising files on a Chimera graph, whoever wrote them.
+"""Models: QUBO files, Ising files, and Ising files on a graph of qubits, whoever wrote them.
 
-A state is a list of bits, one for each node, or for each qubit of the graph. In an Ising model bit
+The kind is `qubo`, `ising`, or that of the graph: `chimera`, or `graph` where it is a list. A state is a list of bits, one for each node, or for each qubit of the graph. In an Ising model bit
 1 is the spin +1, and bit 0 the spin -1. Energies count in the model's unit. Without figures the
 scale and the unit are 1, the offset is 0, and there is no threshold.
 """
 from __future__ import annotations
 
-from dataclasses import dataclass
+from dataclasses import dataclass, field
 from fractions import Fraction
 from itertools import chain as joined
 from typing import Any, Dict, Iterable, List, Optional, Sequence, Tuple, Union
 
 from .errors import PbisingError
 from .rows import front_of, read_rows, weighed
-from .texts import PathName, called, read_bytes, whole
+from .texts import PathName, called, read_bytes, text_of, whole, write_bytes
 
 FIGURES = ('scale', 'offset', 'threshold', 'unit', 'variables')
 DOUBLES = 2 ** 53
@@ -37,7 +37,7 @@ class Size:
     greatest: int
 
 
-@dataclass
+@dataclass(repr=False)
 class Model:
     """The weights of a model, and what the lines before them say of it.
 
@@ -58,11 +58,20 @@ class Model:
     variables: int = 0
     shape: Optional[Tuple[int, int, int]] = None
     chains: Optional[List[List[int]]] = None
+    data: bytes = field(default=b'', compare=False)
+
+    def __repr__(self) -> str:
+        return f'<{type(self).__name__}: {self.kind}, {self.nodes} nodes, {self.couplers} couplers>'
 
     @property
     def couplers(self) -> int:
         """How many pairs have a row."""
         return len(self.couplings)
+
+    @property
+    def qubits(self) -> Optional[int]:
+        """How many qubits the graph has, or None where the model is on no graph."""
+        return None if self.chains is None else self.nodes
 
     def used(self) -> List[int]:
         """The nodes that a row or a chain names, ascending."""
@@ -126,7 +135,7 @@ class Model:
         weights and offset are divided, so that it is the cost itself.
         """
         constant, single, couplings = self.over_bits()
-        by = self._one_cost(1) if as_cost else 1
+        by = self._one_cost(1) if as_cost else Fraction(1)
         weights = {(node, node): single[node] for node in self.used()}
         weights.update(zip(zip(self.heads, self.tails), couplings))
         return _divided(weights, by), _quotient(constant - Fraction(self.offset, self.unit), by)
@@ -140,26 +149,43 @@ class Model:
         so that it is the cost itself.
         """
         times = 4 if self.kind == 'qubo' else 1
-        by = self._one_cost(times) if as_cost else 1
+        by = self._one_cost(times) if as_cost else Fraction(1)
         fields, constant = self._over_spins()
         offset = constant - times * Fraction(self.offset, self.unit)
         couplings = dict(zip(zip(self.heads, self.tails), self.couplings))
         return _divided(fields, by), _divided(couplings, by), _quotient(offset, by)
 
-    def to_bqm(self, as_cost: bool = False) -> Any:
+    def to_bqm(self, as_cost: bool = False, labels: bool = False) -> Any:
         """The model as a `dimod.BinaryQuadraticModel`, of bits or of spins as the model is.
 
-        The offset is as `qubo` and `ising` say.
+        Its variables are nodes, or with `labels` what `labels()` calls them. The offset is as
+        `qubo` and `ising` say.
         """
-        try:
-            import dimod
-        except ImportError:
-            raise PbisingError('dimod is not installed: pip install dimod') from None
-        if self.kind == 'qubo':
-            weights, offset = self.qubo(as_cost)
-            return dimod.BinaryQuadraticModel.from_qubo(weights, float(offset))
-        fields, couplings, offset = self.ising(as_cost)
-        return dimod.BinaryQuadraticModel.from_ising(fields, couplings, float(offset))
+        from .bridges import bqm_of
+        return bqm_of(self, as_cost, labels)
+
+    def names(self) -> List[Any]:
+        """What the variables are called: x1, x2 .., where no problem is known."""
+        return [f'x{number}' for number in range(1, self.variables + 1)]
+
+    def labels(self) -> List[Any]:
+        """What the nodes are called: the variables by their names, and each other node by its
+        number behind the word node."""
+        if self.chains is not None:
+            raise PbisingError('on a graph the nodes are qubits, which have no labels')
+        names, front = self.names(), 'node '
+        while any(isinstance(name, str) and name.startswith(front) for name in names):
+            front = f'_{front}'
+        return [*names, *(f'{front}{node}' for node in range(self.variables, self.nodes))]
+
+    @property
+    def text(self) -> str:
+        """The text that the model was read of, to the byte."""
+        return text_of(self.data)
+
+    def write(self, name: PathName) -> None:
+        """Writes the text that the model was read of to a file."""
+        write_bytes(name, self.data)
 
     def size(self) -> Size:
         """Nodes, couplers and figures, and the least and the greatest size of a weight not 0."""
@@ -169,11 +195,11 @@ class Model:
 
     def greatest(self) -> int:
         """The greatest size of a weight."""
-        return max(map(abs, self._all_weights()), default=0)
+        return max(map(int.__abs__, self._all_weights()), default=0)
 
     def total(self) -> int:
         """The sum of the sizes of all weights, which no energy passes."""
-        return sum(map(abs, self._all_weights()))
+        return sum(map(int.__abs__, self._all_weights()))
 
     def precision(self) -> str:
         """Whether doubles hold the weights, and each energy."""
@@ -184,6 +210,10 @@ class Model:
             return (f'greatest weight {greatest}, and {total} in all, above 2^53: '
                     'doubles may lose digits of energies')
         return f'greatest weight {greatest}: doubles hold each energy'
+
+    def _repr_html_(self) -> str:
+        from .pictures import model_html
+        return model_html(self)
 
     def _all_weights(self) -> Iterable[int]:
         return joined(self.fields.values(), self.couplings)
@@ -208,45 +238,65 @@ def load(name: PathName) -> Model:
     return parse(read_bytes(name), called(name))
 
 
-def parse(data: bytes, name: str = 'model') -> Model:
+def parse(text: Union[bytes, str], name: str = 'model') -> Model:
     """The model of a text."""
+    data = text.encode() if isinstance(text, str) else text
     rows = read_rows(name, data, beyond=None)
-    figures, shape, chains = _said(front_of(data))
-    model = Model(**vars(rows))
+    said = _said(front_of(data))
+    model = Model(**vars(rows), data=data)
     model.variables = rows.nodes
-    for figure, value in figures.items():
+    for figure, value in said.figures.items():
         setattr(model, figure, value)
     if min(model.scale, model.unit) < 1 or not 0 <= model.variables <= model.nodes:
         raise PbisingError(f'{name}: scale and unit are at least 1, and variables are nodes')
-    if rows.kind == 'ising' and shape is not None:
-        model.kind, model.shape, model.chains = 'chimera', shape, chains
-        _check_chains(name, model)
+    if rows.kind == 'ising' and said.qubits is not None:
+        model.kind = 'graph' if said.shape is None else 'chimera'
+        model.shape, model.chains = said.shape, said.chains
+        _check_graph(name, model, said.qubits)
     return model
 
 
-def _check_chains(name: str, model: Model) -> None:
-    """Refuses chains that do not fit the model."""
-    if any(not 0 <= qubit < model.nodes for chain in model.chains for qubit in chain):
+def _check_graph(name: str, model: Model, qubits: int) -> None:
+    """Refuses a graph and chains that do not fit the model."""
+    if qubits != model.nodes:
+        raise PbisingError(f'{name}: the graph has {qubits} qubits, and the model {model.nodes}')
+    chains = model.chains or []
+    if any(not 0 <= qubit < model.nodes for chain in chains for qubit in chain):
         raise PbisingError(f'{name}: a chain names a qubit that is not below {model.nodes}')
-    if len(model.chains) < model.variables or not all(model.chains):
+    if len(chains) < model.variables or not all(chains):
         raise PbisingError(f'{name}: a variable has no chain')
 
 
-def _said(lines: List[str]) -> Tuple[Dict[str, int], Optional[Tuple[int, ...]], List[List[int]]]:
-    """The figures, the size of the graph and the chains that comment lines tell."""
-    figures: Dict[str, int] = {}
-    shape, chains = None, []
+class _Said:
+    """The figures, the graph and the chains that comment lines tell."""
+
+    def __init__(self) -> None:
+        self.figures: Dict[str, int] = {}
+        self.shape: Optional[Tuple[int, int, int]] = None
+        self.qubits: Optional[int] = None
+        self.chains: List[List[int]] = []
+
+    def take(self, word: str, numbers: List[int]) -> None:
+        """A line of a word and numbers."""
+        if word in FIGURES and len(numbers) == 1:
+            self.figures[word] = numbers[0]
+        elif word == 'chimera' and len(numbers) == 3:
+            rows, cols, shore = numbers
+            self.shape, self.qubits = (rows, cols, shore), 2 * rows * cols * shore
+        elif word == 'graph' and len(numbers) == 1:
+            self.shape, self.qubits = None, numbers[0]
+        elif word == 'chain' and numbers[0] == len(self.chains):
+            self.chains.append(numbers[1:])
+
+
+def _said(lines: List[str]) -> _Said:
+    """What comment lines tell."""
+    said = _Said()
     for words in (line.split() for line in lines if line.startswith('c ')):
-        numbers = [whole(word, None) for word in words[2:]]
-        if not numbers or None in numbers:
-            continue
-        if words[1] in FIGURES and len(numbers) == 1:
-            figures[words[1]] = numbers[0]
-        elif words[1] == 'chimera' and len(numbers) == 3:
-            shape = tuple(numbers)
-        elif words[1] == 'chain' and numbers[0] == len(chains):
-            chains.append(numbers[1:])
-    return figures, shape, chains
+        numbers = [n for n in (whole(word, None) for word in words[2:]) if n is not None]
+        if numbers and len(numbers) + 2 == len(words):
+            said.take(words[1], numbers)
+    return said
 
 
 def _majority(bits: Sequence[int]) -> int:
@@ -255,7 +305,7 @@ def _majority(bits: Sequence[int]) -> int:
     return int(bool(bits[0]) if 2 * ones == len(bits) else 2 * ones > len(bits))
 
 
-def _divided(weights: Dict, by: Union[int, Fraction]) -> Dict:
+def _divided(weights: Dict[Any, Any], by: Fraction) -> Dict[Any, Any]:
     """All weights divided by one number."""
     return weights if by == 1 else {key: _quotient(w, by) for key, w in weights.items()}
 

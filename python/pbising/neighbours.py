@@ -2,13 +2,13 @@
 
     from_coo     dimod's COO, of bits or spins
     from_rudy    a graph of rudy, as G-set has them, for the maximum cut
-    from_opb     OPB as some tools write it: `+1*x1`, `x1` without a number
+    from_opb     OPB as some tools write it: `+1*x1`, `x1` without a number, `x1 + x2`
     from_cnf     a plain CNF, `p cnf`
 """
 from __future__ import annotations
 
 import re
-from typing import Dict, Iterator, List, Tuple
+from typing import Dict, Iterator, List, NoReturn, Tuple
 
 from .errors import TextError
 from .sources import Source
@@ -19,7 +19,7 @@ VARTYPE = re.compile(r'#\s*vartype\s*=\s*(\w+)')
 COMMENT = re.compile(r'[ \t\r]*\*')
 OPB_TOKEN = re.compile(r'[ \t\r]+|[;\[\]]|[<>=]+|[^ \t\r;<>=:\[\]]*:|[^ \t\r;<>=:\[\]]+')
 OPB_LITERAL = re.compile(r'([+-]?)(~?x[0-9]+)')
-OPB_WORD = re.compile(r'min|min:|soft:|:|;|[][]|[<>=]+|[+-]')
+OPB_WORD = re.compile(r'min|min:|soft:|:|;|[][]|[<>=]+')
 MOST_NODES = 2 ** 20
 Edge = Tuple[int, int]
 
@@ -72,9 +72,9 @@ def from_rudy(source: PathName) -> Source:
 
 
 def from_opb(source: PathName) -> Source:
-    """An OPB file with what some tools write: a `*` between a number and a literal, and literals
-    without a number, which is 1 then. A word of no OPB file is refused; what else is wrong is told by
-    `compile`."""
+    """An OPB file with what some tools and people write: a `*` between a number and a literal,
+    blanks behind a sign, and literals without a number, which is 1 then. A word of no OPB file is
+    refused; what else is wrong is told by `compile`."""
     name, text = _read(source)
     numbered = _Numbered(name)
     lines = [line if COMMENT.match(line) else ''.join(numbered.pieces(number, line))
@@ -83,28 +83,42 @@ def from_opb(source: PathName) -> Source:
 
 
 class _Numbered:
-    """Puts a number before each literal of an OPB text that has none."""
+    """Puts a number before each literal of an OPB text that has none. A sign that stands alone is
+    put before what follows it."""
 
     def __init__(self, name: str) -> None:
-        self.name, self.last, self.given = name, '', False
+        self.name, self.last, self.sign, self.given = name, '', '', False
 
     def pieces(self, number: int, line: str) -> Iterator[str]:
         """The pieces of a line."""
         for piece in OPB_TOKEN.findall(line.replace('*', ' ')):
-            literal = OPB_LITERAL.fullmatch(piece)
-            after_literal = bool(OPB_LITERAL.fullmatch(self.last))
-            if literal and (literal[1] or not after_literal and whole(self.last) is None):
-                yield f'{literal[1]}1 {literal[2]}'
-                self.given = True
-            elif literal and after_literal and self.given:
-                raise TextError(self.name, number, 'word', piece, 'a sign, a number or an operator')
-            elif not (literal or piece.isspace() or whole(piece) is not None
-                      or OPB_WORD.fullmatch(piece)):
-                raise TextError(self.name, number, 'word', piece, 'a term, an operator, `min:` or `;`')
-            else:
-                yield piece
-                self.given = self.given and not piece.strip()
-            self.last = piece.strip() or self.last
+            if piece.isspace():
+                yield '' if self.sign else piece
+                continue
+            if self.sign and piece[0] not in '~x0123456789':
+                self._fault(number, piece, 'a number or a literal behind a sign')
+            if piece in ('+', '-'):
+                self.sign = piece
+                continue
+            yield self._piece(number, self.sign + piece)
+            self.last, self.sign = self.sign + piece, ''
+
+    def _piece(self, number: int, piece: str) -> str:
+        """A piece as OPB has it."""
+        literal = OPB_LITERAL.fullmatch(piece)
+        after_literal = bool(OPB_LITERAL.fullmatch(self.last))
+        if literal and (literal[1] or not after_literal and whole(self.last) is None):
+            self.given = True
+            return f'{literal[1]}1 {literal[2]}'
+        if literal and after_literal and self.given:
+            self._fault(number, piece, 'a sign, a number or an operator')
+        if not (literal or whole(piece) is not None or OPB_WORD.fullmatch(piece)):
+            self._fault(number, piece, 'a term, an operator, `min:` or `;`')
+        self.given = False
+        return piece
+
+    def _fault(self, number: int, piece: str, wanted: str) -> NoReturn:
+        raise TextError(self.name, number, 'word', piece, wanted)
 
 
 def from_cnf(source: PathName, hard: bool = True) -> Source:

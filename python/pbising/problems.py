@@ -32,13 +32,14 @@ class Clause(NamedTuple):
 
 
 class Constraint(NamedTuple):
-    """A sum with a bound; without a weight it is hard."""
+    """A sum with a bound; without a weight it is hard. The text is what its writer calls it."""
 
     line: int
     terms: List[Term]
     operator: str
     bound: int
     weight: Optional[int] = None
+    text: Optional[str] = None
 
     def kept(self, truth: Truth) -> bool:
         """Whether an assignment keeps it."""
@@ -48,7 +49,9 @@ class Constraint(NamedTuple):
         return total >= self.bound if self.operator == '>=' else total <= self.bound
 
     def told(self, truth: Truth) -> str:
-        """The constraint as it is written, and what its sum is."""
+        """The constraint as it is written, and what its sum is, or how far that is off."""
+        if self.text is not None:
+            return f'{self.text}, by {abs(summed(self.terms, truth) - self.bound)}'
         terms = ' '.join(f'{c} ' + ' '.join(map(_named, literals)) for c, literals in self.terms)
         return f'{terms} {self.operator} {self.bound}, the sum is {summed(self.terms, truth)}'
 
@@ -79,7 +82,7 @@ class Verdict:
 
 
 @dataclass
-class Problem:
+class SourceProblem:
     """Parts, the terms of the objective and, of a WBO file, its TOP; of a polynomial the names of
     its variables, and of a QUBO or an Ising file its rows."""
 
@@ -94,9 +97,10 @@ class Problem:
         """What an assignment costs, and what it breaks."""
         truth = truth_of(bits)
         broken = [part for part in self.parts if not part.kept(truth)]
-        if any(part.weight is None for part in broken):
+        weights = [part.weight for part in broken if part.weight is not None]
+        if len(weights) < len(broken):
             return Verdict(None, broken, truth)
-        weight = sum(part.weight for part in broken)
+        weight = sum(weights)
         if self.top is not None and weight >= self.top:
             return Verdict(None, broken, truth)
         rows = 0 if self.rows is None else weighed(self.rows, bits)

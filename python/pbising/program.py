@@ -11,7 +11,7 @@ import shutil
 import subprocess
 import tempfile
 from pathlib import Path
-from typing import Iterator, List, NamedTuple, Sequence, Union
+from typing import Generator, List, NamedTuple, Sequence, Union
 
 from .errors import BY_STATUS, PbisingError, ProgramError, ProgramMissing, TextError
 
@@ -62,13 +62,14 @@ def run(words: Sequence[Word]) -> bytes:
     raise _error(done.returncode, done.stderr.decode('utf-8', 'replace'), words, placed)
 
 
-def first_lines(words: Sequence[Word]) -> Iterator[str]:
+def first_lines(words: Sequence[Word]) -> Generator[str, None, None]:
     """The lines of the output of a run, which is ended where no more are asked for."""
     with tempfile.TemporaryDirectory(prefix='pbising-') as folder:
         placed = _placed(words, folder)
         with subprocess.Popen([find_program(), *placed], stdin=subprocess.DEVNULL,
                               stdout=subprocess.PIPE, stderr=subprocess.PIPE,
                               universal_newlines=True) as program:
+            assert program.stdout and program.stderr
             ended = False
             try:
                 yield from program.stdout

@@ -6,14 +6,14 @@ stand in its place.
 from __future__ import annotations
 
 import re
-from typing import Dict, Iterator, List, Optional, Tuple
+from typing import Dict, Iterator, List, Optional, Pattern, Sequence, Tuple
 
 from .errors import PbisingError
-from .problems import Clause, Constraint, Part, Problem, Term
+from .keys import FORMATS
+from .problems import Clause, Constraint, Part, SourceProblem, Term
 from .rows import read_rows
 from .texts import Cursor, Token, one_of, text_of, tokens_of
 
-FORMATS = ('wcnf', 'opb', 'wbo', 'poly', 'qubo', 'ising')
 OPERATORS = ('>=', '<=', '=')
 PIECE = re.compile(r';|[<>=]+|[^ \t\r\n;<>=:]*:|[^ \t\r\n;<>=:]+')
 WBO_PIECE = re.compile(r'[;\[\]]|[<>=]+|[^ \t\r\n;<>=:\[\]]*:|[^ \t\r\n;<>=:\[\]]+')
@@ -22,13 +22,13 @@ NAME = re.compile(r'(~?)([A-Za-z_][A-Za-z0-9_]*)')
 LITERAL = 'a literal (x and an index, ~ before it for the complement)'
 
 
-def read_problem(layout: str, data: bytes, name: str = 'text') -> Problem:
+def read_problem(layout: str, data: bytes, name: str = 'text') -> SourceProblem:
     """The problem of a text in one of the formats."""
     if layout not in FORMATS:
         raise PbisingError(f'{layout} is no format: {", ".join(FORMATS)}')
     if layout in ('qubo', 'ising'):
         rows = read_rows(name, data, (layout,))
-        return Problem(rows.nodes, rows=rows)
+        return SourceProblem(rows.nodes, rows=rows)
     text = text_of(data)
     if layout == 'wcnf':
         return _read_wcnf(Cursor(name, tokens_of(text)))
@@ -38,7 +38,7 @@ def read_problem(layout: str, data: bytes, name: str = 'text') -> Problem:
     return _read_opb(pieces) if layout == 'opb' else _read_wbo(pieces)
 
 
-def _read_wcnf(cursor: Cursor) -> Problem:
+def _read_wcnf(cursor: Cursor) -> SourceProblem:
     """Weighted CNF: the layout with a header, or that of 2022."""
     if cursor.peek() is None:
         cursor.take('`p wcnf`, or a clause,')
@@ -54,9 +54,9 @@ def _read_wcnf(cursor: Cursor) -> Problem:
         else:
             weight = _weight_of_2022(cursor)
         literals = _clause(cursor, None)
-        largest = max(largest, max(map(abs, literals), default=0))
+        largest = max([largest, *(abs(literal) for literal in literals)])
         parts.append(Clause(start, literals, weight))
-    return Problem(largest, parts)
+    return SourceProblem(largest, parts)
 
 
 def _weight_of_2022(cursor: Cursor) -> int:
@@ -70,7 +70,7 @@ def _weight_of_2022(cursor: Cursor) -> int:
         raise
 
 
-def _read_older(cursor: Cursor) -> Problem:
+def _read_older(cursor: Cursor) -> SourceProblem:
     """The layout that begins with `p wcnf V C TOP`."""
     start = cursor.next_line()
     cursor.take('p')
@@ -96,7 +96,7 @@ def _read_older(cursor: Cursor) -> Problem:
     if cursor.peek() is not None:
         cursor.take('')
         cursor.fault('extra', f'the end of the text (the header counts {count} clauses)')
-    return Problem(variables, parts)
+    return SourceProblem(variables, parts)
 
 
 def _on_line(cursor: Cursor, line: int, wanted: str) -> None:
@@ -119,7 +119,7 @@ def _clause(cursor: Cursor, variables: Optional[int]) -> Tuple[int, ...]:
         literals.append(literal)
 
 
-def _pieces_of(text: str, piece: re.Pattern) -> Iterator[Token]:
+def _pieces_of(text: str, piece: Pattern[str]) -> Iterator[Token]:
     """The tokens of an OPB or WBO text, each with its line."""
     for number, line in enumerate(text.split('\n'), 1):
         if not line.lstrip(' \t\r').startswith('*'):
@@ -127,26 +127,26 @@ def _pieces_of(text: str, piece: re.Pattern) -> Iterator[Token]:
                 yield number, word
 
 
-def _read_opb(cursor: Cursor) -> Problem:
+def _read_opb(cursor: Cursor) -> SourceProblem:
     """An objective or none, and constraints."""
     objective: List[Term] = []
     if cursor.peek() == 'min:':
         cursor.take('min:')
         objective = _sum(cursor, (';',), 2 ** 64)
-    parts: List[Part] = []
+    parts: List[Constraint] = []
     while cursor.peek() is not None:
         parts.append(_constraint(cursor, None, cursor.next_line(), 2 ** 64))
-    return Problem(_largest(objective, parts), parts, objective)
+    return SourceProblem(_largest(objective, parts), list(parts), objective)
 
 
-def _read_wbo(cursor: Cursor) -> Problem:
+def _read_wbo(cursor: Cursor) -> SourceProblem:
     """A head with a TOP or none, and constraints, of which some have a weight."""
     cursor.one_of(('soft:',), '`soft:`')
     top = None
     if cursor.peek() != ';':
         top = cursor.number('TOP, a number of at least 1, or `;`', least=1)
     cursor.one_of((';',), '`;`')
-    parts: List[Part] = []
+    parts: List[Constraint] = []
     while cursor.peek() is not None:
         start, weight = cursor.next_line(), None
         if cursor.peek() == '[':
@@ -154,7 +154,7 @@ def _read_wbo(cursor: Cursor) -> Problem:
             weight = cursor.number('a weight of at least 0', least=0)
             cursor.one_of((']',), '`]`')
         parts.append(_constraint(cursor, weight, start, 2 ** 63))
-    return Problem(_largest([], parts), parts, top=top)
+    return SourceProblem(_largest([], parts), list(parts), top=top)
 
 
 def _constraint(cursor: Cursor, weight: Optional[int], start: int, beyond: int) -> Constraint:
@@ -178,7 +178,7 @@ def _sum(cursor: Cursor, ends: Tuple[str, ...], beyond: int) -> List[Term]:
         coefficient = _coefficient(cursor, word, wanted)
         literals = [_literal(cursor, cursor.take(LITERAL), beyond)]
         while (cursor.peek() or ' ')[0] in 'x~':
-            if not VARIABLE.fullmatch(cursor.peek()):
+            if not VARIABLE.fullmatch(cursor.peek() or ''):
                 break
             literals.append(_literal(cursor, cursor.take(LITERAL), beyond))
         terms.append((coefficient, tuple(literals)))
@@ -205,13 +205,13 @@ def _literal(cursor: Cursor, word: str, beyond: int) -> int:
     return -index if found[1] else index
 
 
-def _largest(objective: List[Term], parts: List[Constraint]) -> int:
+def _largest(objective: List[Term], parts: Sequence[Constraint]) -> int:
     """The largest index of a variable."""
     sums = [objective, *(part.terms for part in parts)]
     return max((abs(l) for terms in sums for _, literals in terms for l in literals), default=0)
 
 
-def _read_poly(cursor: Cursor) -> Problem:
+def _read_poly(cursor: Cursor) -> SourceProblem:
     """A product a line; variables are numbered as their names appear."""
     numbers: Dict[str, int] = {}
     products: List[Term] = []
@@ -225,4 +225,4 @@ def _read_poly(cursor: Cursor) -> Problem:
             number = numbers.setdefault(found[2], len(numbers) + 1)
             literals.append(-number if found[1] else number)
         products.append((coefficient, tuple(literals)))
-    return Problem(len(numbers), objective=products, names=list(numbers))
+    return SourceProblem(len(numbers), objective=products, names=list(numbers))

@@ -50,30 +50,37 @@ def weighed(rows: Any, bits: Sequence[Any]) -> int:
     zero = 0 if rows.kind == 'qubo' else -1
     of = [1 if bit else zero for bit in bits].__getitem__
     ends = map(mul, map(of, rows.heads), map(of, rows.tails))
-    return (sum(map(mul, rows.fields.values(), map(of, rows.fields)))
-            + sum(map(mul, rows.couplings, ends)))
+    total: int = (sum(map(mul, rows.fields.values(), map(of, rows.fields)))
+                  + sum(map(mul, rows.couplings, ends)))
+    return total
 
 
 def front_of(data: bytes) -> List[str]:
     """The comment lines that stand before the first token."""
-    return text_of(data[:FRONT.match(data).end()]).split('\n')
+    return text_of(data[:_front_end(data)]).split('\n')
+
+
+def _front_end(data: bytes) -> int:
+    """Where the comment lines before the first token end."""
+    found = FRONT.match(data)
+    return found.end() if found else 0
 
 
 def _at_once(data: bytes, beyond: Optional[int]) -> Optional[Rows]:
     """The rows where nothing unusual stands in the text, and else None."""
-    rest = data[FRONT.match(data).end():]
+    rest = data[_front_end(data):]
     if b'c' in rest:
         rest = COMMENT.sub(b'', rest)
     header = HEADER.match(rest)
-    entries = rest[header.end():] if header else b'none'
-    if entries.translate(None, PLAIN):
+    if not header or rest[header.end():].translate(None, PLAIN):
         return None
     try:
-        numbers = _numbers(entries)
+        numbers = _numbers(rest[header.end():])
     except ValueError:
         return None
     kind = (header[1] or header[2]).decode()
-    return _rows(kind, *map(int, header[3].split()), numbers, beyond)
+    nodes, singles, pairs = map(int, header[3].split())
+    return _rows(kind, nodes, singles, pairs, numbers, beyond)
 
 
 def _numbers(data: bytes) -> List[int]:
@@ -83,7 +90,8 @@ def _numbers(data: bytes) -> List[int]:
     time of words. It is no JSON where two blanks meet, or a number begins with a + or a 0.
     """
     try:
-        return json.loads(b'[%b]' % data.strip().translate(COMMAS))
+        numbers: List[int] = json.loads(b'[%b]' % data.strip().translate(COMMAS))
+        return numbers
     except ValueError:
         return list(map(int, data.split()))
 
@@ -109,13 +117,14 @@ def _rows(kind: str, nodes: int, singles: int, pairs: int, numbers: List[int],
     if not all(map(lt, heads, tails)):
         if any(map(eq, heads, tails)):
             return None
-        heads, tails = list(map(min, heads, tails)), list(map(max, heads, tails))
+        heads, tails = ([min(pair) for pair in zip(heads, tails)],
+                        [max(pair) for pair in zip(heads, tails)])
     if heads and not 0 <= min(heads) <= max(tails) < nodes:
         return None
     return Rows(kind, nodes, fields, *_merged(nodes, heads, tails, weights))
 
 
-def _summed(keys: List, weights: List[int]) -> Dict:
+def _summed(keys: List[int], weights: List[int]) -> Dict[int, int]:
     """The sum of the weights of each key."""
     sums = dict(zip(keys, weights))
     if len(sums) != len(keys):
@@ -157,4 +166,6 @@ def _by_tokens(name: str, data: bytes, kinds: Tuple[str, ...], beyond: Optional[
             cursor.fault('extra', 'the other node of a row that the header counts')
         left[i == j] -= 1
         numbers += i, j, cursor.number('a whole weight')
-    return _rows(kind, nodes, singles, pairs, numbers, None)
+    rows = _rows(kind, nodes, singles, pairs, numbers, None)
+    assert rows is not None
+    return rows

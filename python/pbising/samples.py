@@ -7,7 +7,7 @@ from __future__ import annotations
 
 import re
 from collections.abc import Iterable, Mapping, Sequence
-from typing import Any, Dict, Iterator, List, NamedTuple, Optional, Tuple, Union
+from typing import Any, Callable, Dict, Iterator, List, NamedTuple, Optional, Tuple, Union
 
 from .errors import PbisingError
 from .models import Model
@@ -15,8 +15,11 @@ from .sources import bit_of, bits_of
 
 PAIR = re.compile(r"""(?<![\w.])["']?(\d+)["']?\s*:\s*(?:[\w.]+\()?([^\s,)]+)""")
 VALUES = {'0': 0, '1': 1, '+1': 1, '-1': 0, '+': 1, '-': 0,
-          '0.': 0, '1.': 1, '-1.': 0, '0.0': 0, '1.0': 1, '-1.0': 0}
+          '0.': 0, '1.': 1, '-1.': 0, '0.0': 0, '1.0': 1, '-1.0': 0,
+          'True': 1, 'False': 0, 'true': 1, 'false': 0}
 LITERAL = re.compile(r'([-~]?)x?(\d+)')
+NAMED = re.compile(r'([^\s=,;]+)\s*=\s*([^\s=,;]+)[\s,;]*')
+COMMAS = str.maketrans(',;', '  ')
 Known = Union[Dict[int, int], List[int]]
 
 
@@ -27,13 +30,22 @@ class Sample(NamedTuple):
     occurrences: int = 1
 
 
-def states_of(model: Model, samples: Any) -> List[Sample]:
+class Naming(NamedTuple):
+    """What the nodes of a model are called, how many are variables, and what gives the state of an
+    assignment of these."""
+
+    labels: Dict[Any, int]
+    variables: int
+    extend: Callable[[List[int]], List[int]]
+
+
+def states_of(model: Model, samples: Any, naming: Optional[Naming] = None) -> List[Sample]:
     """The states that samples of a model are."""
     used = model.used()
     found = []
     for number, (values, occurrences) in enumerate(_samples(model, samples), 1):
         try:
-            found.append(Sample(_state(model, used, values), occurrences))
+            found.append(Sample(_state(model, used, values, naming), occurrences))
         except PbisingError as fault:
             raise PbisingError(f'sample {number}: {fault}') from None
     if not found:
@@ -53,11 +65,13 @@ def _samples(model: Model, samples: Any) -> Iterator[Tuple[Any, int]]:
     if isinstance(samples, str):
         for known in text_samples(model, samples):
             yield known, 1
-    elif isinstance(samples, Mapping) or _is_one(samples):
+    elif isinstance(samples, Mapping) or isinstance(samples, Iterable) and _is_one(samples):
         yield samples, 1
-    else:
+    elif isinstance(samples, Iterable):
         for values in samples:
             yield _plain(values), 1
+    else:
+        raise PbisingError(f'{samples!r} is no sample')
 
 
 def _plain(values: Any) -> Any:
@@ -77,39 +91,58 @@ def _is_one(samples: Any) -> bool:
     return first is not None and not isinstance(first, Iterable)
 
 
-def _state(model: Model, used: List[int], values: Any) -> List[int]:
+def _state(model: Model, used: List[int], values: Any, naming: Optional[Naming]) -> List[int]:
     """The state of one sample; nodes without weights are 0 where it does not name them."""
     if not isinstance(values, Mapping):
+        if not isinstance(values, Sequence):
+            raise PbisingError(f'{values!r} is no list and no dict of bits')
         if len(values) == model.nodes:
             return bits_of(values)
         if len(values) != len(used):
             raise PbisingError(f'it has {len(values)} values, and the model {model.nodes} nodes')
         values = dict(zip(used, values))
-    state = [0] * model.nodes
-    named = 0
-    for node, value in values.items():
-        at = int(node) if str(node).isdigit() else model.nodes
-        if at >= model.nodes:
-            raise PbisingError(f'the model has no node {node!r}')
-        state[at] = bit_of(value)
-        named += 1
-    if named < model.nodes:
-        missing = set(used).difference(int(node) for node in values)
-        if missing:
-            raise PbisingError(f'it says nothing of node {min(missing)}')
-    return state
+    known = {_node(model, key): bit_of(value) for key, value in values.items()}
+    if naming and _is_by_label(values, known, used, naming):
+        known = {naming.labels[key]: bit_of(value) for key, value in values.items()}
+        if model.chains is not None:
+            return naming.extend([known[at] for at in range(naming.variables)])
+    if None in known:
+        unknown = next(key for key in values if _node(model, key) is None)
+        raise PbisingError(f'the model has no node {unknown!r}')
+    missing = set(used).difference(known)
+    if not missing:
+        return [known.get(node, 0) for node in range(model.nodes)]
+    if naming and model.chains is None and set(known) == set(range(naming.variables)):
+        return naming.extend([known[at] for at in range(naming.variables)])
+    raise PbisingError(f'it says nothing of node {min(missing)}')
+
+
+def _node(model: Model, key: Any) -> Optional[int]:
+    """The node that a key is the number of, or None."""
+    at = int(key) if str(key).isdecimal() else model.nodes
+    return at if at < model.nodes else None
+
+
+def _is_by_label(values: Mapping[Any, Any], known: Mapping[Optional[int], int], used: List[int],
+                 naming: Naming) -> bool:
+    """Whether the keys of a sample are labels; numbers of nodes go first where all are named."""
+    if not all(key in naming.labels for key in values):
+        return False
+    by_node = None not in known and not set(used).difference(known)
+    return not by_node or any(isinstance(key, str) for key in values)
 
 
 def text_samples(model: Model, text: str) -> Iterator[Known]:
     """All that a text of a solver says of states.
 
     Read are, also many of them and other lines between: dicts and lists as Python or JSON writes
-    them, lines of bits or spins, tables of dimod and neal, and `v` lines of MaxSAT and
-    pseudo-Boolean solvers, which are assignments.
+    them, lines of bits or spins with blanks or commas, tables of dimod and neal, and assignments:
+    `v` lines of MaxSAT and pseudo-Boolean solvers, and lines as `x1=1`.
     """
     lines = text.split('\n')
-    used = None
-    for known in [*_dicts(text), *_lists(text), *_plain_lines(lines)]:
+    used: Optional[List[int]] = None
+    found: List[Known] = [*_dicts(text), *_lists(text), *_plain_lines(lines)]
+    for known in found:
         if isinstance(known, list) and len(known) != model.nodes:
             used = model.used() if used is None else used
             if len(known) != len(used):
@@ -118,7 +151,7 @@ def text_samples(model: Model, text: str) -> Iterator[Known]:
         elif isinstance(known, dict) and max(known) >= model.nodes:
             continue
         yield known
-    for known in text_assignments(lines, model.variables):
+    for known in [*text_assignments(lines, model.variables), *_named_values(model, lines)]:
         yield _on_chains(model, known)
 
 
@@ -160,7 +193,7 @@ def _columns(words: Sequence[str]) -> Optional[List[int]]:
 def _plain_lines(lines: Sequence[str]) -> Iterator[Known]:
     """The samples of tables, and of lines of bits or spins."""
     nodes: Optional[List[int]] = None
-    for words in map(str.split, lines):
+    for words in (line.translate(COMMAS).split() for line in lines):
         if not words or words[0] == 'v':
             continue
         nodes = _columns(words) or nodes
@@ -195,6 +228,26 @@ def text_assignments(lines: Sequence[str], variables: int) -> Iterator[Dict[int,
             known = {}
 
 
+def _named_values(model: Model, lines: Sequence[str]) -> Iterator[Dict[int, int]]:
+    """The assignments of lines as `x1=1 x2=0`; a name that comes again begins another."""
+    places: Dict[str, int] = {}
+    known: Dict[int, int] = {}
+    for line in lines:
+        if '=' not in line or NAMED.sub('', line.strip()):
+            continue
+        places = places or {str(name): at for at, name in enumerate(model.names())}
+        for name, value in NAMED.findall(line):
+            if name not in places or value not in VALUES:
+                raise PbisingError(f'{name}={value} is no bit of a variable, as '
+                                   f'{next(iter(places), "x1")}=1 is')
+            if places[name] in known:
+                yield known
+                known = {}
+            known[places[name]] = VALUES[value]
+    if known:
+        yield known
+
+
 def _on_chains(model: Model, known: Dict[int, int]) -> Dict[int, int]:
     """The bits of variables, on the qubits of a graph where the model has one."""
     if model.chains is None:
@@ -202,7 +255,7 @@ def _on_chains(model: Model, known: Dict[int, int]) -> Dict[int, int]:
     return {qubit: bit for node, bit in known.items() for qubit in model.chains[node]}
 
 
-def written(state: Iterable) -> str:
+def written(state: Iterable[Any]) -> str:
     """A state as a line."""
     return ''.join(['1' if bit else '0' for bit in state])
 

@@ -4,19 +4,19 @@ from __future__ import annotations
 import os
 from dataclasses import dataclass
 from functools import cached_property
-from pathlib import Path
-from typing import Any, Hashable, Iterable, List, Mapping, Optional, Sequence, Union
+from typing import Any, Dict, Hashable, Iterable, List, Mapping, Optional, Sequence, Union
 
 from .errors import PbisingError
-from .problems import Problem
-from .readers import FORMATS, read_problem
-from .texts import PathName, called, read_bytes
+from .keys import FORMATS, near
+from .problems import SourceProblem
+from .readers import read_problem
+from .texts import COMPRESSED, PathName, called, read_bytes, write_bytes
 
 Label = Hashable
 BITS = {1: 1, '1': 1, '+': 1, '+1': 1, 0: 0, -1: 0, '0': 0, '-': 0, '-1': 0}
 
 
-@dataclass
+@dataclass(repr=False)
 class Source:
     """A problem as the text of a file. The variables of the text may have labels."""
 
@@ -25,10 +25,18 @@ class Source:
     name: str = 'text'
     labels: Optional[List[Label]] = None
 
+    def __repr__(self) -> str:
+        return f'<Source {self.name}: {self.format}, {len(self.data)} bytes>'
+
     @cached_property
-    def problem(self) -> Problem:
+    def problem(self) -> SourceProblem:
         """What the text says; a text that is not in its format is a `TextError`."""
         return read_problem(self.format, self.data, self.name)
+
+    @property
+    def has_parts(self) -> bool:
+        """Whether there are clauses or constraints to break; no text is read for that."""
+        return self.format in ('wcnf', 'opb', 'wbo')
 
     @property
     def text(self) -> str:
@@ -44,11 +52,15 @@ class Source:
         if self.labels is not None:
             return self.labels
         if self.format == 'poly':
-            return list(self.problem.names)
+            return list(self.problem.names or ())
         count = range(self.problem.variables if variables is None else variables)
         if self.format in ('opb', 'wbo'):
             return [f'x{number + 1}' for number in count]
         return [number + 1 for number in count] if self.format == 'wcnf' else list(count)
+
+    def values(self, bits: Sequence[int]) -> Dict[Label, Any]:
+        """What an assignment says of each variable, by its name or label."""
+        return dict(zip(self.names(len(bits)), bits))
 
     def cost(self, assignment: Union[Mapping[Label, Any], Sequence[Any]]) -> Optional[int]:
         """What an assignment costs, exactly; None where that is infinite.
@@ -71,7 +83,7 @@ class Source:
 
     def write(self, name: PathName) -> None:
         """Writes the text to a file."""
-        Path(name).write_bytes(self.data)
+        write_bytes(name, self.data)
 
 
 def bits_of(values: Iterable[Any]) -> List[int]:
@@ -91,21 +103,42 @@ def bit_of(value: Any) -> int:
     raise PbisingError(f'{value!r} is no bit and no spin')
 
 
-def source_of(source: Union[Source, PathName], layout: Optional[str] = None) -> Source:
+def source_of(source: Any, layout: Optional[str] = None) -> Source:
     """A file, a text or a source as a source.
 
     A str with a line feed in it is a text, and any other the name of a file, of which the format is
     the ending where none is given.
     """
     if isinstance(source, Source):
+        if layout not in (None, source.format):
+            raise PbisingError(f'{source.name} has the format {source.format}, not {layout!r}')
         return source
     if isinstance(source, str) and '\n' in source:
         found = Source(source.encode(), layout or '')
+    elif isinstance(source, (str, os.PathLike)):
+        ending = format_of(source)
+        found = Source(read_bytes(source), layout or ending, called(source))
     else:
-        name = os.fspath(source)
-        ending = os.path.splitext(name)[1][1:]
-        found = Source(read_bytes(name), layout or ending, called(name))
+        raise PbisingError(f'a {type(source).__name__} is no file: from_qubo, from_ising, '
+                           'from_polynomial, from_constraints and from_bqm make problems of '
+                           'Python objects')
     if found.format not in FORMATS:
-        raise PbisingError(f'{found.name}: the format is one of {", ".join(FORMATS)}, '
-                           f'not {found.format!r}')
+        raise PbisingError(f'{found.name}: {_no_format(found.format)}')
     return found
+
+
+def format_of(name: PathName) -> str:
+    """The ending of a file's name, that of a compressed file before its last one."""
+    front, ending = os.path.splitext(os.fspath(name))
+    if ending in COMPRESSED:
+        ending = os.path.splitext(front)[1]
+    return ending[1:]
+
+
+def _no_format(word: str) -> str:
+    """What is wrong with a format."""
+    if word == 'cnf':
+        return ('a plain CNF weighs nothing: `from_cnf` and `pbising from-cnf` make a weighted '
+                'one; where it says `p wcnf`, the format is wcnf')
+    told = f'not {word!r}{near(word, FORMATS)}' if word else 'and the name has no ending'
+    return f'the format is one of {", ".join(FORMATS)}, {told}'

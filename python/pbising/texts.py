@@ -5,30 +5,61 @@ Names of files may be `-`, the standard input.
 """
 from __future__ import annotations
 
+import importlib
 import os
 import re
 import sys
 from typing import Iterable, Iterator, NoReturn, Optional, Sequence, Tuple, Union
 
-from .errors import PbisingError, TextError
+from .errors import PbisingError, ReadError, TextError
 
 PathName = Union[str, 'os.PathLike[str]']
 Token = Tuple[int, str]
 
+COMPRESSED = {'.gz': ('gzip', b'\x1f\x8b'), '.bz2': ('bz2', b'BZh'),
+              '.xz': ('lzma', b'\xfd7zXZ\0')}
 TOKEN = re.compile(r'[^ \t\r\n]+')
 NUMBER = re.compile(r'([+-]?)0*([0-9]+)(?:\.0*)?')
 BEYOND = 2 ** 64
 
 
 def read_bytes(name: PathName) -> bytes:
-    """The bytes of a file."""
+    """The bytes of a file, those that it was compressed of where it is, without a mark of UTF-8 at
+    the beginning."""
     try:
         if name == '-':
-            return sys.stdin.buffer.read()
-        with open(name, 'rb') as file:
-            return file.read()
-    except OSError as fault:
-        raise PbisingError(f'cannot read {name}: {fault.strerror or fault}') from None
+            data = sys.stdin.buffer.read()
+        else:
+            with open(name, 'rb') as file:
+                data = file.read()
+    except (OSError, ValueError) as fault:
+        raise ReadError(3, f'cannot read {name}: {getattr(fault, "strerror", None) or fault}') \
+            from None
+    for module, mark in COMPRESSED.values():
+        if data.startswith(mark):
+            data = _expanded(name, module, data)
+    return data[3:] if data.startswith(b'\xef\xbb\xbf') else data
+
+
+def _expanded(name: PathName, module: str, data: bytes) -> bytes:
+    """What compressed bytes are made of."""
+    try:
+        expanded: bytes = importlib.import_module(module).decompress(data)
+        return expanded
+    except ImportError:
+        raise PbisingError(f'{called(name)}: this Python has no module {module}') from None
+    except Exception:  # each module has errors of its own
+        raise PbisingError(f'{called(name)}: this is no whole file of {module}') from None
+
+
+def write_bytes(name: PathName, data: bytes) -> None:
+    """Writes a file."""
+    try:
+        with open(name, 'wb') as file:
+            file.write(data)
+    except (OSError, ValueError) as fault:
+        raise PbisingError(f'cannot write {name}: {getattr(fault, "strerror", None) or fault}') \
+            from None
 
 
 def text_of(data: bytes) -> str:

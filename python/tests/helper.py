@@ -1,7 +1,9 @@
 """What the tests share: where things are, and whether the program is there."""
 import contextlib
 import io
+import os
 import sys
+import tempfile
 import unittest
 from itertools import product
 from pathlib import Path
@@ -54,6 +56,7 @@ p ising 8 2 1
 4 4 -1
 0 4 -3
 """
+GRAPH = CHIMERA.replace('chimera 1 1 4', 'graph 8')
 
 
 def program():
@@ -66,6 +69,28 @@ def program():
 
 needs_program = unittest.skipUnless(
     program(), 'compile_program is not found: build it, or set PBISING_PROGRAM')
+
+
+class Array:
+    """What has a method `tolist`, as an array of numpy."""
+
+    def __init__(self, values):
+        self.values = values
+
+    def tolist(self):
+        return self.values
+
+    def __iter__(self):
+        return iter(self.values)
+
+
+def enter_folder(test):
+    """A folder of its own, which a test runs in."""
+    folder = tempfile.TemporaryDirectory()
+    test.addCleanup(folder.cleanup)
+    test.addCleanup(os.chdir, os.getcwd())
+    os.chdir(folder.name)
+    return Path(folder.name)
 
 
 def states(count):

@@ -60,7 +60,7 @@ class Commands(unittest.TestCase):
         status, out, _ = self.run_on('anneal', '@m.qubo', '--reads', '3', '--sweeps', '20')
         self.assertEqual((status, out.split('\n')[1]), (0, 'energy -6'))
         self.assertEqual(self.run_on('anneal', '@m.qubo', '--reads', '3', '--all')[1].count('\n'), 3)
-        self.good('state 0011\nenergy -6\ncost 0\nassignment -1 -2 3\n', 'least-state', '@m.qubo')
+        self.good('state 0011\nenergy -6\ncost 0\nassignment 001\n', 'least-state', '@m.qubo')
         self.good('widest: node 3 has 3 neighbours, and `solve` takes 16\n', 'widths', '@m.qubo')
         self.assertIn('greatest weight 4', self.run_on('info', '@m.qubo')[1])
         self.assertEqual(sorted(self.run_on('elimination-order', '@m.qubo')[1].split()),

@@ -2,7 +2,7 @@
 import unittest
 from types import SimpleNamespace
 
-from helper import CHIMERA, ISING, QUBO, states
+from helper import CHIMERA, GRAPH, ISING, QUBO, command, states
 
 from pbising import (PbisingError, certificate, chain_map, dead, draw, elimination_order, joins_of,
                      parse)
@@ -51,8 +51,23 @@ class Graphs(unittest.TestCase):
         picture = draw(model, [1, 0, 0, 0, 0, 0, 0, 0], [[7]], strengths=True)
         self.assertIn('node 0, broken', picture)
         self.assertTrue(picture.startswith('<svg') and picture.endswith('</svg>\n'))
-        with self.assertRaisesRegex(PbisingError, 'no model on a Chimera graph'):
+        with self.assertRaisesRegex(PbisingError, 'no model on a graph'):
             draw(parse(QUBO.encode()))
+
+    def test_a_picture_of_a_graph_that_is_a_list(self):
+        picture = draw(parse(GRAPH.encode()), [1, 0, 0, 0, 0, 0, 0, 0], strengths=True)
+        self.assertIn('node 0, broken', picture)
+        self.assertEqual((picture.count('<text'), picture.count('<line')), (4, 1))
+        many = ' '.join(map(str, range(65)))
+        rows = ''.join(f'{qubit} {qubit} 1\n' for qubit in range(65))
+        wide = f'c variables 1\nc graph 65\nc chain 0 {many}\np ising 65 65 0\n{rows}'
+        with self.assertRaisesRegex(PbisingError, '65 qubits, and a graph that is a list is drawn'):
+            draw(parse(wide.encode()))
+        status, out, err = command('draw', '-', given=GRAPH.encode())
+        self.assertEqual((status, out[:4], err), (0, '<svg', ''))
+        status, out, err = command('draw', '-', '--dead', 'list', given=GRAPH.encode())
+        self.assertEqual((status, out), (2, ''))
+        self.assertIn('dead parts are those of a Chimera graph', err)
 
 
 class Elimination(unittest.TestCase):

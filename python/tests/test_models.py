@@ -2,7 +2,7 @@
 import unittest
 from fractions import Fraction
 
-from helper import CHIMERA, ISING, QUBO, states
+from helper import CHIMERA, GRAPH, ISING, QUBO, command, states
 
 from pbising import PbisingError, TextError, anneal, completed, least_state, load, parse
 from pbising.exports import qpbo_notes, to_coo, to_qpbo
@@ -10,7 +10,7 @@ from pbising.exports import qpbo_notes, to_coo, to_qpbo
 
 class Reading(unittest.TestCase):
     def test_figures_and_rows(self):
-        model = parse(QUBO.encode())
+        model = parse(QUBO)
         self.assertEqual((model.kind, model.nodes, model.couplers, model.offset, model.variables),
                          ('qubo', 4, 6, -6, 3))
         self.assertEqual((model.cost(-6), model.above(-4), model.above(-3)), (0, False, True))
@@ -73,6 +73,22 @@ class Energies(unittest.TestCase):
         state = [1, 0, 0, 0, 0, 0, 0, 0]
         self.assertEqual((model.assignment(state), model.broken_chains(state)), ([1], [0]))
         self.assertEqual(model.used(), [0, 4])
+
+    def test_a_graph_that_is_a_list(self):
+        model, cells = parse(GRAPH.encode()), parse(CHIMERA.encode())
+        self.assertEqual((model.kind, model.shape, model.qubits, model.chains),
+                         ('graph', None, 8, [[0, 4]]))
+        self.assertEqual((cells.kind, cells.shape, cells.qubits), ('chimera', (1, 1, 4), 8))
+        self.assertIsNone(parse(ISING.encode()).qubits)
+        state = [0, 0, 0, 0, 1, 0, 0, 0]
+        self.assertEqual((model.assignment(state), model.broken_chains(state)), ([0], [0]))
+        self.assertIn('a list, 8 qubits', model._repr_html_())
+        with self.assertRaisesRegex(PbisingError, 'graph has 9 qubits, and the model 8'):
+            parse(GRAPH.replace('graph 8', 'graph 9').encode())
+        status, out, _ = command('info', '-', given=GRAPH.encode())
+        self.assertEqual((status, out.split('\n')[:5]),
+                         (0, ['kind graph', 'nodes 8', 'couplers 1', 'graph 8',
+                              'chains 1 of 2 qubits']))
 
     def test_sizes_and_precision(self):
         model = parse(QUBO.replace('0 0 -4', '0 0 0').encode())

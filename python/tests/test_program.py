@@ -9,7 +9,7 @@ from unittest import mock
 from helper import EXAMPLES, needs_program
 
 import pbising
-from pbising import (EmbeddingError, LimitError, Model, PbisingError, Problem, ProgramMissing,
+from pbising import (EmbeddingError, LimitError, Model, PbisingError, SourceProblem, ProgramMissing,
                      ProofError, StateError, TextError, UsageError, WidthError)
 from pbising.readers import read_problem
 
@@ -162,7 +162,7 @@ class Programs(unittest.TestCase):
 
     def test_what_is_broken_is_counted_once_and_where_it_is_asked_for(self):
         reading = mock.patch('pbising.sources.read_problem', side_effect=read_problem)
-        judging = mock.patch.object(Problem, 'judge', autospec=True, side_effect=Problem.judge)
+        judging = mock.patch.object(SourceProblem, 'judge', autospec=True, side_effect=SourceProblem.judge)
         counting = mock.patch.object(Model, 'energy', autospec=True, side_effect=Model.energy)
         with tempfile.TemporaryDirectory() as folder, self.program(folder, 'infinite'), \
                 reading as read, judging as judge, counting as energy:

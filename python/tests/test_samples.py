@@ -2,7 +2,7 @@
 import unittest
 from types import SimpleNamespace
 
-from helper import CHIMERA, QUBO
+from helper import CHIMERA, QUBO, Array
 
 from pbising import PbisingError, Source, parse
 from pbising.decoding import Decoding, decoded
@@ -10,19 +10,6 @@ from pbising.samples import first_state, states_of, text_samples
 
 BITS = [1, 0, 0, 1]
 SOURCE = Source(b'p wcnf 3 1\n2 1 2 3 0\n', 'wcnf')
-
-
-class Array:
-    """What has a method `tolist`, as an array of numpy."""
-
-    def __init__(self, values):
-        self.values = values
-
-    def tolist(self):
-        return self.values
-
-    def __iter__(self):
-        return iter(self.values)
 
 
 class Forms(unittest.TestCase):
