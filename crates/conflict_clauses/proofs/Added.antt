@@ -1,5 +1,5 @@
 -- Hard clauses that are added to a problem one after another.
-use Rattle.conflict_clauses.proofs.Common.{elements, nat_tests, ◌≡◌, ℕ, ◌+◌, ◌<◌, sym, ap, ◌∙◌, arith, List, [], ◌∷◌, ◌++◌, length, map, take, drop, get_or, suc, add-one, append_assoc, drop-cons, map-append, take_more, flat_map-append, Literal, ProblemContent, hard_clauses, pairs_of, alone, with_hard}
+use Rattle.conflict_clauses.proofs.Common.{ints, false, true, cond, append-nil, with_clause, with_cover, hard, cover_lists, is_cover, Constraint, elements, nat_tests, ◌≡◌, ℕ, ◌+◌, ◌<◌, sym, ap, ◌∙◌, arith, List, [], ◌∷◌, ◌++◌, length, map, take, drop, get_or, suc, add-one, append_assoc, drop-cons, map-append, take_more, flat_map-append, Literal, ProblemContent, hard_clauses, pairs_of, alone, with_hard}
 
 hard_clauses-append : (as' bs : List (List Literal))
     → hard_clauses (as' ++ bs) ≡ hard_clauses as' ++ hard_clauses bs
@@ -63,3 +63,24 @@ pairs-step q q' ls rest i l h is left added =
     (λ k. with_hard ((added ∙ (λ j. with_hard q (fronted l (map alone (left j))))) k) (pairs_of more))
     ∙ with_hard-append q (fronted l more) (pairs_of more)
     ∙ (λ k. with_hard q (pairs_of (map alone (sym first k))))
+
+-- ---- the clause of a cover
+
+-- a hard clause that is added adds nothing to the constant
+hard_added : (p : ProblemContent) (ls : List Literal)
+    → with_clause p (hard ls) ≡ with_hard p (ls ∷ [])
+hard_added p ls = grind (arith, nat_tests, ints, append-nil)
+
+pub cover_added : (p : ProblemContent) (k : Constraint) (ls : List Literal) → is_cover k ≡ true
+    → ls ∷ [] ≡ cover_lists k → with_clause p (hard ls) ≡ with_cover p k
+cover_added p k ls cover same =
+    hard_added p ls ∙ (λ i. with_hard p (same i))
+    ∙ (λ i. record p {
+      clauses = p.clauses ++ cond (sym cover i) (hard_clauses (cover_lists k)) [];
+    })
+
+pub none_added : (p : ProblemContent) (k : Constraint) → is_cover k ≡ false → p ≡ with_cover p k
+none_added p k none = λ i. record p {
+  clauses = (sym (append-nil p.clauses)
+      ∙ (λ j. p.clauses ++ cond (sym none j) (hard_clauses (cover_lists k)) [])) i;
+}

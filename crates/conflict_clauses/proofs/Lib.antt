@@ -2,6 +2,7 @@ pub mod Common
 pub mod Added
 pub mod Apart
 pub mod Finding
+pub mod Giving
 pub mod Lists
 pub mod Missing
 pub mod Replaced

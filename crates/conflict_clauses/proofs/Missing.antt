@@ -11,7 +11,7 @@ use Rattle.conflict_clauses.proofs.Lists.{list_any-map, lost, none_of, pairs_of-
 abbrev pub misses : List Bool → Product → Bool
 misses x t = none_of (holds x) (wanted t)
 
-holds-turned : (x : List Bool) (l : Literal)
+pub holds-turned : (x : List Bool) (l : Literal)
     → holds x (record l { negated = not l.negated }) ≡ not (holds x l)
 holds-turned x l = grind (arith, nat_tests)
 
@@ -83,7 +83,7 @@ pub parts_of : (k : Constraint) → is_conflict k ≡ true → Parts k
 parts_of k h = grind (arith, nat_tests)
 
 -- a hard clause of lists of literals fails where no literal of some list is true
-hard-fails : (x : List Bool) (lists : List (List Literal))
+pub hard-fails : (x : List Bool) (lists : List (List Literal))
     → list_any (fails_hard x) (hard_clauses lists) ≡ list_any (none_of (holds x)) lists
 hard-fails x lists = list_any-kept x (map hard lists) ∙ list_any-map (fails_hard x) hard lists
 

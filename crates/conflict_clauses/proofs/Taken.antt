@@ -1,5 +1,6 @@
 -- A constraint that is taken to be replaced: what it wants, and of which variables.
-use Rattle.conflict_clauses.proofs.Common.{All-filter, nat_tests, ◌≡◌, ℕ, zero, suc, ◌+◌, ◌<◌, ◌≤◌, Bool, true, not, leb, refl, sym, ap, ◌∙◌, arith, subst, List, [], ◌∷◌, ◌++◌, map, Some, ℤ, pos, negsuc, All, filter, list_all, slice_get, sum_by, and_parts, All-cons, All-head, All-map, All-nil, All-tail, All-weaker, sum_by-cons, Literal, Product, Constraint, IsNormalProduct, is_conflict, is_needed, is_single, most_pairs, pairs, pairs_of, wanted, wanted_literal, Found, AreWithin, IsFound, IsTaken, alone}
+use Rattle.conflict_clauses.proofs.Common.{IsCoverTaken, false, false≢true, is_cover, All-filter, nat_tests, ◌≡◌, ℕ, zero, suc, ◌+◌, ◌<◌, ◌≤◌, Bool, true, not, leb, refl, sym, ap, ◌∙◌, arith, subst, List, [], ◌∷◌, ◌++◌, map, Some, ℤ, pos, negsuc, All, filter, list_all, slice_get, sum_by, and_parts, All-cons, All-head, All-map, All-nil, All-tail, All-weaker, sum_by-cons, Literal, Product, Constraint, IsNormalProduct, is_conflict, is_needed, is_single, most_pairs, pairs, pairs_of, wanted, wanted_literal, Found, AreWithin, IsFound, IsTaken, alone}
+use Rattle.conflict_clauses.proofs.Giving.{cover_literals}
 use Rattle.conflict_clauses.proofs.Missing.{parts_of}
 
 -- ---- an element at a place
@@ -82,3 +83,28 @@ pub found_single : (spent : ℕ) (k : Constraint) (f : Found) → IsFound spent 
     → list_all is_single k.products ≡ true
 found_single spent k f h =
     (parts_of k (and_parts (is_conflict k) (leb (spent + pairs k) most_pairs) h.replaced).0).single
+
+-- ---- a cover
+
+-- two elements at one place are the same
+pub same_element : {A : Type 0} (xs : List A) (i : ℕ) (x y : A) → slice_get xs i ≡ Some x
+    → slice_get xs i ≡ Some y → x ≡ y
+same_element xs i x y at at' = let both = sym at ∙ at' in cc
+
+pub cover_taken : (variables : ℕ) (k : Constraint) (ls : List Literal) → is_cover k ≡ true
+    → All (IsNormalProduct variables) k.products
+    → map alone ls ≡ map wanted (filter (is_needed 0) k.products)
+    → IsCoverTaken variables k ls true
+cover_taken variables k ls cover normal same = record {
+  told = sym cover;
+  lists = λ e. cover_literals k ls cover same;
+  within = λ e. literals_within variables ls (is_needed 0) k.products normal same;
+}
+
+pub no_cover : (variables : ℕ) (k : Constraint) (ls : List Literal) → is_cover k ≡ false
+    → IsCoverTaken variables k ls false
+no_cover variables k ls none = record {
+  told = sym none;
+  lists = λ e. absurd (false≢true e);
+  within = λ e. absurd (false≢true e);
+}

@@ -1,16 +1,18 @@
--- Conflicts: constraints of which no two products may miss. Hard clauses can take their place.
+-- Conflicts and covers: constraints of which no two products may miss, and constraints that any one
+-- of their products makes hold. Hard clauses can take their place.
 --
 -- A product misses where a literal that it is wanted for is false: its own where its coefficient is
 -- positive, and the complement where it is negative. A constraint holds where the sizes of those
--- that miss sum to at most the room that it leaves.
-use Rattle.std.specs.Prelude.{◌≡◌, ℕ, ◌+◌, ◌-◌, ◌*◌, ◌/◌, ℤ, pos, negsuc, ◌-ℤ◌, int_lt, unsigned_abs, Bool, true, not, ◌&&◌, ◌==◌, nat_lt, nat_le, if◌then◌else◌, List, [], ◌∷◌, ◌++◌, length, map, None}
-use Rattle.std.specs.List.{filter, flat_map, list_all}
+-- that miss sum to at most the room that it leaves, and where the sizes of the others sum to what it
+-- needs.
+use Rattle.std.specs.Prelude.{◌≡◌, ℕ, ◌+◌, ◌-◌, ◌*◌, ◌/◌, ℤ, pos, negsuc, ◌-ℤ◌, neg_ℤ, int_lt, unsigned_abs, Bool, true, false, not, ◌&&◌, ◌||◌, ◌==◌, nat_lt, nat_le, if◌then◌else◌, List, [], ◌∷◌, ◌++◌, length, map, None}
+use Rattle.std.specs.List.{filter, flat_map, list_all, sum_by}
 use Rattle.base.specs.Sums.{positive_part}
 use Rattle.literal_lists.specs.declared.literal.Literal.{Literal}
 use Rattle.problem_form.specs.declared.terms.Product.{Product}
 use Rattle.problem_form.specs.declared.terms.Clause.{Clause}
 use Rattle.problem_form.specs.declared.terms.Constraint.{Constraint}
-use Rattle.problem_form.specs.Limits.{cost_size, own_upper, positive_total, upper}
+use Rattle.problem_form.specs.Limits.{cost_size, own_upper, positive_total, slack_bits, upper}
 use Rattle.problem_form.specs.NormalForm.{kept_clause}
 use Rattle.problem_form.specs.Problems.{ProblemContent, problem_cost}
 
@@ -48,16 +50,19 @@ are_apart room s t = nat_lt room (size s + size t)
 abbrev pub is_single : Product → Bool
 is_single t = length t.literals == 1
 
--- the most products of a conflict
+-- the most products of a conflict or a cover
 abbrev pub most_products : ℕ
 most_products = 1024
+
+-- no equation, of some products that are not too many
+abbrev pub is_short : Constraint → Bool
+is_short k =
+    not k.exact && nat_lt 0 (length k.products) && nat_le (length k.products) most_products
 
 -- no equation, of products of one literal each, that can hold and holds where no two miss at most
 abbrev pub is_conflict : Constraint → Bool
 is_conflict k =
-    not k.exact
-    && nat_lt 0 (length k.products)
-    && nat_le (length k.products) most_products
+    is_short k
     && list_all is_single k.products
     && not (int_lt (pos (positive_total k.products)) k.bound)
     && each_two (are_apart (room k)) k.products
@@ -101,13 +106,49 @@ pair_count n = n * (n - 1) / 2
 abbrev pub pairs : Constraint → ℕ
 pairs k = pair_count (length (others k))
 
+-- ---- covers
+
+-- the sizes of the negative coefficients
+abbrev pub negative_total : List Product → ℕ
+negative_total ts = sum_by (λ t. positive_part (neg_ℤ t.coefficient)) ts
+
+-- the least sum of products: that of the negative coefficients
+abbrev pub least_sum : List Product → ℤ
+least_sum ts = neg_ℤ (pos (negative_total ts))
+
+-- how far the bound of a constraint is above its least sum
+abbrev pub need : Constraint → ℕ
+need k = positive_part (k.bound -ℤ least_sum k.products)
+
+-- the product gives all of a need by itself
+abbrev pub gives : ℕ → Product → Bool
+gives n t = nat_le n (size t)
+
+-- how many nodes stand for the terms of a clause of so many literals
+abbrev pub clause_nodes : ℕ → ℕ
+clause_nodes n = (n - 1) / 2
+
+-- no equation, of products of one literal each, that needs something of which each product gives
+-- all, and whose clause takes no more nodes than it has slack bits
+abbrev pub is_cover : Constraint → Bool
+is_cover k =
+    is_short k
+    && list_all is_single k.products
+    && nat_lt 0 (need k)
+    && list_all (gives (need k)) k.products
+    && nat_le (clause_nodes (length k.products)) (slack_bits k)
+
+-- of which literals of a cover one is to be true: of all that its products are wanted for
+abbrev pub cover_lists : Constraint → List (List Literal)
+cover_lists k = flat_map wanted k.products ∷ []
+
 -- ---- a problem without them
 
 -- the most pairs of all conflicts that are replaced
 abbrev pub most_pairs : ℕ
 most_pairs = 2097152
 
--- whether a constraint is replaced, after so many pairs
+-- whether a constraint is replaced as a conflict, after so many pairs
 abbrev pub is_replaced : ℕ → Constraint → Bool
 is_replaced spent k = is_conflict k && nat_le (spent + pairs k) most_pairs
 
@@ -115,27 +156,48 @@ is_replaced spent k = is_conflict k && nat_le (spent + pairs k) most_pairs
 abbrev pub spent_after : ℕ → Constraint → ℕ
 spent_after spent k = if is_replaced spent k then spent + pairs k else spent
 
--- the clauses that take the place of a constraint, where it is replaced
-abbrev pub clauses_of : ℕ → Constraint → List Clause
-clauses_of spent k = if is_replaced spent k then hard_clauses (wanted_lists k) else []
+-- whether a constraint stays, after so many pairs: it is not replaced as a conflict nor, where
+-- covers are replaced too, as a cover
+abbrev pub is_left : Bool → ℕ → Constraint → Bool
+is_left covers spent k = not (is_replaced spent k || (covers && is_cover k))
+
+-- the clauses that take the place of a constraint, after so many pairs: those of a conflict or,
+-- where it is not replaced as one and covers are replaced too, that of a cover
+abbrev pub clauses_of : Bool → ℕ → Constraint → List Clause
+clauses_of covers spent k =
+    if is_replaced spent k
+    then hard_clauses (wanted_lists k)
+    else (if covers && is_cover k then hard_clauses (cover_lists k) else [])
 
 -- the clauses of all that are replaced, after so many pairs
-abbrev pub clauses_from : ℕ → List Constraint → List Clause
-clauses_from spent [] = []
-clauses_from spent (k ∷ ks) = clauses_of spent k ++ clauses_from (spent_after spent k) ks
+abbrev pub clauses_from : Bool → ℕ → List Constraint → List Clause
+clauses_from covers spent [] = []
+clauses_from covers spent (k ∷ ks) =
+    clauses_of covers spent k ++ clauses_from covers (spent_after spent k) ks
 
 -- the constraints that stay, after so many pairs
-abbrev pub constraints_from : ℕ → List Constraint → List Constraint
-constraints_from spent [] = []
-constraints_from spent (k ∷ ks) =
-    (if is_replaced spent k then [] else k ∷ []) ++ constraints_from (spent_after spent k) ks
+abbrev pub constraints_from : Bool → ℕ → List Constraint → List Constraint
+constraints_from covers spent [] = []
+constraints_from covers spent (k ∷ ks) =
+    (if is_left covers spent k then k ∷ [] else [])
+    ++ constraints_from covers (spent_after spent k) ks
+
+-- the problem with clauses, behind its own, in place of the conflicts that may be replaced and, where
+-- they are to be, of the covers
+abbrev pub without : Bool → ProblemContent → ProblemContent
+without covers p = record p {
+  clauses = p.clauses ++ clauses_from covers 0 p.constraints;
+  constraints = constraints_from covers 0 p.constraints;
+}
 
 -- the problem with clauses, behind its own, in place of the conflicts that may be replaced
 abbrev pub without_conflicts : ProblemContent → ProblemContent
-without_conflicts p = record p {
-  clauses = p.clauses ++ clauses_from 0 p.constraints;
-  constraints = constraints_from 0 p.constraints;
-}
+without_conflicts p = without false p
+
+-- the problem with clauses, behind its own, in place of the conflicts that may be replaced and of the
+-- covers
+abbrev pub without_covers : ProblemContent → ProblemContent
+without_covers p = without true p
 
 -- the same variables and bounds of the costs, and the same cost of every assignment
 pub record CostsAlike (p q : ProblemContent) : Type 0 where

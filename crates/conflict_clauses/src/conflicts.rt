@@ -4,12 +4,12 @@ ghost use Rattle.base.specs.Sums.{positive_part};
 ghost use Rattle.std.specs.List.{list_all};
 ghost use Rattle.problem_form.specs.Limits.{positive_total};
 ghost use Rattle.problem_form.specs.Problems.{constraint_total, products_total};
-ghost use Rattle.conflict_clauses.specs.Conflicts.{are_apart, each_two, is_needed, is_replaced, is_single, most_pairs, pair_count, room};
+ghost use Rattle.conflict_clauses.specs.Conflicts.{are_apart, each_two, is_needed, is_replaced, is_short, is_single, most_pairs, pair_count, room};
 ghost use Rattle.conflict_clauses.specs.Steps.{IsFound, may_conflict};
 
 use problem_form::{ConstraintRef, ProductRef, Products, positive_coefficients};
 
-/// The most products of a conflict.
+/// The most products of a conflict or a cover.
 const MOST_PRODUCTS: usize = 1024;
 
 /// The most pairs of all conflicts that are replaced.
@@ -21,10 +21,18 @@ fn is_single(product: ProductRef<'_>) -> bool
     product.literals.len() == 1
 }
 
-fn all_single(mut products: Products<'_>) -> bool
+pub(crate) fn all_single(mut products: Products<'_>) -> bool
     ensures { result ≡ list_all is_single products.entry }
 {
     products.all(is_single)
+}
+
+/// Whether a constraint is no equation, and has some products that are not too many.
+pub(crate) fn is_short(constraint: &ConstraintRef<'_>) -> bool
+    ensures { result ≡ is_short constraint.now }
+{
+    let count = constraint.products.len();
+    !constraint.exact && count > 0 && count <= MOST_PRODUCTS
 }
 
 /// Whether the sizes of any two products sum to more than the room.
@@ -68,8 +76,7 @@ fn room_of(constraint: &ConstraintRef<'_>) -> Option<u128>
     ensures few { IsSome result → length constraint.now.products ≤ 1024 }
     ensures small { IfSome result (λ room. room < 2 ^ 101) }
 {
-    let count = constraint.products.len();
-    if constraint.exact || count == 0 || count > MOST_PRODUCTS {
+    if !is_short(constraint) {
         return None;
     }
     room_above(constraint.products.again(), constraint.bound)
