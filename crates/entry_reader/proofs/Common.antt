@@ -14,7 +14,7 @@ pub use Rattle.whole_text.proofs.WordsAgain.{decimal_ink, signed_ink, number_fir
 unfoldable pub use Rattle.model_text.specs.Rows.{model_text}
 pub use Rattle.entry_reader.specs.declared.layout.Counts.{Counts}
 pub use Rattle.entry_reader.specs.Entries.{Listing}
-unfoldable pub use Rattle.entry_reader.specs.Entries.{node_at, one_fewer, counted, none_to_come, entries_at, header_at, entry_at, listing_of, wanted_at, topology_at, topology_of, count_at, reading}
+unfoldable pub use Rattle.entry_reader.specs.Entries.{node_at, one_fewer, counted, none_to_come, entries_at, header_at, entry_at, listing_of, wanted_at, topology_of, count_at, reading}
 pub use Rattle.problem_form.proofs.AddedParts.{products_add_up}
 pub use Rattle.entry_reader.specs.declared.layout.Layout.{Layout}
 pub use Rattle.entry_reader.specs.declared.layout.Listed.{Listed}

@@ -1,5 +1,5 @@
 -- The text of a model is read again: its comments are skipped, and its header and entries are read.
-use Rattle.entry_reader.proofs.Common.{rules, nat_tests, ◌≡◌, ℕ, suc, ◌+◌, ◌<◌, ◌≤◌, ◌^◌, ℤ, List, [], ◌∷◌, ◌++◌, length, map, Ok, refl, ap, ◌∙◌, arith, length-append, codes, count_by, AllByRecursion, decimal, length-map, count_by-le-length, Figures, Entry, Kind, Written, is_node, is_coupler, Word, word, tokens_of, end_line, IsInk, AreInk, tokens_after, words_then, decimal_ink, natural_again, Row, rows_text, figure_rows, chain_rows, graph_rows, header_row, entry_row, model_rows, model_text, IsRow, all_append, figures_are_rows, graph_are_rows, Layout, Counts, Listed, wanted_at, topology_at, topology_of, count_at, header_at, entries_at, listing_of, reading, layout_of, listed_of, TextsAreReadAgain}
+use Rattle.entry_reader.proofs.Common.{rules, nat_tests, ◌≡◌, ℕ, suc, ◌+◌, ◌<◌, ◌≤◌, ◌^◌, ℤ, List, [], ◌∷◌, ◌++◌, length, map, Ok, refl, ap, ◌∙◌, arith, length-append, codes, count_by, AllByRecursion, decimal, length-map, count_by-le-length, Figures, Entry, Kind, Written, is_node, is_coupler, Word, word, tokens_of, end_line, IsInk, AreInk, tokens_after, words_then, decimal_ink, natural_again, Row, rows_text, figure_rows, chain_rows, graph_rows, header_row, entry_row, model_rows, model_text, IsRow, all_append, figures_are_rows, graph_are_rows, Layout, Counts, Listed, wanted_at, topology_of, count_at, header_at, entries_at, listing_of, reading, layout_of, listed_of, TextsAreReadAgain}
 use Rattle.bits_model.specs.declared.output.Kind.TheVariants.{Qubo}
 use Rattle.entry_reader.proofs.RowsAgain.{IsComment, comments_skipped}
 use Rattle.entry_reader.proofs.EntriesAgain.{counts_of, entries_again}
@@ -56,7 +56,7 @@ header_again : (end line : ℕ) (kind : Kind) (nodes : ℕ) (es : List Entry) (r
     → AreFew nodes es
     → header_at (layout_of kind) end (map (word line) (header_row kind nodes es) ++ rest)
     ≡ Ok (counts_of nodes es, rest)
-unfolding header_at wanted_at topology_of topology_at count_at
+unfolding header_at wanted_at topology_of count_at
 header_again end line kind nodes es rest few =
     grind (arith, nat_tests, natural_again, count_by-le-length, counts_of)
 

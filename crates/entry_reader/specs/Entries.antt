@@ -3,7 +3,7 @@
 -- A reading goes through the words in order. The first word that cannot stand in its place makes
 -- the text bad, with a kind and the word's line. Lines have no other part in it: the header and an
 -- entry may span them.
-use Rattle.std.specs.Prelude.{◌≡◌, ◌<◌, ◌^◌, ℕ, ◌-◌, unsigned_abs, codes, ◌&&◌, ◌||◌, List, [], ◌∷◌, Result, Ok, Err, ◌==◌, nat_lt, bytes_eq, if◌then◌else◌}
+use Rattle.std.specs.Prelude.{◌≡◌, ◌<◌, ◌^◌, ℕ, Bool, ◌-◌, unsigned_abs, codes, ◌&&◌, ◌||◌, List, [], ◌∷◌, Result, Ok, Err, ◌==◌, nat_lt, bytes_eq, if◌then◌else◌}
 use Rattle.whole_text.specs.declared.faults.TextKind.TheVariants as kinds
 use Rattle.whole_text.specs.declared.faults.TextFault.{TextFault}
 use Rattle.whole_text.specs.declared.token.Style.TheVariants.{Plain}
@@ -23,29 +23,23 @@ pub record Listing : Type 0 where
 
 -- ---- the header: `p`, the words of the layout, and three numbers
 
--- this word, and what is left
-unfoldable pub wanted_at : ℕ → List ℕ → List Word → Result (List Word) TextFault
-wanted_at end bytes ws =
-    next_of end ws
-    >>= λ w. if bytes_eq w.0.bytes bytes then Ok w.1 else Err (fault kinds.Word w.0.line)
+-- what is left after a word that has to pass a test
+unfoldable pub wanted_at : ℕ → (List ℕ → Bool) → List Word → Result (List Word) TextFault
+wanted_at end passes ws =
+    next_of end ws >>= λ w. if passes w.0.bytes then Ok w.1 else Err (fault kinds.Word w.0.line)
 
 -- the word that names a layout
 abbrev pub name_of : Layout → List ℕ
 name_of Qubo = codes "qubo"
 name_of Ising = codes "ising"
 
--- `0` or `unconstrained`, and what is left
-unfoldable pub topology_at : ℕ → List Word → Result (List Word) TextFault
-topology_at end ws =
-    next_of end ws
-    >>= λ w.
-    if bytes_eq w.0.bytes (codes "0") || bytes_eq w.0.bytes (codes "unconstrained")
-    then Ok w.1
-    else Err (fault kinds.Word w.0.line)
+-- `0` or `unconstrained`
+abbrev pub is_topology : List ℕ → Bool
+is_topology bytes = bytes_eq bytes (codes "0") || bytes_eq bytes (codes "unconstrained")
 
 -- a topology follows the name of a QUBO alone
 unfoldable pub topology_of : Layout → ℕ → List Word → Result (List Word) TextFault
-topology_of Qubo end ws = topology_at end ws
+topology_of Qubo end ws = wanted_at end is_topology ws
 topology_of Ising end ws = Ok ws
 
 -- a number of at least 0, and what is left
@@ -58,8 +52,8 @@ count_at end ws = do
 -- the numbers of nodes, of node entries and of couplers, and what is left
 unfoldable pub header_at : Layout → ℕ → List Word → Result (Counts × List Word) TextFault
 header_at layout end ws = do
-  name ← wanted_at end (codes "p") ws
-  topology ← wanted_at end (name_of layout) name
+  name ← wanted_at end (bytes_eq (codes "p")) ws
+  topology ← wanted_at end (bytes_eq (name_of layout)) name
   numbers ← topology_of layout end topology
   nodes ← count_at end numbers
   entries ← count_at end nodes.1

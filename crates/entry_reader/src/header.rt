@@ -1,6 +1,6 @@
 //! The header of a text: `p`, the words of the layout, and the numbers of nodes, of node entries and
 //! of couplers.
-ghost use Rattle.std.specs.Prelude.{◌≡◌, ◌≤◌, length, OnOk};
+ghost use Rattle.std.specs.Prelude.{◌≡◌, ◌≤◌, bytes_eq, length, OnOk};
 ghost use Rattle.whole_text.specs.Steps.{GivesAlways};
 ghost use Rattle.entry_reader.specs.Entries.{name_of, wanted_at, topology_of, count_at, header_at};
 
@@ -11,11 +11,12 @@ use whole_text::{TextFault, TextKind, Words, fault, natural_word, next_word};
 #[inline(always)]
 #[tactic(auto, using(whole_text::proofs::Lengths::next_less), unfolding(crate::specs::Entries::wanted_at))]
 fn wanted(words: &mut Words<'_>, end: u64, bytes: &[u8]) -> Result<(), TextFault>
-    ensures read { GivesAlways (λ _. words.new) result (wanted_at end bytes.now words.old) }
+    ensures read { GivesAlways (λ _. words.new) result
+        (wanted_at end (bytes_eq bytes.now) words.old) }
     ensures shorter { OnOk result (length words.new ≤ length words.old) }
 {
     let word = next_word(words, end)?;
-    if word.bytes == bytes {
+    if bytes == word.bytes {
         Ok(())
     } else {
         Err(fault(TextKind::Word, word.line))
@@ -34,7 +35,7 @@ fn name_of(layout: Layout) -> &'static [u8]
 
 /// The topology, `0` or `unconstrained`, which a QUBO alone has.
 #[inline(always)]
-#[tactic(auto, using(whole_text::proofs::Lengths::next_less), unfolding(crate::specs::Entries::topology_at, crate::specs::Entries::topology_of))]
+#[tactic(auto, using(whole_text::proofs::Lengths::next_less), unfolding(crate::specs::Entries::wanted_at, crate::specs::Entries::topology_of))]
 fn topology_of(words: &mut Words<'_>, layout: Layout, end: u64) -> Result<(), TextFault>
     ensures read { GivesAlways (λ _. words.new) result (topology_of layout end words.old) }
     ensures shorter { OnOk result (length words.new ≤ length words.old) }

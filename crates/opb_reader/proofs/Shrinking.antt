@@ -1,6 +1,5 @@
 -- What is read leaves no more words than there were.
 use Rattle.opb_reader.proofs.Common.{nat_tests, ℕ, ◌<◌, ◌≤◌, Bool, ℤ, List, [], ◌∷◌, length, IfOk, arith, Word, Operator, is_operator, literals_at, product_at, term_at, sum_at, closed_at, comparison_at, constraint_at, constraints_at, WordsAreEnough, suc, Result, Ok, Listed, ◌>>=◌, Product, TextFault}
-use Rattle.whole_text.specs.declared.faults.TextKind.TheVariants as kinds
 use Rattle.opb_reader.proofs.Many.{Leaves, Shrinks, many_leaves, many_enough, many_all}
 
 -- ---- literals

@@ -2,7 +2,7 @@
 --
 -- A reading goes through the words in order. The first word that cannot stand in its place makes
 -- the text bad, with a kind and the word's line.
-use Rattle.std.specs.Prelude.{◌≡◌, ℕ, zero, suc, ◌+◌, ◌-◌, ◌^◌, ◌≤◌, nat_lt, nat_le, ℤ, codes, Bool, true, false, ◌&&◌, ◌||◌, List, [], ◌∷◌, ◌++◌, length, drop, slice_index, max, map, fold, flat_map, Option, Some, None, Result, Ok, Err, IfOk, ◌==◌, bytes_eq, if◌then◌else◌}
+use Rattle.std.specs.Prelude.{◌≡◌, ℕ, zero, suc, ◌+◌, ◌-◌, ◌^◌, ◌≤◌, nat_lt, nat_le, ℤ, codes, Bool, true, false, ◌&&◌, ◌||◌, List, [], ◌∷◌, ◌++◌, length, drop, slice_index, max, map, fold, flat_map, Option, Some, None, is_some, Result, Ok, Err, IfOk, ◌==◌, bytes_eq, if◌then◌else◌}
 use Rattle.std.specs.Option.{ok_or}
 use Rattle.whole_text.specs.declared.faults.TextKind.TheVariants as kinds
 use Rattle.whole_text.specs.declared.faults.TextFault.{TextFault}
@@ -56,8 +56,7 @@ operator_of bytes =
 
 -- `>=`, `<=` or `=`
 abbrev pub is_operator : List ℕ → Bool
-is_operator bytes =
-    bytes_eq bytes (codes ">=") || (bytes_eq bytes (codes "<=") || bytes_eq bytes (codes "="))
+is_operator bytes = is_some (operator_of bytes)
 
 -- `;`, which ends the objective and each constraint
 abbrev pub is_semicolon : List ℕ → Bool

@@ -11,7 +11,7 @@ pub use Rattle.problem_form.specs.Limits.{degree, clause_complements, negations,
 pub use Rattle.problem_form.proofs.KeptClauses.{kept_clause-size}
 pub use Rattle.sample_text.specs.Sample.{after, clause_words, drawn_clauses, line, seed, drawn_weight, variables_of, top_of, drawn_literal, header_words}
 unfoldable pub use Rattle.sample_text.specs.Sample.{sample_text}
-unfoldable pub use Rattle.wcnf_reader.specs.Wcnf.{weight_of, literal_at, literals_at, clause_at, wanted_word, header_number, at_line_end, top_at, header_at, clauses_at, older_of, reading_of_words, reading}
+unfoldable pub use Rattle.wcnf_reader.specs.Wcnf.{literal_at, literals_at, clause_at, wanted_word, header_number, at_line_end, top_at, header_at, clauses_at, older_of, reading_of_words, reading}
 unfoldable pub use Rattle.wcnf_reader.specs.Cost.{normal_reading}
 pub use Rattle.sample_text.specs.Read.{EachSampleIsRead}
 unfoldable pub use Rattle.std.specs.Fmt.{digits}

@@ -1,5 +1,5 @@
 -- The words of a sample text are read: its header, its clauses, and nothing more.
-use Rattle.sample_text.proofs.Common.{nat_tests, ints, ◌≡◌, ℕ, zero, suc, ◌+◌, ◌<◌, ◌≤◌, ◌^◌, ℤ, pos, List, [], ◌∷◌, ◌++◌, map, Some, Result, Ok, refl, sym, ap, ◌∙◌, arith, nat_abs, codes, decimal, signed_decimal, digits, ne_eqb, le-leb, TextFault, Word, word, tokens_of, ◌>>=◌, IsInk, AreInk, tokens_after, no_lines, words_then, decimal_ink, signed_ink, number_first, integer_again, natural_again, Header, Listed, Wcnf, weight_of, literal_at, literals_at, clause_at, wanted_word, header_number, at_line_end, top_at, header_at, clauses_at, older_of, reading_of_words, reading, seed, after, drawn_weight, drawn_literal, clause_words, drawn_clauses, header_words, variables_of, top_of, sample_text}
+use Rattle.sample_text.proofs.Common.{nat_tests, ints, ◌≡◌, ℕ, zero, suc, ◌+◌, ◌<◌, ◌≤◌, ◌^◌, ℤ, pos, List, [], ◌∷◌, ◌++◌, map, Some, Result, Ok, refl, sym, ap, ◌∙◌, arith, nat_abs, codes, decimal, signed_decimal, digits, ne_eqb, le-leb, TextFault, Word, word, tokens_of, ◌>>=◌, IsInk, AreInk, tokens_after, no_lines, words_then, decimal_ink, signed_ink, number_first, integer_again, natural_again, Header, Listed, Wcnf, literal_at, literals_at, clause_at, wanted_word, header_number, at_line_end, top_at, header_at, clauses_at, older_of, reading_of_words, reading, seed, after, drawn_weight, drawn_literal, clause_words, drawn_clauses, header_words, variables_of, top_of, sample_text}
 use Rattle.whole_text.specs.declared.token.Style.TheVariants.{Plain}
 use Rattle.wcnf_reader.specs.declared.layout.ClauseLayout.TheVariants.{Older}
 use Rattle.sample_text.proofs.Sizes.{weight_small}
@@ -129,7 +129,7 @@ tokens_again n (suc count) variables top state h =
 clause_again : (variables top state end n : ℕ) (ws : List Word) → IsLawful variables top
     → clause_at (Older (Some top)) (Some variables) end (word n (decimal (drawn_weight top state)))
     (map (word n) (later_words variables state) ++ ws) ≡ Ok (listed_clause variables top state, ws)
-unfolding clause_at weight_of
+unfolding clause_at
 clause_again variables top state end n ws h =
     grind (arith, nat_tests, natural_again, weight_small, literals_again, literal_drawn)
 

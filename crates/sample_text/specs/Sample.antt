@@ -1,5 +1,5 @@
 -- Sample texts: weighted clauses that are drawn from a number.
-use Rattle.std.specs.Prelude.{ℕ, zero, suc, ◌+◌, ◌*◌, ◌/◌, ◌%◌, ◌==◌, ℤ, pos, neg_ℤ, List, [], ◌∷◌, ◌++◌, codes, if◌then◌else◌}
+use Rattle.std.specs.Prelude.{ℕ, zero, suc, ◌+◌, ◌*◌, ◌/◌, ◌%◌, ◌==◌, ℤ, pos, neg_ℤ, List, [], ◌∷◌, ◌++◌, map, codes, if◌then◌else◌}
 use Rattle.std.specs.Fn.{iterate}
 use Rattle.std.specs.List.{flat_map, join_with_byte}
 use Rattle.std.specs.Fmt.{decimal, signed_decimal}
@@ -37,12 +37,7 @@ line words = join_with_byte 32 words ++ 10 ∷ []
 -- a clause of three literals: its weight, the literals, and the 0 that ends it, as `4 1 -2 3 0`
 abbrev pub words_of_clause : ℕ → ℤ → ℤ → ℤ → List (List ℕ)
 words_of_clause weight first second third =
-    decimal weight
-    ∷ signed_decimal first
-    ∷ signed_decimal second
-    ∷ signed_decimal third
-    ∷ codes "0"
-    ∷ []
+    decimal weight ∷ map signed_decimal (first ∷ second ∷ third ∷ []) ++ codes "0" ∷ []
 
 -- seven draws: a clause of three literals
 abbrev pub clause_words : ℕ → ℕ → ℕ → List (List ℕ)

@@ -1,6 +1,6 @@
 //! The first line of a text that is a state.
 //!
-//! A line that is no state takes no memory: it is judged where it stands in the text.
+//! A line is judged where it stands in the text, and only of the first that is a state are bits made.
 
 ghost use Rattle.std.specs.Prelude.{◌≡◌, ◌≤◌, length, map, IfOk, IsErrOf, None, Some};
 ghost use Rattle.std.specs.List.{list_all, suffix_len};

@@ -1,5 +1,5 @@
 -- What a weighted CNF text costs, before any normal form, and the problem that it becomes.
-use Rattle.std.specs.Prelude.{◌≡◌, ℕ, ◌-◌, ℤ, pos, negsuc, nat_abs, Bool, false, not, ◌&&◌, List, map, Option, Some, None, is_none, unwrap_or, Result, Ok, nat_le, if◌then◌else◌}
+use Rattle.std.specs.Prelude.{◌≡◌, ℕ, ◌-◌, ℤ, pos, negsuc, int_lt, nat_abs, Bool, false, not, ◌&&◌, List, map, Option, Some, None, is_none, unwrap_or, Result, Ok, nat_le, if◌then◌else◌}
 use Rattle.std.specs.List.{list_any, slice_index_or}
 use Rattle.base.specs.Sums.{total_by, if_so}
 use Rattle.base.specs.declared.costs.Cost.{Cost}
@@ -57,11 +57,7 @@ form_of s = record { bits = s.variables; cost = wcnf_cost s }
 
 -- literal k stands for variable k - 1, and -k for its complement
 abbrev pub literal_of : ℤ → Literal
-literal_of z = record { variable = nat_abs z - 1; negated = is_negative z }
-  where
-    is_negative : ℤ → Bool
-    is_negative (pos k) = false
-    is_negative _ = not false
+literal_of z = record { variable = nat_abs z - 1; negated = int_lt z (pos 0) }
 
 -- the clause of these literals, hard or with its weight
 abbrev pub clause_of : ClauseLayout → Listed → Clause

@@ -36,10 +36,6 @@ pub record Wcnf : Type 0 where
 
 -- ---- the clauses: a weight or `h`, literals, and a number of value 0
 
--- a weight, as the first word of a clause
-unfoldable pub weight_of : Word → Result (Option ℕ) TextFault
-weight_of w = natural_at 0 w >>= λ n. Ok (Some n)
-
 -- `h` or a weight; what is neither `h` nor a number is another word than is needed
 unfoldable pub mark_of : Word → Result (Option ℕ) TextFault
 mark_of w =
@@ -48,9 +44,9 @@ mark_of w =
     else (ok_or (number_of w.bytes) (fault kinds.Word w.line)
     >>= λ z. from_least 0 w.line z >>= λ n. Ok (Some n))
 
--- the first word of a clause
+-- the first word of a clause: a weight, or a mark
 abbrev pub first_of : ClauseLayout → Word → Result (Option ℕ) TextFault
-first_of (Older top) w = weight_of w
+first_of (Older top) w = natural_at 0 w >>= λ n. Ok (Some n)
 first_of WithoutHeader w = mark_of w
 
 -- a literal of one of so many variables, or 0; without a count, any number

@@ -42,7 +42,6 @@ fn mark(word: WordRef<'_>) -> Result<Option<u64>, TextFault>
 
 /// The weight of a clause, from its first word. `None` for a hard clause.
 #[inline(always)]
-#[tactic(auto, unfolding(crate::specs::Wcnf::weight_of))]
 fn weight(word: WordRef<'_>, layout: ClauseLayout) -> Result<Option<u64>, TextFault>
     ensures { GivesAlways (λ weight. weight) result (weight_read layout (word_of word.entry)) }
 {
