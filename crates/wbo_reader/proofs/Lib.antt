@@ -12,6 +12,7 @@ pub mod Copied
 pub mod Added
 pub mod Steps
 pub mod Whole
+pub mod Within
 pub mod Paid
 pub mod Fronts
 pub mod Indices

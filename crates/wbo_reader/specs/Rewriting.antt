@@ -9,7 +9,8 @@ use Rattle.problem_form.specs.declared.terms.Product.{Product}
 use Rattle.problem_form.specs.declared.terms.Constraint.{Constraint}
 use Rattle.problem_form.specs.Problems.{ProblemContent, fails, negated, no_penalties, problem_cost, problem_size}
 use Rattle.problem_form.specs.Problems as problems
-use Rattle.problem_form.specs.Limits.{positive_total, own_upper, upper}
+use Rattle.problem_form.specs.Limits.{cost_size, positive_total, own_upper, upper}
+use Rattle.problem_form.specs.NormalForm.{with_most}
 use Rattle.problem_form.specs.Fields.{IsSound}
 use Rattle.wbo_reader.specs.declared.soft.Soft.{Soft}
 use Rattle.wbo_reader.specs.Wbo.{WboContent, wbo_cost, form_of, IsNormalSource, IsWbo}
@@ -129,6 +130,51 @@ rewritten s = record {
   penalties = no_penalties;
 }
 
+-- ---- the top as a bound
+
+-- one less than the top, where a sum reaches it
+abbrev pub top_bound : Option ℕ → ℕ → Option ℤ
+top_bound None sum = None
+top_bound (Some top) sum = if nat_le top sum then Some (pos top -ℤ pos 1) else None
+
+-- the most that the weights of the bits that are 1 may sum to, where the top says anything
+abbrev pub top_most : WboContent → Option ℤ
+top_most s = top_bound s.top (sum_by (λ k. k.weight) s.soft)
+
+-- the same for a problem whose objective has the weights alone
+abbrev pub most_within : ProblemContent → Option ℕ → Option ℤ
+most_within p None = None
+most_within p (Some top) =
+    if int_lt (own_upper p) (pos top) then None else Some (pos top -ℤ pos 1)
+
+-- the problem with a bit for each soft constraint, without what the top asks for
+abbrev pub untopped : WboContent → ProblemContent
+untopped s = record {
+  variables = s.variables + length s.soft;
+  constant = pos 0;
+  objective = weighed_bits s.variables s.soft;
+  clauses = [];
+  constraints = rows_of s;
+  most = None;
+  penalties = no_penalties;
+}
+
+-- the problem with a bit for each soft constraint, and a bound in place of the top's constraint
+abbrev pub rewritten_within : WboContent → ProblemContent
+rewritten_within s = with_most (untopped s) (top_most s)
+
+-- the problem with a bit for each soft constraint, with the top as a bound or as a constraint
+abbrev pub topped : Bool → WboContent → ProblemContent
+topped within s = if within then rewritten_within s else rewritten s
+
+-- the lesser of two bounds, where both are given, and else the one that is
+abbrev pub lesser_most : Option ℤ → Option ℤ → Option ℤ
+lesser_most None b = b
+lesser_most (Some a) None = Some a
+lesser_most (Some a) (Some b) = Some (if int_lt a b then a else b)
+
+-- ---- its assignments
+
 -- the assignment, and which soft constraints fail under it
 abbrev pub extended : WboContent → List Bool → List Bool
 extended s x = x ++ map (λ k. fails x k.constraint) s.soft
@@ -151,6 +197,20 @@ pub record IsCarried (s : WboContent) (x : List Bool) : Type 0 where
 abbrev pub CarriesAssignments : Type 0
 CarriesAssignments =
     (s : WboContent) → IsNormalSource s → (x : List Bool) → IsOf (form_of s) x → IsCarried s x
+
+-- with the top as a bound the problem has the same variables and the same bounds of the costs without
+-- a most; and with any most each assignment costs the same
+pub record IsWithin (s : WboContent) : Type 0 where
+  pub variables : (rewritten_within s).variables ≡ (rewritten s).variables
+  pub size : cost_size (rewritten_within s) ≡ cost_size (rewritten s)
+  pub own_upper : own_upper (rewritten_within s) ≡ own_upper (rewritten s)
+  pub costs : (most : Option ℤ) (x : List Bool)
+      → problem_cost (with_most (rewritten_within s) (lesser_most most (top_most s))) x
+      ≡ problem_cost (with_most (rewritten s) most) x
+
+-- the top may be a bound in place of a constraint
+abbrev pub TopIsABound : Type 0
+TopIsABound = (s : WboContent) → IsWithin s
 
 -- the rewritten problem is in normal form, with sizes that a problem may have
 abbrev pub RewrittenIsSound : Type 0

@@ -10,16 +10,19 @@ ghost use Rattle.wbo_reader.specs.Rewriting.{
   CarriesAssignments,
   RewritesItsSource,
   RewrittenIsSound,
+  TopIsABound,
   UpperIsSoftWeights,
 };
 
 /// The rewritten problem stands for its source, the extension of each assignment costs what the
-/// assignment does, and no whole cost is above the sum of the soft weights.
+/// assignment does, and no whole cost is above the sum of the soft weights. The top may be a bound
+/// in place of a constraint.
 pub fn laws_of_rewriting()
     ensures rewrites { RewritesItsSource }
     ensures carries { CarriesAssignments }
     ensures sound { RewrittenIsSound }
     ensures upper { UpperIsSoftWeights }
+    ensures bound { TopIsABound }
 {}
 
 /// A state that extends a list of a rewritten form extends an assignment of the form.

@@ -2,9 +2,10 @@
 //! each source is rewritten to.
 //!
 //! A text goes in as bytes or as words, and out comes its source in normal form, or its first
-//! fault. `rewrite` gives a source's problem, which has a bit for each soft constraint, and
-//! `extend` an assignment's list of as many bits. The constraints of a source lie flat, and one list
-//! of literals and one of products serve for all that are read or rewritten.
+//! fault. `rewrite` gives a source's problem, which has a bit for each soft constraint,
+//! `rewrite_within` the same with its top as a bound, and `extend` an assignment's list of as many
+//! bits. The constraints of a source lie flat, and one list of literals and one of products serve
+//! for all that are read or rewritten.
 #![tactic(auto)]
 
 mod copying;

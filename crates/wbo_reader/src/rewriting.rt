@@ -1,9 +1,9 @@
 //! The problem that a source of soft constraints is rewritten to.
-ghost use Rattle.std.specs.Prelude.{◌≡◌, ◌+◌, ◌<◌, ◌^◌, ◌∷◌, [], false, pos, length, IfOk, OnOk};
+ghost use Rattle.std.specs.Prelude.{◌≡◌, ◌+◌, ◌<◌, ◌^◌, ◌∷◌, [], false, pos, length, unsigned_abs, IfOk, IfSome, OnOk};
 ghost use Rattle.problem_form.specs.Problems.{constraint_total};
 ghost use Rattle.problem_form.specs.Fields.{IsSound};
 ghost use Rattle.problem_form.specs.NormalForm.{blank};
-ghost use Rattle.wbo_reader.specs.Rewriting.{bit_product, eased, eased_row, rewritten, rows_of, top_row, weighed_bits, with_products, with_rows};
+ghost use Rattle.wbo_reader.specs.Rewriting.{bit_product, eased, eased_row, most_within, rewritten, topped, rewritten_within, rows_of, top_row, untopped, weighed_bits, with_products, with_rows};
 
 use crate::copying::{copy_products, ease, put};
 use crate::soft::SoftList;
@@ -127,6 +127,18 @@ fn add_top(
     put(problem, written)
 }
 
+/// One less than the top, where the objective has the weights, and they can be as many.
+fn most_within(problem: &Problem, top: Option<u64>) -> Option<i128>
+    ensures value { result ≡ most_within problem.now top }
+    ensures small { IfSome result (λ n. unsigned_abs n < 2 ^ 64) }
+{
+    let top = i128::from(top?);
+    if problem.own_upper() < top {
+        return None;
+    }
+    Some(top - 1)
+}
+
 impl Wbo {
     /// Adds what stands for each constraint, in the order of the text.
     fn add_rows(
@@ -159,20 +171,40 @@ impl Wbo {
         Ok(())
     }
 
-    /// Adds the source to a problem that says nothing: a bit for each soft constraint, with its
-    /// weight, then the rows, and last that of the top.
-    fn fill(
+    /// Adds the source but for its top to a problem that says nothing: a bit for each soft
+    /// constraint, with its weight, then the rows.
+    fn fill_rows(
         &self,
         problem: &mut Problem,
         written: &mut Constraint,
         literals: &mut Vec<Literal>,
     ) -> Result<(), NoMemory>
         requires { problem.old ≡ blank }
-        ensures { OnOk result (problem.new ≡ rewritten self.now) }
+        ensures { OnOk result (problem.new ≡ untopped self.now) }
     {
         problem.widen(self.variables + self.soft.len() as u64);
         add_weights(problem, self.variables, &self.soft)?;
-        self.add_rows(problem, written, literals)?;
+        self.add_rows(problem, written, literals)
+    }
+
+    /// Adds the source to a problem that says nothing: the rows, and then the top as a bound, or as
+    /// a constraint that stands last.
+    fn fill(
+        &self,
+        problem: &mut Problem,
+        written: &mut Constraint,
+        literals: &mut Vec<Literal>,
+        within: bool,
+    ) -> Result<(), NoMemory>
+        requires { problem.old ≡ blank }
+        ensures { OnOk result (problem.new ≡ topped within self.now) }
+    {
+        self.fill_rows(problem, written, literals)?;
+        if within {
+            let most = most_within(problem, self.top);
+            problem.cut_off(most);
+            return Ok(());
+        }
         match self.top {
             Some(top) => add_top(problem, written, literals, top),
             None => Ok(()),
@@ -180,9 +212,9 @@ impl Wbo {
     }
 
     /// Adds the source to a problem that says nothing, with lists of its own to write in.
-    fn fill_anew(&self, alloc: Global, problem: &mut Problem) -> Result<(), NoMemory>
+    fn fill_anew(&self, alloc: Global, problem: &mut Problem, within: bool) -> Result<(), NoMemory>
         requires { problem.old ≡ blank }
-        ensures { OnOk result (problem.new ≡ rewritten self.now) }
+        ensures { OnOk result (problem.new ≡ topped within self.now) }
     {
         let mut literals = Vec::new(alloc);
         let mut written = Constraint {
@@ -190,7 +222,7 @@ impl Wbo {
             bound: 0,
             exact: false,
         };
-        self.fill(problem, &mut written, &mut literals)
+        self.fill(problem, &mut written, &mut literals, within)
     }
 
     /// The problem with a bit for each soft constraint, whose constraints stand in the order of the
@@ -199,7 +231,16 @@ impl Wbo {
         ensures { IfOk result (λ problem. problem ≡ rewritten self.now) }
     {
         let mut problem = Problem::new(alloc);
-        self.fill_anew(alloc, &mut problem)?;
+        self.fill_anew(alloc, &mut problem, false)?;
+        Ok(problem)
+    }
+
+    /// The same with a bound in place of the constraint of the top: an assignment may cost one less.
+    pub fn rewrite_within(&self, alloc: Global) -> Result<Problem, NoMemory>
+        ensures { IfOk result (λ problem. problem ≡ rewritten_within self.now) }
+    {
+        let mut problem = Problem::new(alloc);
+        self.fill_anew(alloc, &mut problem, true)?;
         Ok(problem)
     }
 }
