@@ -29,7 +29,7 @@ factor-above normals.Multilinear n = power-above n
 product-above : (a b : ℕ) → 1 ≤ a → 1 ≤ b → 1 ≤ a * b
 product-above a b h k = omega (arith, mul-le-mul_left a k)
 
-square_is : (r : ℕ) → r * r ≡ r ^ 2
+pub square_is : (r : ℕ) → r * r ≡ r ^ 2
 square_is r = sym (rw (pow-suc, pow-suc, pow-zero) (omega arith))
 
 square-above : (a : ℕ) → 1 ≤ a → 1 ≤ a ^ 2

@@ -10,7 +10,7 @@ use Rattle.local_penalties.proofs.Flips.{products-rise, missing-le}
 use Rattle.local_penalties.proofs.Mending.{clauses-rise, constraints-rise, fails-missing, whole-clauses, whole-constraints}
 use Rattle.local_penalties.proofs.Reasons.{ClausesMended, ConstraintsMended, mended-rule}
 use Rattle.local_penalties.proofs.Found.{FoundClause, find-clause}
-use Rattle.local_penalties.proofs.FoundAlone.{FoundConstraint, find-constraint}
+use Rattle.local_penalties.proofs.FoundConstraint.{FoundConstraint, find-constraint}
 
 -- ---- a literal that mends
 
@@ -25,40 +25,61 @@ added p n found x =
     sum_of x p.objective +ℤ clause_prices x n found.clauses p.clauses
     +ℤ constraint_prices x n found.constraints p.constraints
 
--- a literal that is false, whose price is less than the penalty of the whole, and that takes what is
--- added down
+-- the price but for what constraints add
+abbrev elsewhere_by : ProblemContent → ℕ → PartPenalties → Literal → ℕ
+elsewhere_by p n found l = rise p l + clause_charges n found.clauses p.clauses l
+
+-- some part is broken that has the penalty of the whole
+abbrev whole_broken : ProblemContent → ℕ → PartPenalties → List Bool → Bool
+whole_broken p n found x =
+    some_whole (fails_hard x) n found.clauses p.clauses || some_whole (fails x) n found.constraints p.constraints
+
+-- a literal that is false, breaks no part that has the penalty of the whole, and takes what is added
+-- down
 record Gains (p : ProblemContent) (n : ℕ) (found : PartPenalties) (x : List Bool) : Type 0 where
   pub literal : Literal
   pub within : literal.variable < length x
   pub untrue : holds x literal ≡ false
-  pub below : price_by p n found literal < n
+  pub kept : whole_broken p n found (made_true x literal) ≡ false
   pub less : (added p n found (made_true x literal) +ℤ pos 1) ≤ℤ added p n found x
 
-by-clause : (p : ProblemContent) (n : ℕ) (found : PartPenalties) (x : List Bool)
+both-none : (a b : Bool) → a ≡ false → b ≡ false → (a || b) ≡ false
+both-none a b e h = grind (arith, nat_tests)
+
+by-clause : (p : ProblemContent) (n : ℕ) (found : PartPenalties) (x : List Bool) → n ≤ far
     → All (λ k. n * most_missing k ^ 2 ≤ far) p.constraints
+    → some_whole (fails_hard x) n found.clauses p.clauses ≡ false
+    → some_whole (fails x) n found.constraints p.constraints ≡ false
     → FoundClause x (price_by p n found) n found.clauses p.clauses → Gains p n found x
-by-clause p n found x small mends =
-    let products = products-rise x mends.literal p.objective mends.within in
-    let constraints = constraints-rise x mends.literal n found.constraints p.constraints mends.within small in
+by-clause p n found x small squares no_clause no_constraint mends =
+    let l = mends.literal in
+    let products = products-rise x l p.objective mends.within in
+    let constraints = constraints-rise x l n found.constraints p.constraints mends.within squares in
     record {
-      literal = mends.literal;
+      literal = l;
       within = mends.within;
       untrue = mends.untrue;
-      below = omega (arith, mends.below, mends.least);
+      kept = both-none _ _
+          (whole-clauses x l n found.clauses p.clauses mends.within no_clause (omega (arith, mends.below, mends.least, small)))
+          (whole-constraints x l n found.constraints p.constraints mends.within no_constraint
+          (omega (arith, mends.below, mends.least, small)));
       less = omega (arith, ints, products, constraints, mends.gain, mends.below);
     }
 
 by-constraint : (p : ProblemContent) (n : ℕ) (found : PartPenalties) (x : List Bool) → n ≤ far
-    → FoundConstraint x (price_by p n found) n found.constraints p.constraints → Gains p n found x
-by-constraint p n found x small mends =
-    let products = products-rise x mends.literal p.objective mends.within in
-    let clauses = clauses-rise x mends.literal n found.clauses p.clauses mends.within small in
+    → some_whole (fails_hard x) n found.clauses p.clauses ≡ false
+    → FoundConstraint x (elsewhere_by p n found) n found.constraints p.constraints → Gains p n found x
+by-constraint p n found x small no_clause mends =
+    let l = mends.literal in
+    let products = products-rise x l p.objective mends.within in
+    let clauses = clauses-rise x l n found.clauses p.clauses mends.within small in
     record {
-      literal = mends.literal;
+      literal = l;
       within = mends.within;
       untrue = mends.untrue;
-      below = omega (arith, mends.below, mends.least);
-      less = omega (arith, ints, products, clauses, mends.gain, mends.below);
+      kept = both-none _ _
+          (whole-clauses x l n found.clauses p.clauses mends.within no_clause (omega (arith, mends.finite))) mends.kept;
+      less = omega (arith, ints, products, clauses, mends.gain);
     }
 
 none-left : (a b : Bool) → (a || b) ≡ false → (a ≡ false) × (b ≡ false)
@@ -73,7 +94,7 @@ find : (p : ProblemContent) (n : ℕ) (found : PartPenalties) (x : List Bool) �
     → All (IsNormalClause (length x)) p.clauses
     → All (λ k. All (IsNormalProduct (length x)) k.products) p.constraints
     → ClausesMended (price_by p n found) n found.clauses p.clauses
-    → ConstraintsMended (price_by p n found) n found.constraints p.constraints
+    → ConstraintsMended (elsewhere_by p n found) n found.constraints p.constraints
     → (list_any (fails_hard x) p.clauses || list_any (fails x) p.constraints) ≡ true
     → some_whole (fails_hard x) n found.clauses p.clauses ≡ false
     → some_whole (fails x) n found.constraints p.constraints ≡ false
@@ -83,27 +104,12 @@ find p n found x small squares clauses constraints clauses_mended constraints_me
   where
     decide : (b : Bool) → list_any (fails_hard x) p.clauses ≡ b → Gains p n found x
     decide true e =
-        by-clause p n found x squares
+        by-clause p n found x small squares none_clause none_constraint
         (find-clause x (price_by p n found) n found.clauses p.clauses small clauses e none_clause clauses_mended)
     decide false e =
-        by-constraint p n found x small
-        (find-constraint x (price_by p n found) n found.constraints p.constraints squares constraints
+        by-constraint p n found x small none_clause
+        (find-constraint x (elsewhere_by p n found) n found.constraints p.constraints small squares constraints
         (some-right (list_any (fails_hard x) p.clauses) (list_any (fails x) p.constraints) e broken) none_constraint constraints_mended)
-
-both-none : (a b : Bool) → a ≡ false → b ≡ false → (a || b) ≡ false
-both-none a b e h = grind (arith, nat_tests)
-
--- no part that has the penalty of the whole is broken after it
-keeps-whole : (p : ProblemContent) (n : ℕ) (found : PartPenalties) (x : List Bool) (l : Literal) → n ≤ far
-    → l.variable < length x → price_by p n found l < n
-    → some_whole (fails_hard x) n found.clauses p.clauses ≡ false
-    → some_whole (fails x) n found.constraints p.constraints ≡ false
-    → (some_whole (fails_hard (made_true x l)) n found.clauses p.clauses
-    || some_whole (fails (made_true x l)) n found.constraints p.constraints) ≡ false
-keeps-whole p n found x l small within below clauses constraints =
-    both-none _ _
-    (whole-clauses x l n found.clauses p.clauses within clauses (omega (arith, below)))
-    (whole-constraints x l n found.constraints p.constraints within constraints (omega (arith, below)))
 
 -- ---- where the penalty of the whole passes 64 bits
 
@@ -167,7 +173,7 @@ at-penalty p found x l n is size within untrue kept less =
 mends : (p : ProblemContent) (found : PartPenalties) (x : List Bool) (n : ℕ) → n ≡ penalty p → n ≤ far
     → length x ≡ p.variables → All (λ k. n * most_missing k ^ 2 ≤ far) p.constraints → IsNormal p
     → ClausesMended (price_by p n found) n found.clauses p.clauses
-    → ConstraintsMended (price_by p n found) n found.constraints p.constraints
+    → ConstraintsMended (elsewhere_by p n found) n found.constraints p.constraints
     → breaks_part (with_penalties p found) x ≡ true → breaks_whole (with_penalties p found) x ≡ false
     → (l : Literal) × Mends (with_penalties p found) x l
 mends p found x n is small size squares normal clauses constraints broken whole =
@@ -178,9 +184,7 @@ mends p found x n is small size squares normal clauses constraints broken whole 
     (subst (λ v. All (IsNormalClause v) p.clauses) (sym size) normal.clauses)
     (subst (λ v. All (λ (k : Constraint). All (IsNormalProduct v) k.products) p.constraints) (sym size) normal.constraints)
     clauses constraints broken each.0 each.1 in
-    let l = gains.literal in
-    let kept = keeps-whole p n found x l small gains.within gains.below each.0 each.1 in
-    (l, at-penalty p found x l n is size gains.within gains.untrue kept gains.less)
+    (gains.literal, at-penalty p found x gains.literal n is size gains.within gains.untrue gains.kept gains.less)
 
 pub enough : (p : ProblemContent) → IsSound p → IsWithinLimits p → AreEnough (with_penalties p (penalties_of p))
 enough p sound limits x size broken whole = decide (nat_lt (penalty p) far) refl

@@ -67,7 +67,7 @@ clause-breaks x l c within broken =
 
 -- ---- sums of constraints
 
-value-keeps : (up : Bool) (x : List Bool) (l : Literal) (t : Product) → l.variable < length x
+pub value-keeps : (up : Bool) (x : List Bool) (l : Literal) (t : Product) → l.variable < length x
     → moves up t l ≡ false
     → cond up (product_value (made_true x l) t) (product_value x t) ≤ℤ cond up (product_value x t) (product_value (made_true x l) t)
 value-keeps up x l t within none =

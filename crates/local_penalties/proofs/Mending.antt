@@ -11,10 +11,10 @@ use Rattle.local_penalties.proofs.Flips.{some-lost, clause-breaks, missing-keeps
 pub same-holds : (x : List Bool) (l m : Literal) → same l m ≡ true → holds x l ≡ holds x m
 same-holds x l m is = grind (arith, nat_tests)
 
-turned-holds : (x : List Bool) (m : Literal) → holds x (turned_literal true m) ≡ not (holds x m)
+pub turned-holds : (x : List Bool) (m : Literal) → holds x (turned_literal true m) ≡ not (holds x m)
 turned-holds x m = grind (arith, nat_tests)
 
-plain-holds : (x : List Bool) (m : Literal) → holds x (turned_literal false m) ≡ holds x m
+pub plain-holds : (x : List Bool) (m : Literal) → holds x (turned_literal false m) ≡ holds x m
 plain-holds x m = grind (arith, nat_tests)
 
 value-low : (x : List Bool) (t : Product)
@@ -22,7 +22,7 @@ value-low : (x : List Bool) (t : Product)
 value-low x t = grind (arith, nat_tests, ints)
 
 value-reaches : (x : List Bool) (below : ℕ) (t : Product) (ls : List Literal) (l : Literal) → ls ≡ t.literals
-    → suffices below t ≡ true → list_any (same l) (wanted t) ≡ true → holds x l ≡ true
+    → suffices below t ≡ true → list_any (same l) (wanted true t) ≡ true → holds x l ≡ true
     → (neg_ℤ (pos (positive_part (neg_ℤ t.coefficient))) +ℤ pos below) ≤ℤ product_value x t
 value-reaches x below t [] l is enough listed on = grind (arith, nat_tests)
 value-reaches x below t (m ∷ []) l is enough listed on =
@@ -34,14 +34,14 @@ value-reaches x below t (m ∷ k ∷ ls) l is enough listed on = grind (arith, n
 
 -- where a literal is true that suffices, the sum is above the least one by what can be missing
 pub reaches : (x : List Bool) (below : ℕ) (ts : List Product) (l : Literal)
-    → list_any (same l) (flat_map wanted (filter (suffices below) ts)) ≡ true → holds x l ≡ true
+    → list_any (same l) (flat_map (wanted true) (filter (suffices below) ts)) ≡ true → holds x l ≡ true
     → (neg_ℤ (pos (negative_total ts)) +ℤ pos below) ≤ℤ sum_of x ts
 reaches x below [] l listed on = absurd (false≢true listed)
 reaches x below (t ∷ ts) l listed on =
-    decide (λ later. reaches x below ts l later on) (suffices below t) refl (list_any (same l) (wanted t)) refl
+    decide (λ later. reaches x below ts l later on) (suffices below t) refl (list_any (same l) (wanted true t)) refl
   where
-    decide : (list_any (same l) (flat_map wanted (filter (suffices below) ts)) ≡ true
-        → (neg_ℤ (pos (negative_total ts)) +ℤ pos below) ≤ℤ sum_of x ts) → (b : Bool) → suffices below t ≡ b → (d : Bool) → list_any (same l) (wanted t) ≡ d
+    decide : (list_any (same l) (flat_map (wanted true) (filter (suffices below) ts)) ≡ true
+        → (neg_ℤ (pos (negative_total ts)) +ℤ pos below) ≤ℤ sum_of x ts) → (b : Bool) → suffices below t ≡ b → (d : Bool) → list_any (same l) (wanted true t) ≡ d
         → (neg_ℤ (pos (negative_total (t ∷ ts))) +ℤ pos below) ≤ℤ sum_of x (t ∷ ts)
     decide again true e true f =
         let here = value-reaches x below t t.literals l refl e f on in
@@ -49,14 +49,14 @@ reaches x below (t ∷ ts) l listed on =
         let sum = sum_by-cons (λ (u : Product). positive_part (neg_ℤ u.coefficient)) t ts in
         grind (arith, nat_tests, ints)
     decide again true e false f =
-        let both = list_any-append (same l) (wanted t) (flat_map wanted (filter (suffices below) ts)) in
-        let later : list_any (same l) (flat_map wanted (filter (suffices below) ts)) ≡ true = grind (arith, nat_tests) in
+        let both = list_any-append (same l) (wanted true t) (flat_map (wanted true) (filter (suffices below) ts)) in
+        let later : list_any (same l) (flat_map (wanted true) (filter (suffices below) ts)) ≡ true = grind (arith, nat_tests) in
         let here = value-low x t in
         let others = again later in
         let sum = sum_by-cons (λ (u : Product). positive_part (neg_ℤ u.coefficient)) t ts in
         grind (arith, nat_tests, ints)
     decide again false e d f =
-        let later : list_any (same l) (flat_map wanted (filter (suffices below) ts)) ≡ true = grind (arith, nat_tests) in
+        let later : list_any (same l) (flat_map (wanted true) (filter (suffices below) ts)) ≡ true = grind (arith, nat_tests) in
         let here = value-low x t in
         let others = again later in
         let sum = sum_by-cons (λ (u : Product). positive_part (neg_ℤ u.coefficient)) t ts in
@@ -67,7 +67,7 @@ above-all n b s h = grind (arith, nat_tests, ints)
 
 -- where such a literal is true the constraint holds
 pub alone-holds : (x : List Bool) (k : Constraint) (l : Literal) → k.exact ≡ false
-    → list_any (same l) (flat_map wanted (sufficient k)) ≡ true → holds x l ≡ true → fails x k ≡ false
+    → list_any (same l) (flat_map (wanted true) (sufficient k)) ≡ true → holds x l ≡ true → fails x k ≡ false
 alone-holds x k l bounds listed on =
     let over = above-all (negative_total k.products) k.bound (sum_of x k.products)
     (reaches x (most_below k) k.products l listed on) in
@@ -115,12 +115,12 @@ whole-clauses x l n ns (c ∷ cs) within before finite =
     let small = finite-own n (own n ns) 1 in
     grind (arith, nat_tests)
 
-not-whole : (hurts : Bool) (n m missing others : ℕ) → cond hurts (charge n m missing) 0 + others < far
+pub not-whole : (hurts : Bool) (n m missing others : ℕ) → cond hurts (charge n m missing) 0 + others < far
     → hurts ≡ true → eqb m n ≡ false
 not-whole true n m missing others finite _ = grind (arith, nat_tests)
 not-whole false n m missing others finite e = absurd (false≢true e)
 
-kept-step : (was now hurts entire before after : Bool) → (now ≡ true → (was || hurts) ≡ true)
+pub kept-step : (was now hurts entire before after : Bool) → (now ≡ true → (was || hurts) ≡ true)
     → (hurts ≡ true → entire ≡ false) → ((was && entire) || before) ≡ false
     → (before ≡ false → after ≡ false) → ((now && entire) || after) ≡ false
 kept-step was now hurts entire before after breaks small none others = grind (arith, nat_tests)

@@ -1,10 +1,13 @@
 -- Why parts have their penalties: a literal that repairs a part has a price below its penalty, in the
 -- round that gave it and ever after.
-use Rattle.local_penalties.proofs.Common.{◌≡◌, ℕ, ◌+◌, ◌<◌, ◌≤◌, sym, ap, subst, ◌∙◌, refl, arith, nat_tests, List, [], ◌∷◌, Bool, true, false, cond, nat_lt, list_any, map, fold, min, Literal, Clause, Constraint, ProblemContent, PartPenalties, same, hurts_clause, hurts_constraint, most_missing, most_below, far, charge, clause_charges, constraint_charges, price, rise, least, flat_map, wanted, sufficient, price_alone, constraint_penalty, next_clause, next_clauses, next_constraint, next_constraints, own, rest, zero, suc, eqb, eqb-true, whole_penalty, next_penalties, penalties_of, without_own}
+use Rattle.local_penalties.proofs.Common.{◌≡◌, ℕ, ◌+◌, ◌<◌, ◌≤◌, sym, ap, subst, ◌∙◌, refl, arith, nat_tests, List, [], ◌∷◌, Bool, true, false, cond, nat_lt, list_any, map, min, Literal, Clause, Constraint, ProblemContent, PartPenalties, same, hurts_clause, hurts_constraint, most_missing, far, charge, clause_charges, constraint_charges, price, rise, least, constraint_penalty, next_clause, next_clauses, next_constraint, next_constraints, own, rest, zero, suc, whole_penalty, next_penalties, penalties_of, without_own}
 use Rattle.local_penalties.specs.Rounds.{after_rounds}
-use Rattle.std.proofs.Common.{is_none, ◌⊎◌, inl, inr}
+use Rattle.std.proofs.Common.{is_none, inl, inr}
 use Rattle.problem_form.proofs.Common.{⊤}
 use Rattle.local_penalties.proofs.Mending.{own-le}
+use Rattle.local_penalties.proofs.Cheap.{least-found}
+use Rattle.local_penalties.proofs.Repairs.{IsRepaired}
+use Rattle.local_penalties.proofs.RepairedEquations.{repaired-local}
 
 -- ---- prices that are finite stay
 
@@ -47,48 +50,6 @@ constraint_charges-kept f n ns (k ∷ ks) l small finite =
     (next-own-constraint f n (own n ns) k (own-le n ns)) in
     let others = constraint_charges-kept f n (rest ns) ks l small (omega (arith, finite)) in
     λ j. here j + others j
-
--- ---- the least price
-
--- a literal of a list has this price
-pub record Priced (f : Literal → ℕ) (ls : List Literal) (n : ℕ) : Type 0 where
-  pub literal : Literal
-  pub listed : list_any (same literal) ls ≡ true
-  pub prices : f literal ≡ n
-
-same-refl : (l : Literal) → same l l ≡ true
-same-refl l = grind (arith, nat_tests)
-
-priced-rest : (f : Literal → ℕ) (l : Literal) (ls : List Literal) (n : ℕ) → Priced f ls n → Priced f (l ∷ ls) n
-priced-rest f l ls n found = record {
-  literal = found.literal;
-  listed = later found.literal found.listed;
-  prices = found.prices;
-}
-  where
-    later : (m : Literal) → list_any (same m) ls ≡ true → list_any (same m) (l ∷ ls) ≡ true
-    later m is = grind (arith, nat_tests)
-
--- the least of a number and of prices is the number, or some price
-pub least-found : (f : Literal → ℕ) (ls : List Literal) (a : ℕ)
-    → (fold min a (map f ls) ≡ a) ⊎ Priced f ls (fold min a (map f ls))
-least-found f [] a = inl refl
-least-found f (l ∷ ls) a = elim (least-found f ls (min a (f l))) [
-  | inl kept ↦ pick (nat_lt (f l) a) refl kept
-  | inr found ↦ inr (priced-rest f l ls _ found)
-]
-  where
-    pick : (b : Bool) → nat_lt (f l) a ≡ b → fold min (min a (f l)) (map f ls) ≡ min a (f l)
-        → (fold min (min a (f l)) (map f ls) ≡ a) ⊎ Priced f (l ∷ ls) (fold min (min a (f l)) (map f ls))
-    pick true e kept =
-        let less : min a (f l) ≡ f l = grind (arith, nat_tests) in
-        inr (record { literal = l; listed = first l; prices = sym (kept ∙ less) })
-      where
-        first : (m : Literal) → list_any (same m) (m ∷ ls) ≡ true
-        first m = let here = same-refl m in grind (arith, nat_tests)
-    pick false e kept =
-        let more : min a (f l) ≡ a = grind (arith, nat_tests) in
-        inl (kept ∙ more)
 
 -- ---- reasons of clauses
 
@@ -152,101 +113,97 @@ clauses-mended f g n ns (c ∷ cs) small stays before = (
 
 -- ---- reasons of constraints
 
--- a literal that suffices alone has a price below a number
-pub record MendedAlone (f : Literal → ℕ) (k : Constraint) (m : ℕ) : Type 0 where
-  pub literal : Literal
-  pub listed : list_any (same literal) (flat_map wanted (sufficient k)) ≡ true
-  pub below : f literal + 1 ≤ m
+-- what a constraint with this penalty adds to the price of a literal
+abbrev pub share : ℕ → ℕ → Constraint → Literal → ℕ
+share n m k l = cond (hurts_constraint k l) (charge n m (most_missing k)) 0
 
--- no equation: it always holds, or has such a literal
-pub record Held (f : Literal → ℕ) (k : Constraint) (m : ℕ) : Type 0 where
-  pub bounds : k.exact ≡ false
-  pub mended : (most_below k ≡ 0) ⊎ MendedAlone f k m
-
+-- each constraint with a penalty of its own is repaired at that price, by prices that leave out the
+-- constraint itself: they are what is left of others and what the constraints after it add
 abbrev pub ConstraintsMended : (Literal → ℕ) → ℕ → List ℕ → List Constraint → Type 0
-ConstraintsMended f n ns [] = ⊤
-ConstraintsMended f n ns (k ∷ ks) =
-    (own n ns < n → Held f k (own n ns)) × ConstraintsMended f n (rest ns) ks
+ConstraintsMended others n ns [] = ⊤
+ConstraintsMended others n ns (k ∷ ks) =
+    (own n ns < n → IsRepaired (λ l. others l + constraint_charges n (rest ns) ks l) k (own n ns))
+    × ConstraintsMended (λ l. others l + share n (own n ns) k l) n (rest ns) ks
 
-pub constraints-unmended : (f : Literal → ℕ) (n : ℕ) (ks : List Constraint) → ConstraintsMended f n [] ks
-constraints-unmended f n [] = tt
-constraints-unmended f n (k ∷ ks) = (λ less. absurd (omega (arith, less)), constraints-unmended f n ks)
+pub constraints-unmended : (others : Literal → ℕ) (n : ℕ) (ks : List Constraint) → ConstraintsMended others n [] ks
+constraints-unmended others n [] = tt
+constraints-unmended others n (k ∷ ks) =
+    (λ less. absurd (omega (arith, less)), constraints-unmended (λ l. others l + share n n k l) n ks)
 
-given-alone : (f : Literal → ℕ) (n : ℕ) (k : Constraint) → n ≤ far → 1 + price_alone f k < n
-    → MendedAlone f k (1 + price_alone f k)
-given-alone f n k small less = elim (least-found f (flat_map wanted (sufficient k)) far) [
-  | inl none ↦ absurd (omega (arith, none, less, small))
-  | inr found ↦ record { literal = found.literal; listed = found.listed; below = omega (arith, found.prices) }
-]
-
-given-held : (f : Literal → ℕ) (n : ℕ) (k : Constraint) → n ≤ far → constraint_penalty f k < n
-    → Held f k (constraint_penalty f k)
-given-held f n k small less = by_kind k.exact refl
-  where
-    by_kind : (b : Bool) → k.exact ≡ b → Held f k (constraint_penalty f k)
-    by_kind true e =
-        let none : constraint_penalty f k ≡ far = grind (arith, nat_tests) in
-        absurd (omega (arith, none, less, small))
-    by_kind false e = by_need (eqb (most_below k) 0) refl
-      where
-        by_need : (b : Bool) → eqb (most_below k) 0 ≡ b → Held f k (constraint_penalty f k)
-        by_need true always = record { bounds = e; mended = inl (eqb-true (most_below k) 0 always) }
-        by_need false needs =
-            let one : constraint_penalty f k ≡ 1 + price_alone f k = grind (arith, nat_tests) in
-            record {
-              bounds = e;
-              mended = inr (subst (MendedAlone f k) (sym one) (given-alone f n k small (omega (arith, one, less))));
-            }
-
-held-moved : (f g : Literal → ℕ) (k : Constraint) (i n : ℕ) → n ≤ far → i ≤ n
-    → ((l : Literal) → f l < far → g l ≡ f l) → Held f k i → Held g k i
-held-moved f g k i n small le stays held = record {
-  bounds = held.bounds;
-  mended = elim held.mended [
-    | inl always ↦ inl always
-    | inr found ↦ inr (record {
+-- by prices that are the same where they are finite
+repaired-moved : (h h' : Literal → ℕ) (k : Constraint) (m : ℕ) → m ≤ far → ((l : Literal) → h l < far → h' l ≡ h l)
+    → IsRepaired h k m → IsRepaired h' k m
+repaired-moved h h' k m small stays repaired x normal broken =
+    let found = repaired x normal broken in
+    record {
       literal = found.literal;
-      listed = found.listed;
-      below = omega (arith, stays found.literal (omega (arith, found.below)), found.below);
-    })
-  ];
-}
+      within = found.within;
+      untrue = found.untrue;
+      below = omega (arith, stays found.literal (omega (arith, found.below, small)), found.below);
+      nearer = found.nearer;
+    }
 
-held-after : (f g : Literal → ℕ) (n m : ℕ) (k : Constraint) → n ≤ far → ((l : Literal) → f l < far → g l ≡ f l)
-    → (m < n → Held f k m) → m ≤ n
-    → min (next_constraint f n m k) n < n → Held g k (min (next_constraint f n m k) n)
-held-after f g n m k small stays before within less = decide (nat_lt m n) refl
+whole-share : (hurts : Bool) (n m missing : ℕ) → nat_lt m n ≡ false
+    → cond hurts (charge n m missing) 0 ≡ cond hurts far 0
+whole-share true n m missing e = grind (arith, nat_tests)
+whole-share false n m missing e = refl
+
+repaired-after : (f h h' : Literal → ℕ) (n m : ℕ) (k : Constraint) → n ≤ far
+    → ((l : Literal) → h l < far → h' l ≡ h l) → ((l : Literal) → f l ≡ h l + share n m k l)
+    → (m < n → IsRepaired h k m) → m ≤ n
+    → min (next_constraint f n m k) n < n → IsRepaired h' k (min (next_constraint f n m k) n)
+repaired-after f h h' n m k small stays shares before within less = decide (nat_lt m n) refl
   where
-    decide : (b : Bool) → nat_lt m n ≡ b → Held g k (min (next_constraint f n m k) n)
+    decide : (b : Bool) → nat_lt m n ≡ b → IsRepaired h' k (min (next_constraint f n m k) n)
     decide true e =
         let is : min (next_constraint f n m k) n ≡ m = next-own-constraint f n m k within e in
-        subst (Held g k) (sym is) (held-moved f g k m n small within stays (before (omega (arith, is, less))))
+        subst (IsRepaired h' k) (sym is)
+        (repaired-moved h h' k m (omega (arith, within, small)) stays (before (omega (arith, is, less))))
     decide false e =
         let is : min (next_constraint f n m k) n ≡ min (constraint_penalty f k) n = fresh e in
         let one : min (next_constraint f n m k) n ≡ constraint_penalty f k = omega (arith, is, less) in
-        subst (Held g k) (sym one)
-        (held-moved f g k (constraint_penalty f k) n small (omega (arith, one, less)) stays
-        (given-held f n k small (omega (arith, one, less))))
+        let finite : constraint_penalty f k < far = omega (arith, one, less, small) in
+        subst (IsRepaired h' k) (sym one)
+        (repaired-moved h h' k (constraint_penalty f k) (omega (arith, finite)) stays
+        (repaired-local f h k (λ l. shares l ∙ ap (λ i. h l + i) (whole-share (hurts_constraint k l) n m (most_missing k) e)) finite))
       where
         fresh : nat_lt m n ≡ false → min (next_constraint f n m k) n ≡ min (constraint_penalty f k) n
         fresh none = grind (arith, nat_tests)
 
-pub constraints-mended : (f g : Literal → ℕ) (n : ℕ) (ns : List ℕ) (ks : List Constraint) → n ≤ far
-    → ((l : Literal) → f l < far → g l ≡ f l) → ConstraintsMended f n ns ks
-    → ConstraintsMended g n (next_constraints f n ns ks) ks
-constraints-mended f g n ns [] small stays before = tt
-constraints-mended f g n ns (k ∷ ks) small stays before = (
-  λ less. held-after f g n (own n ns) k small stays before.0 (own-le n ns) less,
-  constraints-mended f g n (rest ns) ks small stays before.1,
+-- by prices that are the same where they are finite, the reasons stand after a round
+pub constraints-mended : (f others others' : Literal → ℕ) (n : ℕ) (ns : List ℕ) (ks : List Constraint) → n ≤ far
+    → ((l : Literal) → others l < far → others' l ≡ others l)
+    → ((l : Literal) → f l ≡ others l + constraint_charges n ns ks l)
+    → ConstraintsMended others n ns ks → ConstraintsMended others' n (next_constraints f n ns ks) ks
+constraints-mended f others others' n ns [] small stays total before = tt
+constraints-mended f others others' n ns (k ∷ ks) small stays total before = (
+  λ less. repaired-after f (λ l. others l + constraint_charges n (rest ns) ks l)
+      (λ l. others' l + constraint_charges n (next_constraints f n (rest ns) ks) ks l) n (own n ns) k small
+      (λ l finite. both (others l) (others' l) _ _ (stays l (omega (arith, finite)))
+      (constraint_charges-kept f n (rest ns) ks l small (omega (arith, finite))))
+      (λ l. omega (arith, total l)) before.0 (own-le n ns) less,
+  constraints-mended f (λ l. others l + share n (own n ns) k l)
+      (λ l. others' l + share n (min (next_constraint f n (own n ns) k) n) k l) n (rest ns) ks small
+      (λ l finite. both (others l) (others' l) _ _ (stays l (omega (arith, finite)))
+      (share-kept (hurts_constraint k l) n (own n ns) (min (next_constraint f n (own n ns) k) n) (most_missing k) small
+      (omega (arith, finite)) (next-own-constraint f n (own n ns) k (own-le n ns))))
+      (λ l. omega (arith, total l)) before.1,
 )
+  where
+    both : (a a' b b' : ℕ) → a' ≡ a → b' ≡ b → a' + b' ≡ a + b
+    both a a' b b' e h = omega (arith, e, h)
 
 -- ---- reasons of the rule
+
+-- what the objective and clauses add to the price of a literal
+abbrev pub price_elsewhere : ProblemContent → PartPenalties → Literal → ℕ
+price_elsewhere p found l = rise p l + clause_charges (whole_penalty p) found.clauses p.clauses l
 
 -- all parts with penalties of their own have reasons, by the prices with these penalties
 abbrev pub AreMended : ProblemContent → PartPenalties → Type 0
 AreMended p found =
     ClausesMended (price p found) (whole_penalty p) found.clauses p.clauses
-    × ConstraintsMended (price p found) (whole_penalty p) found.constraints p.constraints
+    × ConstraintsMended (price_elsewhere p found) (whole_penalty p) found.constraints p.constraints
 
 whole-small : (p : ProblemContent) → whole_penalty p ≤ far
 whole-small p = omega arith
@@ -258,13 +215,19 @@ price-kept p found l finite =
     let constraints = constraint_charges-kept (price p found) (whole_penalty p) found.constraints p.constraints l (whole-small p) (omega (arith, finite)) in
     λ j. rise p l + clauses j + constraints j
 
+elsewhere-kept : (p : ProblemContent) (found : PartPenalties) (l : Literal) → price_elsewhere p found l < far
+    → price_elsewhere p (next_penalties p found) l ≡ price_elsewhere p found l
+elsewhere-kept p found l finite =
+    let clauses = clause_charges-kept (price p found) (whole_penalty p) found.clauses p.clauses l (whole-small p) (omega (arith, finite)) in
+    λ j. rise p l + clauses j
+
 pub mended-next : (p : ProblemContent) (found : PartPenalties) → AreMended p found
     → AreMended p (next_penalties p found)
 mended-next p found before = (
   clauses-mended (price p found) (price p (next_penalties p found)) (whole_penalty p) found.clauses p.clauses
       (whole-small p) (price-kept p found) before.0,
-  constraints-mended (price p found) (price p (next_penalties p found)) (whole_penalty p) found.constraints p.constraints
-      (whole-small p) (price-kept p found) before.1,
+  constraints-mended (price p found) (price_elsewhere p found) (price_elsewhere p (next_penalties p found))
+      (whole_penalty p) found.constraints p.constraints (whole-small p) (elsewhere-kept p found) (λ l. refl) before.1,
 )
 
 mended-rounds : (n : ℕ) (p : ProblemContent) (found : PartPenalties) → AreMended p found
@@ -278,5 +241,5 @@ pub mended-rule : (p : ProblemContent) → AreMended p (penalties_of p)
 mended-rule p =
     mended-rounds 8 p (without_own p) (
       clauses-unmended (price p (without_own p)) (whole_penalty p) p.clauses,
-      constraints-unmended (price p (without_own p)) (whole_penalty p) p.constraints,
+      constraints-unmended (price_elsewhere p (without_own p)) (whole_penalty p) p.constraints,
     )

@@ -1,4 +1,5 @@
 pub mod Hurting
+pub mod Stepping
 pub mod Prices
 pub mod Rounds
 pub mod Tallies

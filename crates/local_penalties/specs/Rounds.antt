@@ -1,6 +1,7 @@
 -- The rule: penalties of parts, found in rounds by the prices of their literals.
-use Rattle.std.specs.Prelude.{ℕ, zero, suc, ◌+◌, min, Bool, not, ◌&&◌, ◌==◌, nat_lt, nat_le, List, [], ◌∷◌, map, fold, length, is_none, unsigned_abs, if◌then◌else◌}
-use Rattle.std.specs.List.{filter, flat_map}
+use Rattle.std.specs.Prelude.{ℕ, zero, suc, ◌+◌, ◌-◌, ◌/◌, max, min, Bool, true, false, not, ◌&&◌, ◌==◌, nat_lt, nat_le, int_lt, List, [], ◌∷◌, map, fold, is_none, if◌then◌else◌}
+use Rattle.std.specs.List.{filter, flat_map, list_all, slice_index_or}
+use mathlib.Core.Bool.{beq}
 use Rattle.literal_lists.specs.declared.literal.Literal.{Literal}
 use Rattle.problem_form.specs.declared.terms.Product.{Product}
 use Rattle.problem_form.specs.declared.terms.Clause.{Clause}
@@ -8,7 +9,8 @@ use Rattle.problem_form.specs.declared.terms.Constraint.{Constraint}
 use Rattle.problem_form.specs.declared.penalties.PartPenalties.{PartPenalties}
 use Rattle.problem_form.specs.PartPenalties.{own, rest}
 use Rattle.problem_form.specs.Problems.{ProblemContent}
-use Rattle.local_penalties.specs.Hurting.{is_negative, most_below, turned_literal}
+use Rattle.local_penalties.specs.Hurting.{highest, is_negative, most_above, most_below, turned_literal}
+use Rattle.local_penalties.specs.Stepping.{common_size, is_single, is_stepped, size}
 use Rattle.local_penalties.specs.Prices.{far, price, whole_penalty}
 
 -- ---- least and greatest
@@ -17,22 +19,35 @@ use Rattle.local_penalties.specs.Prices.{far, price, whole_penalty}
 abbrev pub least : List ℕ → ℕ
 least ns = fold min far ns
 
+-- a number put into a descending list
+abbrev pub put_down : ℕ → List ℕ → List ℕ
+put_down n [] = n ∷ []
+put_down n (m ∷ ms) = if nat_lt m n then n ∷ m ∷ ms else m ∷ put_down n ms
+
+-- the numbers in descending order
+abbrev pub descending : List ℕ → List ℕ
+descending [] = []
+descending (n ∷ ns) = put_down n (descending ns)
+
+-- the j-th greatest of these prices; where there are fewer it is infinite
+abbrev pub greatest : ℕ → List ℕ → ℕ
+greatest j ns = min far (slice_index_or (descending ns) (j - 1) far)
+
+-- how many of the numbers, from the first on, sum to more than a room
+abbrev pub count_past : ℕ → List ℕ → ℕ
+count_past room [] = 0
+count_past room (n ∷ ns) = if nat_lt room n then 1 else 1 + count_past (room - n) ns
+
 -- ---- wanted literals
 
--- a product of one literal
-abbrev pub is_single : Product → Bool
-is_single t = length t.literals == 1
+-- the literals that a product wants true to add more, or with `up` false to add less: its own or,
+-- where it is negative, their complements
+abbrev pub wanted : Bool → Product → List Literal
+wanted up t = map (turned_literal (beq (is_negative t) up)) t.literals
 
--- the literals that a product is wanted for: its own where it is positive, else their complements
-abbrev pub wanted : Product → List Literal
-wanted t = map (turned_literal (is_negative t)) t.literals
-
--- the prices of the literals that products are wanted for
-abbrev pub wanted_prices : (Literal → ℕ) → List Product → List ℕ
-wanted_prices prices ts = map prices (flat_map wanted ts)
-
-abbrev pub size : Product → ℕ
-size t = unsigned_abs t.coefficient
+-- the prices of the literals that products want
+abbrev pub wanted_prices : Bool → (Literal → ℕ) → List Product → List ℕ
+wanted_prices up prices ts = map prices (flat_map (wanted up) ts)
 
 -- ---- local penalties, by the prices of literals
 
@@ -50,16 +65,54 @@ sufficient k = filter (suffices (most_below k)) k.products
 
 -- the least price of what makes a constraint hold alone
 abbrev pub price_alone : (Literal → ℕ) → Constraint → ℕ
-price_alone prices k = least (wanted_prices prices (sufficient k))
+price_alone prices k = least (wanted_prices true prices (sufficient k))
 
--- of a constraint that bounds its sum from below: 1 where it always holds
+-- at least so many wanted literals of products of one literal are false where the sum of the products
+-- is below the greatest one by more than a room
+abbrev pub least_false : ℕ → List Product → ℕ
+least_false room ts = count_past room (descending (map size ts))
+
+-- what the cheapest of them costs at most
+abbrev pub price_of_step : (Literal → ℕ) → ℕ → List Product → ℕ
+price_of_step prices room ts =
+    if list_all is_single ts
+    then greatest (least_false room ts) (wanted_prices true prices ts)
+    else far
+
+-- of a constraint that bounds its sum from below: 1 where it always holds, and none where it never does
 abbrev pub bound_penalty : (Literal → ℕ) → Constraint → ℕ
-bound_penalty prices k = if most_below k == 0 then 1 else 1 + price_alone prices k
+bound_penalty prices k =
+    if most_below k == 0 then 1
+    else if int_lt (highest k) k.bound then far
+    else 1 + min (price_alone prices k) (price_of_step prices (most_above k) k.products)
 
--- an equation gets none
+-- what the cheapest step of a sum that can be short of its bound costs at most, up or, where `up` is
+-- false, down: where so many steps lead from the bound to the last sum, more wanted literals are false
+abbrev pub price_of_side : Bool → (Literal → ℕ) → ℕ → ℕ → List Product → ℕ
+price_of_side up prices short steps ts =
+    if short == 0 then 0 else greatest (steps + 1) (wanted_prices up prices ts)
+
+-- that of an equation whose sum is below its bound, and 0 where it never is
+abbrev pub price_up : (Literal → ℕ) → Constraint → ℕ
+price_up prices k =
+    price_of_side true prices (most_below k) (most_above k / common_size k.products) k.products
+
+-- that of one whose sum is above its bound
+abbrev pub price_down : (Literal → ℕ) → Constraint → ℕ
+price_down prices k =
+    price_of_side false prices (most_above k) (most_below k / common_size k.products) k.products
+
+-- of an equation, by prices that leave out what it adds itself: each of its literals hurts it
+abbrev pub equation_penalty : (Literal → ℕ) → Constraint → ℕ
+equation_penalty prices k =
+    if is_stepped k
+    then 1 + max (price_up (λ l. prices l - far) k) (price_down (λ l. prices l - far) k)
+    else far
+
+-- the local penalty of a constraint
 abbrev pub constraint_penalty : (Literal → ℕ) → Constraint → ℕ
 constraint_penalty prices k =
-    if k.exact then far else bound_penalty prices k
+    if k.exact then equation_penalty prices k else bound_penalty prices k
 
 -- ---- rounds
 

@@ -61,16 +61,24 @@ pub(crate) fn next_clauses(
     Ok(next)
 }
 
-/// The penalty of a constraint after a round.
-fn next_constraint(numbers: &[u128], constraint: &ConstraintRef<'_>, own: u64, whole: u64) -> u64
+/// The penalty of a constraint after a round. The buffer is used for it.
+fn next_constraint(
+    buffer: &mut Vec<u128>,
+    numbers: &[u128],
+    constraint: &ConstraintRef<'_>,
+    own: u64,
+    whole: u64,
+) -> Result<u64, NoMemory>
     requires total { constraint_total constraint.now < 2 ^ 100 }
     requires within { HavePlaces (length numbers.now) constraint.now.products }
-    ensures { result ≡ next_constraint (number_of numbers.now) whole own constraint.now }
+    ensures { IfOk result (λ next.
+        next ≡ next_constraint (number_of numbers.now) whole own constraint.now) }
 {
     if own < whole {
-        return own;
+        return Ok(own);
     }
-    constraint_penalty(numbers, constraint).min(u128::from(whole)) as u64
+    let penalty = constraint_penalty(buffer, numbers, constraint)?;
+    Ok(penalty.min(u128::from(whole)) as u64)
 }
 
 /// The penalties of the constraints after a round.
@@ -87,10 +95,11 @@ pub(crate) fn next_constraints(
         ≡ next_constraints (number_of numbers.now) whole found.now constraints.now) }
 {
     let mut next = Vec::new(alloc);
+    let mut buffer = Vec::new(alloc);
     for i in 0..constraints.len() {
         let own = own_at(found, i, whole);
         let constraint = constraints.at(i);
-        let penalty = next_constraint(numbers, &constraint, own, whole);
+        let penalty = next_constraint(&mut buffer, numbers, &constraint, own, whole)?;
         next.push(penalty)?;
     }
     Ok(next)
