@@ -8,11 +8,11 @@ pub use Rattle.bits_model.specs.Output.{IsPlaced, is_coupler, Written, IsWellFor
 pub use Rattle.elimination_order.specs.Renumbered.{AreNumbers, at_place, renumbered, IsRenumbered, IsFirstLeastBy, bits_by}
 pub use Rattle.whole_text.proofs.LineTokens.{all_append}
 pub use Rattle.std.proofs.lemmas.Bool.{or_parts, cases_lt, cases_eq, eq-eqb, eqb-true, false_from_ne_true, false≢true}
-pub use Rattle.std.proofs.lemmas.List.{get_or_default, length-map, get_or-map, ext_get_or, length-reverse, take_more, get_or-reverse}
+pub use Rattle.std.proofs.lemmas.List.{reverse-reverse, get_or_default, length-map, get_or-map, ext_get_or, length-reverse, take_more, get_or-reverse}
 pub use Rattle.std.proofs.lemmas.List.Elements.{recursion_from_All, All-from_recursion, All-map}
 pub use Rattle.base.proofs.Totals.{total_by-map, total_by-IsPermutation}
 pub use Rattle.form_steps.specs.Least.{IsLeastState}
-pub use Rattle.elimination_order.specs.Widths.{first_wide, width_after, after_nodes}
+pub use Rattle.elimination_order.specs.Widths.{first_wide, width_after, after_nodes, from_last}
 pub use Rattle.std.proofs.lemmas.List.Sorted.{list_any-IsPermutation, sum_by-IsPermutation, All-permutation, IsPermutation-reverse, IsPermutation-refl, IsPermutation-cons, IsPermutation-sym, IsPermutation-trans, IsPermutation-remove}
 pub use Rattle.std.proofs.lemmas.List.Folds.{list_any_none, list_any-append, list_any_at}
 pub use Rattle.whole_text.specs.declared.faults.TextFault.{TextFault}

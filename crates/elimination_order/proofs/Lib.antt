@@ -8,3 +8,4 @@ pub mod Widths
 pub mod Kept
 pub mod FirstWide
 pub mod Usual
+pub mod UsualWidths

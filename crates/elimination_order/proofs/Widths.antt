@@ -4,7 +4,7 @@ use Rattle.elimination_order.proofs.FirstWide.{none_wide, some_wide}
 use Rattle.elimination_order.proofs.Kept.{coupler_same}
 use Rattle.elimination_order.proofs.Shuffled.{at_range, shuffled_range}
 
-after_push : (xs : List ℕ) (v : ℕ) (g : ℕ → ℕ → Bool)
+pub after_push : (xs : List ℕ) (v : ℕ) (g : ℕ → ℕ → Bool)
     → after_nodes (xs ++ v ∷ []) g ≡ without v (after_nodes xs g)
 after_push [] v g = refl
 after_push (x ∷ xs) v g = after_push xs v (without x g)

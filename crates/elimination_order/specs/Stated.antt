@@ -7,7 +7,7 @@ use Rattle.basic_solve.specs.FirstLeast.{IsFirstLeast}
 use Rattle.whole_text.specs.Tokens.{Word}
 use Rattle.elimination_order.specs.Orders.{AreNodes, order_of}
 use Rattle.elimination_order.specs.Renumbered.{AreNumbers, IsRenumbered, IsFirstLeastBy, at_place, bits_by}
-use Rattle.elimination_order.specs.Widths.{first_wide}
+use Rattle.elimination_order.specs.Widths.{first_wide, from_last}
 use Rattle.basic_solve.specs.Widths.{IsFirstWider, IsWithinWidth}
 
 -- a state by new numbers has the energy that the state has
@@ -50,6 +50,13 @@ abbrev pub OrderFromLastIsUsual : Type 0
 OrderFromLastIsUsual =
     (g : Form) (order : List ℕ) (y : List Bool) → reverse order ≡ range_with_len 0 g.bits
     → IsFirstLeastBy (reverse order) g y ↔ IsFirstLeast g y
+
+-- in the usual order the first node that is too wide is the usual one
+pub record WidthsFromLastAreUsual : Type 0 where
+  pub none : (most : ℕ) (m : Written) → IsWithinWidth most m
+      → first_wide most m [] (from_last m.nodes) ≡ None
+  pub some : (most : ℕ) (m : Written) (v w : ℕ) → IsFirstWider most m v w
+      → first_wide most m [] (from_last m.nodes) ≡ Some (v, w)
 
 -- an order that was read names each node once
 abbrev pub OrdersNameAll : Type 0

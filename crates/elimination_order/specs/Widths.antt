@@ -1,5 +1,5 @@
 -- The widths of nodes that are eliminated in any order.
-use Rattle.std.specs.Prelude.{ℕ, Bool, List, [], ◌∷◌, ◌++◌, Option, Some, None, nat_lt, if◌then◌else◌}
+use Rattle.std.specs.Prelude.{ℕ, Bool, List, [], ◌∷◌, ◌++◌, reverse, Option, Some, None, nat_lt, if◌then◌else◌}
 use Rattle.std.specs.List.{count_by, range_with_len}
 use Rattle.bits_model.specs.Output.{Written}
 use Rattle.basic_solve.specs.Widths.{coupled, without}
@@ -22,3 +22,7 @@ first_wide most m before (v ∷ vs) =
     if nat_lt most (width_after m before v)
     then Some (v, width_after m before v)
     else first_wide most m (before ++ v ∷ []) vs
+
+-- the usual order: from the last of so many nodes to node 0
+abbrev pub from_last : ℕ → List ℕ
+from_last nodes = reverse (range_with_len 0 nodes)
