@@ -1,10 +1,11 @@
 -- Words that ask for a command, by the words at their places.
-use Rattle.command_words.proofs.Common.{nat_tests, arith, ◌≡◌, ℕ, List, [], ◌∷◌, ◌++◌, Option, Some, None, Ok, refl, UnitChoice, Format, NodeModel, TargetWord, Chaining, ChainStrength, digits_number, Keys, Slack, Verb, EachJobIsAskedFor, EachSizeIsAskedFor, EachDecodingIsAskedFor, EachEvaluationIsAskedFor, EachExtensionIsAskedFor, EachSampleIsAskedFor, EachSolutionIsAskedFor, EachProofIsAskedFor, EachUnitIsAskedFor, EachSlackIsAskedFor, EachOrderIsAskedFor, EachGraphIsAskedFor, EachKeyStands, NoKeyStandsTwice, NoGraphKeyElsewhere, NoOrderElsewhere, NoGraphWithout, NoLargerGraph, IsRefusedAfterAll, format_word, slack_key, on_fourth_word, board_of, board_with, dead_at, target_word, unit_key, rows_key, cols_key, shore_key, map_key, clique_key, dead_keys, chain_key, compile_words, command_of, format_of, target_of, keys_from, no_keys, target_by, with_word, Choi, Cut, Clique, Map, Value}
-use Rattle.command_words.specs.declared.commands.TargetWord.TheVariants.{Nodes, Chimera}
-use Rattle.command_words.specs.declared.commands.Ask.TheVariants as asks
+use Rattle.command_words.proofs.Common.{nat_tests, arith, nat_lt, true, ◌≡◌, ◌≢◌, ◌≤◌, ◌+◌, ◌^◌, ℕ, List, [], ◌∷◌, ◌++◌, length, Option, Some, None, Result, Ok, Err, refl, ap, ◌∙◌, codes, ok_or, option_map, Format, Target, TargetWord, Chaining, ChainStrength, WordAt, Ask, Origin, digits_number, Keys, Verb, EachJobIsAskedFor, EachSampleIsAskedFor, EachKeyIsAskedFor, EachGraphIsAskedFor, NoGraphWithout, NoLargerGraph, IsRefusedAfterAll, chains_at, chains_key, dead_at, file_command, format_word, key_word, optional, sample_words, target_word, ties_word, ◌>>=◌, ask_by, chosen_target, command_of, commanding, first_key, format_of, target_of, keys_from, no_keys, takes, target_by, with_word, File, Drawn, Map, Value, Whole, suc, drop, length-append, drop-append_seam, source_words, file_words, verb_word, verb_of}
+use Rattle.command_words.specs.declared.commands.Target.TheVariants as targets
+use Rattle.command_words.specs.declared.commands.TargetWord.TheVariants.{Nodes, Chimera, Graph}
 use Rattle.chimera_graph.specs.declared.chimera.Chimera as graphs
 use Rattle.command_words.specs.declared.commands.Verb.TheVariants as verbs
-use Rattle.command_words.proofs.KeyWords.{cut_bound, cut_order, cut_rows, cut_cols, cut_shore, cut_map, cut_dead, side_of-digits, bound_of-digits}
+use Rattle.command_words.specs.declared.keys.Takers.TheVariants.{OnQubits}
+use Rattle.command_words.proofs.KeyTable.{clique_stands, cols_stand, dead_stands, graph_stands, map_stands, or_none, rows_stand, shore_stands, side_of-digits, ties_stand}
 use Rattle.command_words.proofs.Graphs.{graph_with-its, graph_with-larger}
 
 -- ---- the words of a job
@@ -15,202 +16,213 @@ format_of-format_word format = grind (arith, nat_tests)
 target_of-target_word : (word : TargetWord) → target_of (target_word word) ≡ Some word
 target_of-target_word word = grind (arith, nat_tests)
 
--- ---- what the verbs ask for
+verb_of-verb_word : (verb : Verb) → verb_of (verb_word verb) ≡ Some verb
+verb_of-verb_word verb = grind (arith, nat_tests)
+
+-- where no word behind FILE is missing, the keys choose the target
+pub all_there : (verb : Verb) (words : List (List ℕ)) (word : TargetWord) (keys : Keys)
+    → first_key verb ≤ length words
+    → chosen_target verb words word keys ≡ ok_or (target_by word keys) (length words + 1)
+all_there verb words word keys enough = grind (arith, nat_tests)
+
+-- what is asked with the keys of such words
+after_keys : (verb : Verb) (words : List (List ℕ)) (word : TargetWord) (origin : Origin)
+    (ask : Option WordAt → Ask) (r : Result Keys ℕ) → first_key verb ≤ length words
+    → (r >>= λ given. chosen_target verb words word given
+    >>= λ target. Ok (commanding origin target given (ask given.order)))
+    ≡ (r >>= λ given. ok_or (target_by word given) (length words + 1)
+    >>= λ target. Ok (commanding origin target given (ask given.order)))
+after_keys verb words word origin ask (Ok keys) enough = rw (all_there verb words word keys enough) refl
+after_keys verb words word origin ask (Err p) enough = refl
+
+-- every verb but `sample` has a source in a file
+pub file_source : (verb : Verb) → verb ≢ verbs.Sample → (words : List (List ℕ))
+    → source_words verb words ≡ file_words words
+file_source verbs.Sample other words = absurd (other refl)
+file_source verb other words = refl
 
 pub each_job : EachJobIsAskedFor
-each_job format word file keys = rw (format_of-format_word format, target_of-target_word word) refl
-
-pub each_size : EachSizeIsAskedFor
-each_size format word file keys = rw (format_of-format_word format, target_of-target_word word) refl
-
-pub each_solution : EachSolutionIsAskedFor
-each_solution format word file keys = grind (arith, nat_tests)
-
-pub each_decoding : EachDecodingIsAskedFor
-each_decoding format word file state keys = grind (arith, nat_tests)
-
-pub each_evaluation : EachEvaluationIsAskedFor
-each_evaluation format word file states keys = grind (arith, nat_tests)
-
-pub each_extension : EachExtensionIsAskedFor
-each_extension format word file assignment keys = grind (arith, nat_tests)
-
-pub each_proof : EachProofIsAskedFor
-each_proof format word file state certificate keys = grind (arith, nat_tests)
+each_job verb format word file files keys other long =
+    let words = file_command verb format word file files keys in
+    let behind = length-append files keys in
+    let count : first_key verb ≡ suc (suc (suc (suc (length files)))) = omega (arith, long) in
+    let left : drop (first_key verb) words ≡ keys =
+    ap (λ k. drop k words) count ∙ drop-append_seam files keys in
+    rw (
+      verb_of-verb_word verb,
+      file_source verb other words,
+      format_of-format_word format,
+      target_of-target_word word,
+      left,
+    ) (after_keys verb words word (File format (Whole 3)) (ask_by verb)
+    (keys_from verb word no_keys (first_key verb) keys) (omega (arith, long, behind)))
 
 pub each_sample : EachSampleIsAskedFor
-each_sample number clauses first second word keys one two = grind (arith, nat_tests)
+each_sample number clauses first second word keys one two =
+    rw (one, two, target_of-target_word word)
+    (after_keys verbs.Sample (sample_words first second word keys) word (Drawn number clauses)
+    (ask_by verbs.Sample) (keys_from verbs.Sample word no_keys 4 keys) (omega arith))
 
--- a key for the unit alone
-unit_alone : (model : NodeModel) (unit : UnitChoice)
-    → keys_from verbs.Compile (Nodes model) no_keys 4 (unit_key unit ∷ [])
-    ≡ Ok (record no_keys { unit = Some unit })
-unit_alone model unit = grind (arith, nat_tests)
+-- what is asked with keys that choose a target
+job_given : (verb : Verb) (format : Format) (word : TargetWord) (file : List ℕ)
+    (files keys : List (List ℕ)) (given : Keys) (target : Target) → verb ≢ verbs.Sample
+    → length files + 4 ≡ first_key verb
+    → keys_from verb word no_keys (first_key verb) keys ≡ Ok given
+    → target_by word given ≡ Some target
+    → command_of (file_command verb format word file files keys)
+    ≡ Ok (commanding (File format (Whole 3)) target given (ask_by verb given.order))
+job_given verb format word file files keys given target other long good chosen =
+    each_job verb format word file files keys other long ∙ rw (good, chosen) refl
 
-pub each_unit : EachUnitIsAskedFor
-each_unit format model file unit = grind (arith, nat_tests, each_job, unit_alone)
+pub each_alone : EachKeyIsAskedFor
+each_alone verb format model file files key given other long stands =
+    job_given verb format (Nodes model) file files (key ∷ []) given (targets.Nodes model) other long
+    (rw stands refl) refl
 
--- a key alone for conflicts
-slack_alone : (model : NodeModel) (slack : Slack)
-    → keys_from verbs.Compile (Nodes model) no_keys 4 (slack_key slack ∷ [])
-    ≡ Ok (record no_keys { slack = Some slack })
-slack_alone model slack = grind (arith, nat_tests)
+-- ---- graphs
 
-pub each_slack : EachSlackIsAskedFor
-each_slack format model file slack = grind (arith, nat_tests, each_job, slack_alone)
+-- a key more, and those behind it
+step : (verb : Verb) (word : TargetWord) (keys more : Keys) (at : ℕ) (key : List ℕ)
+    (others : List (List ℕ)) (end : Result Keys ℕ) → with_word verb word keys at key ≡ Some more
+    → keys_from verb word more (at + 1) others ≡ end
+    → keys_from verb word keys at (key ∷ others) ≡ end
+step verb word keys more at key others end stands rest = rw stands rest
 
-pub each_order : EachOrderIsAskedFor
-each_order format model file name = grind (arith, nat_tests)
+-- a number of a graph is at most 2^20
+rows_few : (graph : graphs.Chimera) → graph.rows ≤ 2 ^ 20
+rows_few graph =
+    let some_cols = graph.shape.some_cols in
+    let some_shore = graph.shape.some_shore in
+    let few = graph.shape.few in
+    grind (arith, nat_tests)
 
-pub each_key : EachKeyStands
-each_key = record {
-  normal = λ verb target keys at value free. grind (arith, nat_tests);
-  high = λ verb target keys at value free. grind (arith, nat_tests);
-  unit = λ verb target keys at value free. grind (arith, nat_tests);
-  bound = λ verb target keys at value size free said.
-      rw (cut_bound value, free, bound_of-digits value size said) refl;
-  bound_below = λ verb target keys at value size free said. grind (arith, nat_tests, cut_bound);
-  slack = λ verb target keys at value free. grind (arith, nat_tests);
-  order = λ target keys at name free. rw (cut_order name, free) refl;
-  rows = λ verb keys at value side free said some few.
-      rw (cut_rows value, free, side_of-digits value side said some few) refl;
-  cols = λ verb keys at value side free said some few.
-      rw (cut_cols value, free, side_of-digits value side said some few) refl;
-  shore = λ verb keys at value side free said some few.
-      rw (cut_shore value, free, side_of-digits value side said some few) refl;
-  clique = λ verb keys at free. rw free refl;
-  map = λ verb keys at name free. rw (cut_map name, free) refl;
-  dead = λ verb keys at name free. rw (cut_dead name, free) refl;
-  ties = ties;
-} where
-  ties : (verb : Verb) (keys : Keys) (at : ℕ) (value : ChainStrength) → keys.ties ≡ None
-      → with_word verb Chimera keys at (chain_key value) ≡ Some (record keys { ties = Some value })
-  ties verb keys at Choi free = rw free refl
-  ties verb keys at Cut free = rw free refl
+cols_few : (graph : graphs.Chimera) → graph.cols ≤ 2 ^ 20
+cols_few graph =
+    let some_rows = graph.shape.some_rows in
+    let some_shore = graph.shape.some_shore in
+    let few = graph.shape.few in
+    grind (arith, nat_tests)
+
+shore_few : (graph : graphs.Chimera) → graph.shore ≤ 2 ^ 20
+shore_few graph =
+    let some_rows = graph.shape.some_rows in
+    let some_cols = graph.shape.some_cols in
+    let few = graph.shape.few in
+    grind (arith, nat_tests)
+
+-- the keys of a tie, where it is given, after others
+ties_last : (word : TargetWord) (keys : Keys) (at : ℕ) (ties : Option ChainStrength)
+    → takes OnQubits verbs.Compile word ≡ true → keys.ties ≡ None
+    → keys_from verbs.Compile word keys at (optional (codes "chain") (option_map ties_word ties))
+    ≡ Ok (record keys { ties = ties })
+ties_last word keys at None taken free = ap (λ o. Ok (record keys { ties = o })) free
+ties_last word keys at (Some ties) taken free =
+    step verbs.Compile word keys _ at (key_word (codes "chain") (ties_word ties)) [] _
+    (ties_stand verbs.Compile keys at word taken ties free) refl
 
 -- the numbers and the chains of a graph
-abbrev graph_given : ℕ → ℕ → ℕ → Chaining → Keys
-graph_given rows cols shore chains = record no_keys {
-  rows = Some rows;
-  cols = Some cols;
-  shore = Some shore;
+abbrev graph_given : graphs.Chimera → Chaining → Keys
+graph_given graph chains = record no_keys {
+  rows = Some graph.rows;
+  cols = Some graph.cols;
+  shore = Some graph.shore;
   chains = Some chains;
 }
 
--- the keys of a graph in a row, and others after them
-graph_keys : (first second third fourth : List ℕ) (others : List (List ℕ)) (graph : graphs.Chimera)
-    (chains : Chaining)
-    → digits_number first ≡ Some graph.rows → digits_number second ≡ Some graph.cols
-    → digits_number third ≡ Some graph.shore → ((keys : Keys) → keys.chains ≡ None
-    → with_word verbs.Compile Chimera keys 7 fourth ≡ Some (record keys { chains = Some chains }))
-    → keys_from verbs.Compile Chimera no_keys 4
-    (rows_key first ∷ cols_key second ∷ shore_key third ∷ fourth ∷ others)
-    ≡ keys_from verbs.Compile Chimera (graph_given graph.rows graph.cols graph.shore chains) 8
-    others
-graph_keys first second third fourth others graph chains r c s last = grind (arith, nat_tests)
+chains_stand : (keys : Keys) (at : ℕ) (map : Option (List ℕ)) → keys.chains ≡ None
+    → with_word verbs.Compile Chimera keys at (chains_key map)
+    ≡ Some (record keys { chains = Some (chains_at at map) })
+chains_stand keys at None free = clique_stands verbs.Compile keys at free
+chains_stand keys at (Some name) free = map_stands verbs.Compile keys at Chimera refl name free
 
--- what is asked of a graph with chains of either kind
-graph_asked : (format : Format) (file first second third fourth : List ℕ) (graph : graphs.Chimera)
-    (chains : Chaining) → digits_number first ≡ Some graph.rows
+dead_ties : (keys : Keys) (at : ℕ) (dead : Option (List ℕ)) (ties : Option ChainStrength)
+    → keys.dead ≡ None → keys.ties ≡ None
+    → keys_from verbs.Compile Chimera keys at
+    (optional (codes "dead") dead ++ optional (codes "chain") (option_map ties_word ties))
+    ≡ Ok (record keys { dead = dead_at at dead; ties = ties })
+dead_ties keys at None ties d t =
+    ties_last Chimera keys at ties refl t ∙ ap (λ o. Ok (record keys { dead = o; ties = ties })) d
+dead_ties keys at (Some name) ties d t =
+    step verbs.Compile Chimera keys _ at (key_word (codes "dead") name)
+    (optional (codes "chain") (option_map ties_word ties)) _ (dead_stands verbs.Compile keys at name d)
+    (ties_last Chimera (record keys { dead = Some (Value at) }) (at + 1) ties refl t)
+
+-- the keys of a Chimera graph
+abbrev chimera_words : (first second third : List ℕ) (map dead : Option (List ℕ))
+    → Option ChainStrength → List (List ℕ)
+chimera_words first second third map dead ties =
+    key_word (codes "rows") first ∷ key_word (codes "cols") second
+    ∷ key_word (codes "shore") third ∷ chains_key map
+    ∷ optional (codes "dead") dead ++ optional (codes "chain") (option_map ties_word ties)
+
+chimera_keys : (first second third : List ℕ) (map dead : Option (List ℕ))
+    (ties : Option ChainStrength) (graph : graphs.Chimera) → digits_number first ≡ Some graph.rows
     → digits_number second ≡ Some graph.cols → digits_number third ≡ Some graph.shore
-    → ((keys : Keys) → keys.chains ≡ None
-    → with_word verbs.Compile Chimera keys 7 fourth ≡ Some (record keys { chains = Some chains }))
-    → command_of (compile_words format Chimera file
-    (rows_key first ∷ cols_key second ∷ shore_key third ∷ fourth ∷ []))
-    ≡ Ok (on_fourth_word format (board_of graph chains) no_keys asks.Model)
-graph_asked format file first second third fourth graph chains r c s last =
-    grind (arith, nat_tests, each_job, graph_keys, graph_with-its)
-
--- the keys of a list of dead qubits and of ties, after those of a graph
-tied_keys : (rows cols shore : ℕ) (chains : Chaining) (dead : Option (List ℕ)) (ties : ChainStrength)
-    → keys_from verbs.Compile Chimera (graph_given rows cols shore chains) 8
-    (dead_keys dead ++ chain_key ties ∷ [])
-    ≡ Ok (record (graph_given rows cols shore chains) { dead = dead_at 8 dead; ties = Some ties })
-tied_keys rows cols shore chains dead ties =
-    grind (arith, nat_tests, each_key.ties verbs.Compile (graph_given rows cols shore chains) 8 ties refl)
-
--- what is asked of a graph with chains of either kind, with or without a list of dead qubits, and
--- with either tie
-tied_asked : (format : Format) (file first second third fourth : List ℕ) (dead : Option (List ℕ))
-    (ties : ChainStrength) (graph : graphs.Chimera) (chains : Chaining)
-    → digits_number first ≡ Some graph.rows → digits_number second ≡ Some graph.cols
-    → digits_number third ≡ Some graph.shore → ((keys : Keys) → keys.chains ≡ None
-    → with_word verbs.Compile Chimera keys 7 fourth ≡ Some (record keys { chains = Some chains }))
-    → command_of (compile_words format Chimera file
-    (rows_key first ∷ cols_key second ∷ shore_key third ∷ fourth
-    ∷ dead_keys dead ++ chain_key ties ∷ []))
-    ≡ Ok (on_fourth_word format (board_with graph (dead_at 8 dead) chains ties) no_keys asks.Model)
-tied_asked format file first second third fourth dead ties graph chains r c s last =
-    grind (arith, nat_tests, each_job, graph_keys, tied_keys, graph_with-its)
+    → keys_from verbs.Compile Chimera no_keys 4 (chimera_words first second third map dead ties)
+    ≡ Ok (record (graph_given graph (chains_at 7 map)) { dead = dead_at 8 dead; ties = ties })
+chimera_keys first second third map dead ties graph r c s =
+    let rows = side_of-digits first graph.rows r graph.shape.some_rows (rows_few graph) in
+    let cols = side_of-digits second graph.cols c graph.shape.some_cols (cols_few graph) in
+    let shore = side_of-digits third graph.shore s graph.shape.some_shore (shore_few graph) in
+    let one = record no_keys { rows = Some graph.rows } in
+    let two = record one { cols = Some graph.cols } in
+    let three = record two { shore = Some graph.shore } in
+    let fifth = optional (codes "dead") dead ++ optional (codes "chain") (option_map ties_word ties) in
+    let fourth = chains_key map ∷ fifth in
+    let shores = key_word (codes "shore") third ∷ fourth in
+    let both = key_word (codes "cols") second ∷ shores in
+    step verbs.Compile Chimera no_keys one 4 (key_word (codes "rows") first) both _
+    (rows_stand verbs.Compile no_keys 4 first graph.rows refl rows)
+    (step verbs.Compile Chimera one two 5 (key_word (codes "cols") second) shores _
+    (cols_stand verbs.Compile one 5 second graph.cols refl cols)
+    (step verbs.Compile Chimera two three 6 (key_word (codes "shore") third) fourth _
+    (shore_stands verbs.Compile two 6 third graph.shore refl shore)
+    (step verbs.Compile Chimera three (graph_given graph (chains_at 7 map)) 7 (chains_key map) fifth _
+    (chains_stand three 7 map refl)
+    (dead_ties (graph_given graph (chains_at 7 map)) 8 dead ties refl refl))))
 
 pub each_graph : EachGraphIsAskedFor
 each_graph = record {
-  clique = λ format file first second third graph r c s.
-      graph_asked format file first second third clique_key graph Clique r c s
-      (λ keys free. each_key.clique verbs.Compile keys 7 free);
-  map = λ format file first second third name graph r c s.
-      graph_asked format file first second third (map_key name) graph (Map (Value 7)) r c s
-      (λ keys free. each_key.map verbs.Compile keys 7 name free);
-  tied_clique = λ format file first second third dead ties graph r c s.
-      tied_asked format file first second third clique_key dead ties graph Clique r c s
-      (λ keys free. each_key.clique verbs.Compile keys 7 free);
-  tied_map = λ format file first second third name dead ties graph r c s.
-      tied_asked format file first second third (map_key name) dead ties graph (Map (Value 7)) r c s
-      (λ keys free. each_key.map verbs.Compile keys 7 name free);
+  in_words = λ format file first second third map dead ties graph r c s.
+      job_given verbs.Compile format Chimera file [] (chimera_words first second third map dead ties)
+      _ _ (λ e. absurd cc) refl
+      (chimera_keys first second third map dead ties graph r c s) (rw (graph_with-its graph) refl);
+  in_a_file = λ format file name map ties.
+      let one = record no_keys { graph = Some (Value 4) } in
+      let two = record one { chains = Some (Map (Value 5)) } in
+      let last = optional (codes "chain") (option_map ties_word ties) in
+      let mapped = key_word (codes "map") map ∷ last in
+      job_given verbs.Compile format Graph file [] (key_word (codes "graph") name ∷ mapped) _ _
+      (λ e. absurd cc) refl
+      (step verbs.Compile Graph no_keys one 4 (key_word (codes "graph") name)
+      mapped _ (graph_stands verbs.Compile no_keys 4 name refl)
+      (step verbs.Compile Graph one two 5 (key_word (codes "map") map) last _ (map_stands verbs.Compile one 5 Graph refl map refl)
+      (ties_last Graph two 6 ties refl refl))) refl;
 }
 
-pub no_key_twice : NoKeyStandsTwice
-no_key_twice = record {
-  normal = λ verb target keys at first given word value named. rw (named, given) refl;
-  high = λ verb target keys at first given word value named. rw (named, given) refl;
-  unit = λ verb target keys at first given word value named. rw (named, given) refl;
-  bound = λ verb target keys at first given word value named. rw (named, given) refl;
-  slack = λ verb target keys at first given word value named. rw (named, given) refl;
-  order = λ verb target keys at first given word value named. grind (arith, nat_tests);
-  rows = λ verb target keys at first given word value named. grind (arith, nat_tests);
-  cols = λ verb target keys at first given word value named. grind (arith, nat_tests);
-  shore = λ verb target keys at first given word value named. grind (arith, nat_tests);
-  embed = λ verb target keys at first given word value named. grind (arith, nat_tests);
-  map = λ verb target keys at first given word value named. grind (arith, nat_tests);
-  dead = λ verb target keys at first given word value named. grind (arith, nat_tests);
-  ties = λ verb target keys at first given word value named. grind (arith, nat_tests);
-}
-
-pub no_graph_key_elsewhere : NoGraphKeyElsewhere
-no_graph_key_elsewhere = record {
-  rows = λ verb model keys at word value named. rw named refl;
-  cols = λ verb model keys at word value named. rw named refl;
-  shore = λ verb model keys at word value named. rw named refl;
-  embed = λ verb model keys at word value named. rw named refl;
-  map = λ verb model keys at word value named. rw named refl;
-  dead = λ verb model keys at word value named. rw named refl;
-  ties = λ verb model keys at word value named. rw named refl;
-}
-
-pub no_order_elsewhere : NoOrderElsewhere
-no_order_elsewhere verb target keys is other word value named = grind (arith, nat_tests)
+-- ---- keys that are missing
 
 -- keys that choose no target are refused after all words
-refused : (keys : Keys) → target_by Chimera keys ≡ None → IsRefusedAfterAll keys
-refused keys none = record {
-  job = λ format file words asked. grind (arith, nat_tests, each_job);
-  size = λ format file words asked. grind (arith, nat_tests, each_size);
-  evaluation = λ format file states words asked. grind (arith, nat_tests, each_evaluation);
-  solution = λ format file words asked. grind (arith, nat_tests, each_solution);
-  decoding = λ format file state words asked. grind (arith, nat_tests, each_decoding);
-  extension = λ format file assignment words asked. grind (arith, nat_tests, each_extension);
-  proof = λ format file state certificate words asked. grind (arith, nat_tests, each_proof);
-  sample = λ number clauses first second words one two asked. grind (arith, nat_tests, each_sample);
-}
+refused : (word : TargetWord) (keys : Keys) → target_by word keys ≡ None
+    → IsRefusedAfterAll word keys
+refused word keys none words verb origin say =
+    rw (
+      say.first,
+      say.source,
+      say.given,
+      or_none (nat_lt (length words) (first_key verb)) (target_by word keys) none,
+    ) refl
 
 pub no_graph_without : NoGraphWithout
 no_graph_without = record {
-  rows = λ keys none. refused keys (grind (arith, nat_tests));
-  cols = λ keys none. refused keys (grind (arith, nat_tests));
-  shore = λ keys none. refused keys (grind (arith, nat_tests));
-  chains = λ keys none. refused keys (grind (arith, nat_tests));
+  rows = λ keys none. refused Chimera keys (grind (arith, nat_tests));
+  cols = λ keys none. refused Chimera keys (grind (arith, nat_tests));
+  shore = λ keys none. refused Chimera keys (grind (arith, nat_tests));
+  chains = λ keys none. refused Chimera keys (grind (arith, nat_tests));
+  graph = λ keys none. refused Graph keys (grind (arith, nat_tests));
+  map = λ keys none. refused Graph keys (grind (arith, nat_tests));
 }
 
 pub no_larger_graph : NoLargerGraph
 no_larger_graph keys rows cols shore r c s larger =
-    refused keys (rw (r, c, s, graph_with-larger rows cols shore larger) refl)
+    refused Chimera keys (rw (r, c, s, graph_with-larger rows cols shore larger) refl)

@@ -1,6 +1,6 @@
 pub mod Common
 pub mod Texts
-pub mod KeyWords
+pub mod KeyTable
 pub mod Graphs
 pub mod AskedWords
 pub mod SaidWords

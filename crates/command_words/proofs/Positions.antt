@@ -1,15 +1,17 @@
 -- The position that is told is that of the first word that cannot stand.
-use Rattle.command_words.proofs.Common.{◌<◌, ◌≡◌, ℕ, suc, ◌+◌, List, [], ◌∷◌, ◌++◌, length, take, drop, Option, Some, None, Result, Ok, Err, refl, ap, sym, subst, ◌∙◌, ◌⊎◌, inl, inr, arith, ◌≤◌, codes, unwrap_or, option_map_or, ok_or, drop-take, length-drop, digits_number, Format, Notice, Origin, TargetWord, Verb, Keys, graph_with, keys_from, no_keys, ◌>>=◌, alone, clauses_of, command_of, commanding, drawn_words, file_words, first_key, format_of, notice_of, request_of, source_words, target_of, verb_of, AskForTooLarge, CanGoOn, PositionsTellTheFirst, File, Drawn, Whole}
+use Rattle.command_words.proofs.Common.{◌<◌, ◌≡◌, ℕ, suc, ◌+◌, List, [], ◌∷◌, ◌++◌, length, take, drop, Option, Some, None, Result, Ok, Err, refl, ap, sym, subst, ◌∙◌, ◌⊎◌, inl, inr, arith, ◌≤◌, codes, unwrap_or, option_map_or, ok_or, drop-take, length-drop, digits_number, Format, Notice, Origin, TargetWord, Verb, Keys, graph_with, keys_from, no_keys, ◌>>=◌, alone, ask_by, clauses_of, command_of, commanding, drawn_words, file_words, first_key, format_of, notice_of, request_of, source_words, target_of, verb_of, AskForTooLarge, CanGoOn, PositionsTellTheFirst, File, Drawn, Whole}
 use Rattle.command_words.specs.declared.commands.Format.TheVariants as formats
 use Rattle.command_words.specs.declared.commands.NodeModel.TheVariants.{Qubo}
 use Rattle.command_words.specs.declared.commands.Notice.TheVariants as notices
 use Rattle.command_words.specs.declared.commands.Request.TheVariants as requests
-use Rattle.command_words.specs.declared.commands.TargetWord.TheVariants.{Nodes, Chimera}
+use Rattle.command_words.specs.declared.commands.TargetWord.TheVariants.{Nodes, Chimera, Graph}
 use Rattle.command_words.specs.declared.commands.Verb.TheVariants as verbs
 use Rattle.chimera_graph.specs.declared.chimera.Chimera as graphs
+use Rattle.command_words.proofs.AskedWords.{all_there}
 use Rattle.command_words.proofs.Graphs.{graph_with-its}
+use Rattle.command_words.proofs.KeyTable.{no_clique}
 use Rattle.command_words.proofs.SaidWords.{two_are_not_one, with_clauses, with_format, with_keys, with_number, with_source, with_target}
-use Rattle.command_words.proofs.Stops.{the_err, Stop, Told, ask, at_index, drop-nil, drop-pad, drop-take-append, from_command, keys_behind, late, late_end, length-pad, pad, room_of, stop, whole}
+use Rattle.command_words.proofs.Stops.{the_err, Stop, Told, at_index, drop-nil, drop-pad, drop-take-append, from_command, keys_behind, late, late_end, length-pad, pad, room_of, stop, whole}
 
 -- the smallest graph
 small_graph : graphs.Chimera
@@ -30,6 +32,7 @@ room_at_first : (target : TargetWord) → room_of target no_keys (Some small_gra
 unfolding small_graph
 room_at_first (Nodes model) = tt
 room_at_first Chimera = graph_with-its small_graph
+room_at_first Graph = tt
 
 -- a word that cannot stand behind words that go on
 told_at : {A : Type 0} (words : List (List ℕ)) (j i : ℕ) → the_err {A = A} (suc j) ≡ Err (i + 1)
@@ -59,7 +62,6 @@ module _ (verb : Verb) (n : ℕ) (first : List ℕ) (no_notice : notice_of first
         let words = first ∷ second ∷ third ∷ fourth ∷ rest ++ (pad n rest ++ more.words) in
         let long = length-pad n rest more.words in
         let enough : first_key verb ≤ length words = omega (arith, behind, long) in
-        let asked = ask verb more.given.order words enough in
         let kept : drop (first_key verb) words ≡ ks ++ more.words =
         ap (λ k. drop k words) behind ∙ drop-pad n rest more.words in
         let filled : keys_from verb target no_keys (first_key verb) (drop (first_key verb) words)
@@ -68,14 +70,14 @@ module _ (verb : Verb) (n : ℕ) (first : List ℕ) (no_notice : notice_of first
         ∙ keys_behind verb target no_keys keys (first_key verb) ks more.words good
         ∙ more.filled in (
           pad n rest ++ more.words,
-          requests.Command (commanding origin more.chosen more.given asked.0),
+          requests.Command (commanding origin more.chosen more.given (ask_by verb more.given.order)),
           rw (
             no_notice,
             is_verb,
             say (rest ++ (pad n rest ++ more.words)),
             filled,
+            all_there verb words target more.given enough,
             more.by,
-            asked.1,
           ) refl,
         )
 
@@ -99,10 +101,12 @@ module _ (verb : Verb) (n : ℕ) (first : List ℕ) (no_notice : notice_of first
           verb = verb;
           origin = origin;
           keys = keys;
-          first = rw is_verb refl;
-          source = s rest;
-          given = rw behind
-              (subst (λ k. keys_from verb Chimera no_keys k (drop n rest) ≡ Ok keys) behind g);
+          say = record {
+            first = rw is_verb refl;
+            source = s rest;
+            given = rw behind
+                (subst (λ k. keys_from verb Chimera no_keys k (drop n rest) ≡ Ok keys) behind g);
+          };
           large = e;
         })
 
@@ -113,6 +117,9 @@ module _ (verb : Verb) (n : ℕ) (first : List ℕ) (no_notice : notice_of first
         go (Nodes model) s g =
             inl (go_on second third fourth origin (Nodes model) s rest keys small_graph g tt)
         go Chimera s g = by_graph s g _ refl
+        go Graph s g =
+            inl (go_on second third fourth origin Graph s rest keys small_graph g
+            (no_clique verb no_keys keys (first_key verb) (drop n rest) g tt))
 
     -- where keys stop
     at_key : (rest : List (List ℕ)) (i q : ℕ)

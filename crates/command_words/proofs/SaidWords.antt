@@ -1,6 +1,5 @@
 -- Words that ask for a command or a notice say it.
-use Rattle.command_words.proofs.Common.{nat_tests, ◌≡◌, ℕ, suc, ◌+◌, false, List, [], ◌∷◌, ◌++◌, length, drop, Option, Some, None, Result, Ok, Err, refl, ap, sym, subst, ◌∙◌, ◌⊎◌, arith, IfOk, IfSome, ◌==◌, ◌||◌, bytes_eq, codes, slice_get, if◌then◌else◌, ⊤, option_map_or, drop_more, slice_get_within, get_or_from_slice_get, ne_eqb, bytes_eq-Decides, Format, Target, TargetWord, WordAt, Ask, Command, Origin, digits_number, Keys, Verb, Notice, Request, EachNoticeIsAskedFor, EachCommandIsAskedFor, NoOtherWordsAsk, Say, SayRequest, format_word, job_words, long_word, short_word, target_word, word_of, ◌>>=◌, alone, ask_of, chosen_target, clauses_of, command_of, commanding, drawn_words, file_words, first_key, first_notice, format_of, named, notice_of, source_words, target_of, valued, verb_of, keys_from, no_keys, text_at, File, Drawn}
-use Rattle.command_words.specs.declared.commands.Ask.TheVariants as asks
+use Rattle.command_words.proofs.Common.{nat_tests, ◌≡◌, ◌≢◌, ◌≤◌, ℕ, suc, ◌+◌, map, false, List, [], ◌∷◌, ◌++◌, length, drop, Option, Some, None, Result, Ok, Err, refl, ap, sym, subst, ◌∙◌, ◌⊎◌, arith, IfOk, IfSome, ◌==◌, ◌||◌, bytes_eq, codes, slice_get, if◌then◌else◌, ⊤, option_map_or, drop_more, slice_get_within, get_or_from_slice_get, ne_eqb, bytes_eq-Decides, Format, Target, TargetWord, WordAt, Command, Origin, digits_number, Keys, Verb, Notice, Request, EachNoticeIsAskedFor, EachCommandIsAskedFor, NoOtherWordsAsk, Say, SayRequest, file_command, format_word, ground_word, long_word, short_word, target_word, verb_for, verb_word, word_of, ◌>>=◌, alone, ask_by, chosen_target, clauses_of, command_of, commanding, drawn_words, file_words, first_key, first_notice, format_of, named, notice_of, source_words, target_of, valued, verb_of, ground_by, keys_from, no_keys, target_by, text_at, File, Drawn}
 use Rattle.command_words.specs.declared.commands.Verb.TheVariants as verbs
 use Rattle.command_words.specs.declared.commands.Notice.TheVariants.{Help, Version}
 use Rattle.command_words.specs.declared.commands.Request.TheVariants as requests
@@ -22,20 +21,21 @@ format_of-word word = grind (arith, nat_tests, bytes_eq-Decides)
 target_of-word : (word : List ℕ) → IfSome (target_of word) (λ target. word ≡ target_word target)
 target_of-word word = grind (arith, nat_tests, bytes_eq-Decides)
 
--- the target that is chosen has the word that was said
-chosen_has_word : (words : List (List ℕ)) (word : TargetWord) (keys : Keys)
-    → IfOk (chosen_target words word keys) (λ target. word_of target ≡ word)
-chosen_has_word words word keys = grind (arith, nat_tests)
+-- the ground that is chosen has the word that was said
+ground_has_word : (word : TargetWord) (keys : Keys)
+    → IfSome (ground_by word keys) (λ ground. ground_word ground ≡ word)
+ground_has_word word keys = grind (arith, nat_tests)
 
-abbrev verb_word : Verb → List ℕ
-verb_word verbs.Compile = codes "compile"
-verb_word verbs.Size = codes "size"
-verb_word verbs.Decode = codes "decode"
-verb_word verbs.Evaluate = codes "evaluate"
-verb_word verbs.Extend = codes "extend"
-verb_word verbs.Sample = codes "sample"
-verb_word verbs.Solve = codes "solve"
-verb_word verbs.Prove = codes "prove"
+-- so has the target
+target_has_word : (word : TargetWord) (keys : Keys)
+    → IfSome (target_by word keys) (λ target. word_of target ≡ word)
+target_has_word word keys = grind (arith, nat_tests, ground_has_word)
+
+-- so has the target that is chosen behind all words that the verb needs
+chosen_has_word : (verb : Verb) (words : List (List ℕ)) (word : TargetWord) (keys : Keys)
+    → IfOk (chosen_target verb words word keys)
+    (λ target. (word_of target ≡ word) × (first_key verb ≤ length words))
+chosen_has_word verb words word keys = grind (arith, nat_tests, target_has_word)
 
 verb_of-word : (word : List ℕ) → IfSome (verb_of word) (λ verb. word ≡ verb_word verb)
 verb_of-word word = grind (arith, nat_tests, bytes_eq-Decides)
@@ -85,7 +85,7 @@ named-word words i = grind (arith, nat_tests, slice_get-StandsAt)
 -- the words after the first one say this source and target
 abbrev SaysSource : List (List ℕ) → Origin → TargetWord → Type 0
 SaysSource words (File format file) target =
-    drop 1 words ≡ job_words format target (text_at words file) ++ drop 4 words
+    drop 1 words ≡ format_word format ∷ target_word target ∷ text_at words file ∷ drop 4 words
 SaysSource words (Drawn number clauses) target = (first second : List ℕ)
     × (digits_number first ≡ Some number) × (clauses_of second ≡ Some clauses)
     × (drop 1 words ≡ first ∷ second ∷ target_word target ∷ drop 4 words)
@@ -154,119 +154,90 @@ IsAsked words command = (keys : List (List ℕ)) × Say words command keys
 
 module _ (verb : Verb) (words : List (List ℕ)) (origin : Origin) (word : TargetWord) where
   -- the steps after the three words, each with those after it
-  abbrev pub with_ask : Keys → Target → Ask → Result Command ℕ
-  with_ask keys target ask = Ok (commanding origin target keys ask)
-
   abbrev pub with_chosen : Keys → Target → Result Command ℕ
-  with_chosen keys target = ask_of verb keys.order words >>= with_ask keys target
+  with_chosen keys target = Ok (commanding origin target keys (ask_by verb keys.order))
 
   abbrev pub with_keys : Keys → Result Command ℕ
-  with_keys keys = chosen_target words word keys >>= with_chosen keys
+  with_keys keys = chosen_target verb words word keys >>= with_chosen keys
 
   abbrev pub with_source : Result Command ℕ
   with_source =
       keys_from verb word no_keys (first_key verb) (drop (first_key verb) words) >>= with_keys
 
   -- it is asked for where the words say what is asked of this target
-  with_source-asked : (Said : Ask → Type 0)
-      → ((order : Option WordAt) → IfOk (ask_of verb order words) Said)
-      → ((keys : Keys) (target : Target) (ask : Ask) → word_of target ≡ word → Said ask
-      → IsAsked words (commanding origin target keys ask)) → IfOk with_source (IsAsked words)
-  with_source-asked Said each asked =
+  with_source-asked : ((keys : Keys) (target : Target) → word_of target ≡ word
+      → first_key verb ≤ length words
+      → IsAsked words (commanding origin target keys (ask_by verb keys.order)))
+      → IfOk with_source (IsAsked words)
+  with_source-asked asked =
       next (keys_from verb word no_keys (first_key verb) (drop (first_key verb) words)) with_keys
       (λ _. ⊤) _ (nothing _) (λ keys _.
-      next (chosen_target words word keys) (with_chosen keys) _ _ (chosen_has_word words word keys)
-      (λ target same.
-      next (ask_of verb keys.order words) (with_ask keys target) Said _ (each keys.order)
-      (λ ask said. asked keys target ask same said)))
+      next (chosen_target verb words word keys) (with_chosen keys) _ _
+      (chosen_has_word verb words word keys)
+      (λ target chosen. asked keys target chosen.0 chosen.1))
+
+-- the files that a verb has behind FILE
+abbrev files : Verb → Option WordAt → List WordAt
+files verb order = (verb_for (ask_by verb order)).1
+
+-- the words behind FILE are these, and keys
+files_behind : (verb : Verb) (order : Option WordAt) (words : List (List ℕ))
+    → first_key verb ≤ length words
+    → drop 4 words ≡ map (text_at words) (files verb order) ++ drop (first_key verb) words
+files_behind verbs.Compile order words enough = refl
+files_behind verbs.Size order words enough = refl
+files_behind verbs.Sample order words enough = refl
+files_behind verbs.Solve order words enough = refl
+files_behind verbs.Decode order (a ∷ b ∷ c ∷ d ∷ e ∷ words) enough = refl
+files_behind verbs.Evaluate order (a ∷ b ∷ c ∷ d ∷ e ∷ words) enough = refl
+files_behind verbs.Extend order (a ∷ b ∷ c ∷ d ∷ e ∷ words) enough = refl
+files_behind verbs.Prove order (a ∷ b ∷ c ∷ d ∷ e ∷ f ∷ words) enough = refl
+files_behind verb order words enough = absurd (omega (arith, enough))
+
+-- the words of a job and of the files behind it are those of a command on a file
+file_said : (verb : Verb) (words : List (List ℕ)) (format : Format) (file : WordAt)
+    (target : TargetWord) (order : Option WordAt) → words ≡ verb_word verb ∷ drop 1 words
+    → SaysSource words (File format file) target → first_key verb ≤ length words
+    → words ≡ file_command verb format target (text_at words file)
+    (map (text_at words) (files verb order)) (drop (first_key verb) words)
+file_said verb words format file target order first says enough =
+    first ∙ ap (λ rest. verb_word verb ∷ rest) says
+    ∙ ap (λ rest. verb_word verb ∷ format_word format ∷ target_word target ∷ text_at words file ∷ rest)
+    (files_behind verb order words enough)
+
+file_asked : (verb : Verb) → verb ≢ verbs.Sample → (words : List (List ℕ)) (format : Format)
+    (file : WordAt) (target : Target) (keys : Keys) → words ≡ verb_word verb ∷ drop 1 words
+    → SaysSource words (File format file) (word_of target) → first_key verb ≤ length words
+    → IsAsked words (commanding (File format file) target keys (ask_by verb keys.order))
+file_asked verbs.Sample other words format file target keys first says enough = absurd (other refl)
+file_asked verb other words format file target keys first says enough =
+    (_, file_said verb words format file (word_of target) keys.order first says enough)
 
 -- words of a file say what is asked of it
-with_file-asked : (verb : Verb) (words : List (List ℕ)) (Said : Ask → Type 0)
-    → ((order : Option WordAt) → IfOk (ask_of verb order words) Said)
-    → ((format : Format) (file : WordAt) (keys : Keys) (target : Target) (ask : Ask)
-    → SaysSource words (File format file) (word_of target) → Said ask
-    → IsAsked words (commanding (File format file) target keys ask))
+on_file : (verb : Verb) → verb ≢ verbs.Sample → (words : List (List ℕ))
+    → words ≡ verb_word verb ∷ drop 1 words
     → IfOk (file_words words >>= λ source. with_source verb words source.0 source.1) (IsAsked words)
-with_file-asked verb words Said each asked =
+on_file verb other words first =
     next (file_words words) (λ source. with_source verb words source.0 source.1) (IsFileSaid words)
     (IsAsked words) (file_words-said words) (λ source h.
     let Asks : Origin × TargetWord → Type 0 =
     λ s. IfOk (with_source verb words s.0 s.1) (IsAsked words) in
-    subst Asks (sym h.is) (with_source-asked verb words (File h.format h.file) source.1 Said each
-    (λ keys target ask same said. asked h.format h.file keys target ask
-    (subst (SaysSource words (File h.format h.file)) (sym same) h.says) said)))
-
--- the file of one more word is said
-one_more : (words : List (List ℕ)) (make : WordAt → Ask)
-    → IfOk (named words 4 >>= λ at. Ok (make at))
-    (λ ask. (at : WordAt) × (ask ≡ make at) × StandsAt words 4 (text_at words at))
-one_more words make = grind (arith, nat_tests)
-
--- those of a state and of a certificate are
-two_more : (words : List (List ℕ)) → IfOk (ask_of verbs.Prove None words)
-    (λ ask. (state certificate : WordAt) × (ask ≡ asks.Prove state certificate)
-    × StandsAt words 4 (text_at words state) × StandsAt words 5 (text_at words certificate))
-two_more words = grind (arith, nat_tests)
-
--- the words of a job and of one more file, after the first word
-with_file-words : (words : List (List ℕ)) (first : List ℕ) (format : Format) (file : WordAt)
-    (target : Target) (at : WordAt) → words ≡ first ∷ drop 1 words
-    → SaysSource words (File format file) (word_of target) → StandsAt words 4 (text_at words at)
-    → words ≡ first ∷ job_words format (word_of target) (text_at words file)
-    ++ text_at words at ∷ drop 5 words
-with_file-words words first format file target at begins says fifth = grind (arith, nat_tests)
+    subst Asks (sym h.is) (with_source-asked verb words (File h.format h.file) source.1
+    (λ keys target same enough.
+    file_asked verb other words h.format h.file target keys first
+    (subst (SaysSource words (File h.format h.file)) (sym same) h.says) enough)))
 
 after_verb-words : (words : List (List ℕ)) (verb : Verb) → words ≡ verb_word verb ∷ drop 1 words
     → IfOk (source_words verb words >>= λ source. with_source verb words source.0 source.1)
     (IsAsked words)
-after_verb-words words verbs.Compile first =
-    with_file-asked verbs.Compile words (λ ask. ask ≡ asks.Model) (λ order. refl)
-    (λ format file keys target ask says is.
-    subst (λ a. IsAsked words (commanding (File format file) target keys a)) (sym is)
-    (drop 4 words, first ∙ ap (λ rest. codes "compile" ∷ rest) says))
-after_verb-words words verbs.Size first =
-    with_file-asked verbs.Size words (λ ask. ask ≡ asks.Size) (λ order. refl)
-    (λ format file keys target ask says is.
-    subst (λ a. IsAsked words (commanding (File format file) target keys a)) (sym is)
-    (drop 4 words, first ∙ ap (λ rest. codes "size" ∷ rest) says))
-after_verb-words words verbs.Solve first =
-    with_file-asked verbs.Solve words (λ ask. (order : Option WordAt) × (ask ≡ asks.Solve order))
-    (λ order. (order, refl)) (λ format file keys target ask says is.
-    subst (λ a. IsAsked words (commanding (File format file) target keys a)) (sym is.1)
-    (drop 4 words, first ∙ ap (λ rest. codes "solve" ∷ rest) says))
-after_verb-words words verbs.Decode first =
-    with_file-asked verbs.Decode words _ (λ order. one_more words asks.Decode)
-    (λ format file keys target ask says is.
-    subst (λ a. IsAsked words (commanding (File format file) target keys a)) (sym is.1)
-    (drop 5 words, with_file-words words (codes "decode") format file target is.0 first says is.2))
-after_verb-words words verbs.Evaluate first =
-    with_file-asked verbs.Evaluate words _ (λ order. one_more words asks.Evaluate)
-    (λ format file keys target ask says is.
-    subst (λ a. IsAsked words (commanding (File format file) target keys a)) (sym is.1)
-    (drop 5 words, with_file-words words (codes "evaluate") format file target is.0 first says is.2))
-after_verb-words words verbs.Extend first =
-    with_file-asked verbs.Extend words _ (λ order. one_more words asks.Extend)
-    (λ format file keys target ask says is.
-    subst (λ a. IsAsked words (commanding (File format file) target keys a)) (sym is.1)
-    (drop 5 words, with_file-words words (codes "extend") format file target is.0 first says is.2))
-after_verb-words words verbs.Prove first =
-    with_file-asked verbs.Prove words _ (λ order. two_more words)
-    (λ format file keys target ask says is.
-    let said = job_words format (word_of target) (text_at words file) in
-    subst (λ a. IsAsked words (commanding (File format file) target keys a)) (sym is.2) (
-      drop 6 words,
-      with_file-words words (codes "prove") format file target is.0 first says is.3
-          ∙ ap (λ rest. codes "prove" ∷ said ++ text_at words is.0 ∷ rest) is.4,
-    ))
-after_verb-words words verbs.Sample first =
+after_verb-words words verbs.Sample = λ first.
     next (drawn_words words) (λ source. with_source verbs.Sample words source.0 source.1)
     (IsDrawnSaid words) (IsAsked words) (drawn_words-said words) (λ source h.
     let Asks : Origin × TargetWord → Type 0 =
     λ s. IfOk (with_source verbs.Sample words s.0 s.1) (IsAsked words) in
     subst Asks (sym h.is) (with_source-asked verbs.Sample words (Drawn h.number h.clauses) source.1
-    (λ ask. ask ≡ asks.Summary) (λ order. refl) (λ keys target ask same is.
-    let says = subst (SaysSource words (Drawn h.number h.clauses)) (sym same) h.says in
-    subst (λ a. IsAsked words (commanding (Drawn h.number h.clauses) target keys a)) (sym is) (
+    (λ keys target same enough.
+    let says = subst (SaysSource words (Drawn h.number h.clauses)) (sym same) h.says in (
       drop 4 words,
       record {
         first = says.0;
@@ -276,6 +247,7 @@ after_verb-words words verbs.Sample first =
         all = first ∙ ap (λ rest. codes "sample" ∷ rest) says.4;
       },
     ))))
+after_verb-words words verb = on_file verb (λ e. absurd cc) words
 
 -- words of a command say it
 command_of-words : (words : List (List ℕ)) → IfOk (command_of words) (IsAsked words)

@@ -1,12 +1,12 @@
 -- Where keys stop, how words go on, and what is told behind all words.
-use Rattle.command_words.proofs.Common.{nat_tests, ◌≡◌, ◌<◌, ℕ, zero, suc, ◌+◌, List, [], ◌∷◌, ◌++◌, length, take, drop, Option, Some, None, Result, Ok, Err, refl, ap, sym, subst, ◌∙◌, ◌⊎◌, arith, unwrap_or, ⊤, ◌≤◌, codes, slice_get, option_map_or, take_all, slice_get_cases, digits_number, Ask, Command, WordAt, Target, TargetWord, Verb, Keys, Origin, graph_with, keys_from, target_by, with_word, clique_key, cols_key, rows_key, shore_key, ◌>>=◌, ask_of, first_key, named, request_of, AskForTooLarge, CanGoOn, Choi, Clique}
+use Rattle.command_words.proofs.Common.{nat_tests, ◌≡◌, ◌<◌, ℕ, zero, suc, ◌+◌, List, [], ◌∷◌, ◌++◌, length, take, drop, Option, Some, None, Result, Ok, Err, refl, ap, sym, subst, ◌∙◌, ◌⊎◌, arith, unwrap_or, ⊤, ◌≤◌, codes, option_map_or, take_all, digits_number, Chaining, Command, WordAt, Target, TargetWord, Verb, Keys, Origin, graph_with, keys_from, map_at, side_of, target_by, with_word, key_word, ◌>>=◌, request_of, AskForTooLarge, CanGoOn, Choi, Clique, Map, Value}
 use Rattle.command_words.specs.declared.commands.Request.TheVariants as requests
+use Rattle.command_words.specs.declared.commands.Ground.TheVariants as grounds
 use Rattle.command_words.specs.declared.commands.Target.TheVariants as targets
-use Rattle.command_words.specs.declared.commands.TargetWord.TheVariants.{Nodes, Chimera}
-use Rattle.command_words.specs.declared.commands.Verb.TheVariants as verbs
+use Rattle.command_words.specs.declared.commands.TargetWord.TheVariants.{Nodes, Chimera, Graph}
 use Rattle.chimera_graph.specs.declared.chimera.Chimera as graphs
-use Rattle.command_words.proofs.AskedWords.{each_key}
-use Rattle.command_words.proofs.SaidWords.{with_ask, with_chosen, with_keys}
+use Rattle.command_words.proofs.KeyTable.{NoClique, clique_stands, cols_stand, graph_stands, map_stands, rows_stand, shore_stands, side_of-digits}
+use Rattle.command_words.proofs.SaidWords.{with_chosen, with_keys}
 
 -- ---- keys
 
@@ -76,54 +76,33 @@ module _ (verb : Verb) (target : TargetWord) where
 -- ---- the keys of a graph that are missing
 
 -- keys that go on to others
-pub record Fill (verb : Verb) (keys result : Keys) (at : ℕ) : Type 0 where
+pub record Fill (verb : Verb) (target : TargetWord) (keys result : Keys) (at : ℕ) : Type 0 where
   pub words : List (List ℕ)
-  pub filled : keys_from verb Chimera keys at words ≡ Ok result
+  pub filled : keys_from verb target keys at words ≡ Ok result
 
-module _ (verb : Verb) where
+-- one is a number of a graph
+side_one : side_of (codes "1") ≡ Some 1
+unfolding digits_number
+side_one = side_of-digits (codes "1") 1 refl (omega arith) (omega arith)
+
+module _ (verb : Verb) (target : TargetWord) where
   -- a key is added where it is missing
   fill : {A : Type 0} (keys : Keys) (at : ℕ) (put : Option A → Keys) (given : Option A) (one : A)
       (word : List ℕ) → keys ≡ put given
-      → (given ≡ None → with_word verb Chimera keys at word ≡ Some (put (Some one)))
-      → Fill verb keys (put (Some (unwrap_or given one))) at
+      → (given ≡ None → with_word verb target keys at word ≡ Some (put (Some one)))
+      → Fill verb target keys (put (Some (unwrap_or given one))) at
   fill keys at put None one word same next = record { words = word ∷ []; filled = rw (next refl) refl }
   fill keys at put (Some value) one word same next = record { words = []; filled = ap Ok same }
 
-  fill_rows : (keys : Keys) (at : ℕ)
-      → Fill verb keys (record keys { rows = Some (unwrap_or keys.rows 1) }) at
-  unfolding digits_number
-  fill_rows keys at =
-      fill keys at (λ given. record keys { rows = given }) keys.rows 1 (rows_key (codes "1")) refl
-      (λ none. each_key.rows verb keys at (codes "1") 1 none refl (omega arith) (omega arith))
-
-  fill_cols : (keys : Keys) (at : ℕ)
-      → Fill verb keys (record keys { cols = Some (unwrap_or keys.cols 1) }) at
-  unfolding digits_number
-  fill_cols keys at =
-      fill keys at (λ given. record keys { cols = given }) keys.cols 1 (cols_key (codes "1")) refl
-      (λ none. each_key.cols verb keys at (codes "1") 1 none refl (omega arith) (omega arith))
-
-  fill_shore : (keys : Keys) (at : ℕ)
-      → Fill verb keys (record keys { shore = Some (unwrap_or keys.shore 1) }) at
-  unfolding digits_number
-  fill_shore keys at =
-      fill keys at (λ given. record keys { shore = given }) keys.shore 1 (shore_key (codes "1")) refl
-      (λ none. each_key.shore verb keys at (codes "1") 1 none refl (omega arith) (omega arith))
-
-  fill_chains : (keys : Keys) (at : ℕ)
-      → Fill verb keys (record keys { chains = Some (unwrap_or keys.chains Clique) }) at
-  fill_chains keys at =
-      fill keys at (λ given. record keys { chains = given }) keys.chains Clique clique_key refl
-      (each_key.clique verb keys at)
-
-  join : {keys next last : Keys} {at : ℕ} (a : Fill verb keys next at)
-      → Fill verb next last (length a.words + at) → Fill verb keys last at
+  join : {keys next last : Keys} {at : ℕ} (a : Fill verb target keys next at)
+      → Fill verb target next last (length a.words + at) → Fill verb target keys last at
   join {keys} {next} {last} {at} a b = record {
     words = a.words ++ b.words;
-    filled = keys_behind verb Chimera keys next at a.words b.words a.filled ∙ b.filled;
+    filled = keys_behind verb target keys next at a.words b.words a.filled ∙ b.filled;
   }
 
-  -- the keys with all that a graph needs
+module _ (verb : Verb) where
+  -- the keys with all that a Chimera graph needs
   abbrev filled_keys : Keys → Keys
   filled_keys keys = record keys {
     rows = Some (unwrap_or keys.rows 1);
@@ -132,21 +111,33 @@ module _ (verb : Verb) where
     chains = Some (unwrap_or keys.chains Clique);
   }
 
-  fill_graph : (keys : Keys) (at : ℕ) → Fill verb keys (filled_keys keys) at
+  fill_graph : (keys : Keys) (at : ℕ) → Fill verb Chimera keys (filled_keys keys) at
   fill_graph keys at =
-      let rows = fill_rows keys at in
+      let one = codes "1" in
+      let rows = fill verb Chimera keys at (λ given. record keys { rows = given }) keys.rows 1
+      (key_word (codes "rows") one) refl (λ none. rows_stand verb keys at one 1 none side_one) in
       let second = record keys { rows = Some (unwrap_or keys.rows 1) } in
-      let cols = fill_cols second (length rows.words + at) in
+      let cols = fill verb Chimera second (length rows.words + at)
+      (λ given. record second { cols = given }) keys.cols 1 (key_word (codes "cols") one) refl
+      (λ none. cols_stand verb second (length rows.words + at) one 1 none side_one) in
       let third = record second { cols = Some (unwrap_or keys.cols 1) } in
-      let shore = fill_shore third (length cols.words + (length rows.words + at)) in
+      let shore = fill verb Chimera third (length cols.words + (length rows.words + at))
+      (λ given. record third { shore = given }) keys.shore 1 (key_word (codes "shore") one) refl
+      (λ none. shore_stands verb third (length cols.words + (length rows.words + at)) one 1 none
+      side_one) in
       let fourth = record third { shore = Some (unwrap_or keys.shore 1) } in
-      join rows (join cols (join shore (fill_chains fourth _)))
+      let last = length shore.words + (length cols.words + (length rows.words + at)) in
+      let chains = fill verb Chimera fourth last (λ given. record fourth { chains = given })
+      keys.chains Clique (codes "embed=clique") refl (clique_stands verb fourth last) in
+      join verb Chimera rows (join verb Chimera cols (join verb Chimera shore chains))
 
--- whether keys leave room for a graph, with 1 for each number that is missing
+-- whether keys leave room for a graph: a Chimera graph with 1 for each number that is missing, or a
+-- graph in a file with a map
 abbrev pub room_of : TargetWord → Keys → Option graphs.Chimera → Type 0
 room_of (Nodes model) keys graph = ⊤
 room_of Chimera keys graph =
     graph_with (unwrap_or keys.rows 1) (unwrap_or keys.cols 1) (unwrap_or keys.shore 1) ≡ graph
+room_of Graph keys graph = NoClique keys.chains
 
 -- keys that go on to those of a target
 pub record Filled (verb : Verb) (target : TargetWord) (keys : Keys) (at : ℕ) : Type 0 where
@@ -155,6 +146,13 @@ pub record Filled (verb : Verb) (target : TargetWord) (keys : Keys) (at : ℕ) :
   pub filled : keys_from verb target keys at words ≡ Ok given
   pub chosen : Target
   pub by : target_by target given ≡ Some chosen
+
+-- chains that are those of no clique are those of a map
+named_map : (chains : Option Chaining) (at : WordAt) → NoClique chains
+    → (place : WordAt) × (map_at (unwrap_or chains (Map at)) ≡ Some place)
+named_map None at safe = (at, refl)
+named_map (Some (Map place)) at safe = (place, refl)
+named_map (Some Clique) at safe = absurd safe
 
 pub whole : (verb : Verb) (target : TargetWord) (keys : Keys) (at : ℕ) (graph : graphs.Chimera)
     → room_of target keys (Some graph) → Filled verb target keys at
@@ -166,13 +164,31 @@ whole verb Chimera keys at graph room =
       words = more.words;
       given = filled_keys verb keys;
       filled = more.filled;
-      chosen = targets.Chimera (record {
-        graph = graph;
-        dead = keys.dead;
-        chains = unwrap_or keys.chains Clique;
+      chosen = targets.Qubits (record {
+        ground = grounds.Chimera graph keys.dead (unwrap_or keys.chains Clique);
         ties = unwrap_or keys.ties Choi;
       });
       by = rw room refl;
+    }
+whole verb Graph keys at graph room =
+    let named = fill verb Graph keys at (λ given. record keys { graph = given }) keys.graph (Value at)
+    (key_word (codes "graph") []) refl (graph_stands verb keys at []) in
+    let second = record keys { graph = Some (unwrap_or keys.graph (Value at)) } in
+    let next = length named.words + at in
+    let mapped = fill verb Graph second next (λ given. record second { chains = given })
+    keys.chains (Map (Value next)) (key_word (codes "map") []) refl
+    (map_stands verb second next Graph refl []) in
+    let more = join verb Graph named mapped in
+    let map = named_map keys.chains (Value next) room in
+    record {
+      words = more.words;
+      given = record second { chains = Some (unwrap_or keys.chains (Map (Value next))) };
+      filled = more.filled;
+      chosen = targets.Qubits (record {
+        ground = grounds.Listed (unwrap_or keys.graph (Value at)) map.0;
+        ties = unwrap_or keys.ties Choi;
+      });
+      by = rw map.1 refl;
     }
 
 -- ---- words
@@ -229,41 +245,10 @@ pub from_command : (r : Result Command ℕ) (p : ℕ)
     → (r >>= λ command. Ok (requests.Command command)) ≡ Err p → r ≡ Err p
 from_command r p e = grind (arith, nat_tests)
 
--- what a verb asks of enough words
-pub ask : (verb : Verb) (order : Option WordAt) (words : List (List ℕ)) → first_key verb ≤ length words
-    → (ask : Ask) × (ask_of verb order words ≡ Ok ask)
-ask verbs.Compile order words enough = (_, refl)
-ask verbs.Size order words enough = (_, refl)
-ask verbs.Sample order words enough = (_, refl)
-ask verbs.Solve order words enough = (_, refl)
-ask verbs.Decode order (a ∷ b ∷ c ∷ d ∷ e ∷ words) enough = (_, refl)
-ask verbs.Evaluate order (a ∷ b ∷ c ∷ d ∷ e ∷ words) enough = (_, refl)
-ask verbs.Extend order (a ∷ b ∷ c ∷ d ∷ e ∷ words) enough = (_, refl)
-ask verbs.Prove order (a ∷ b ∷ c ∷ d ∷ e ∷ f ∷ words) enough = (_, refl)
-ask verb order words enough = absurd (omega (arith, enough))
-
--- no word stands behind all words
-pub none_past : (words : List (List ℕ)) (i : ℕ) → slice_get words i ≡ None → length words ≤ i
-none_past words i e = grind (arith, nat_tests, slice_get_cases)
-
--- a name that is missing is told behind all words
-pub named_late : (words : List (List ℕ)) (i p : ℕ) → named words i ≡ Err p → length words < p
-named_late words i p e = grind (arith, nat_tests, none_past)
-
-pub one_late : (words : List (List ℕ)) (i p : ℕ) (make : WordAt → Ask) (r : Result WordAt ℕ)
-    → named words i ≡ r → (r >>= λ name. Ok (make name)) ≡ Err p → length words < p
-one_late words i p make r f g = grind (arith, nat_tests, named_late)
-
--- what a verb asks of too few words is told behind them all
-pub ask_late : (verb : Verb) (order : Option WordAt) (words : List (List ℕ)) (p : ℕ)
-    → ask_of verb order words ≡ Err p → length words < p
-ask_late verb order words p e = grind (arith, nat_tests, one_late, named_late)
-
 -- what is missing of a command is told behind all words
 pub late_end : (verb : Verb) (words : List (List ℕ)) (origin : Origin) (target : TargetWord)
     (keys : Keys) (p : ℕ) → with_keys verb words origin target keys ≡ Err p → length words < p
-late_end verb words origin target keys p e =
-    grind (arith, nat_tests, with_ask, ask, ask_late, with_chosen)
+late_end verb words origin target keys p e = grind (arith, nat_tests, with_chosen)
 
 -- the part of a list behind its first few, and more
 pub drop-take-append : (n m : ℕ) (words more : List (List ℕ)) → n ≤ length words

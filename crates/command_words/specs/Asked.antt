@@ -3,9 +3,12 @@
 -- The definition of a request goes along the words. Here it is said from the other side: which
 -- words ask for a given command or notice, that each can be asked for, and that no other words ask
 -- for any.
-use Rattle.std.specs.Prelude.{◌≡◌, ◌<◌, ◌≤◌, ◌≢◌, ◌+◌, ◌*◌, ◌^◌, ◌⊎◌, true, false, List, [], ◌∷◌, ◌++◌, ℕ, codes, length, IfOk, Ok, Err, Option, Some, None}
+use Rattle.std.specs.Prelude.{◌≡◌, ◌<◌, ◌≤◌, ◌≢◌, ◌+◌, ◌*◌, ◌^◌, ◌⊎◌, true, false, List, [], ◌∷◌, ◌++◌, ℕ, codes, length, map, drop, IfOk, Ok, Err, Option, Some, None}
+use Rattle.std.specs.Option.{ok_or, option_map}
 use Rattle.base.specs.declared.unit.UnitChoice.{UnitChoice}
 use Rattle.base.specs.declared.unit.UnitChoice.TheVariants.{One, Reduce}
+use Rattle.form_steps.specs.declared.scope.PenaltyScope.{PenaltyScope}
+use Rattle.form_steps.specs.declared.scope.PenaltyScope.TheVariants.{Global, Local}
 use Rattle.problem_form.specs.declared.limits.Normal.{Normal}
 use Rattle.problem_form.specs.declared.limits.Normal.TheVariants.{Literal, Multilinear}
 use Rattle.problem_form.specs.declared.limits.High.{High}
@@ -15,19 +18,20 @@ use Rattle.chimera_graph.specs.declared.chimera.Chimera as graphs
 use Rattle.command_words.specs.declared.keys.Keys.{Keys}
 use Rattle.command_words.specs.declared.commands.Format.{Format}
 use Rattle.command_words.specs.declared.commands.Format.TheVariants as formats
+use Rattle.command_words.specs.declared.commands.Ground.{Ground}
+use Rattle.command_words.specs.declared.commands.Ground.TheVariants as grounds
 use Rattle.command_words.specs.declared.commands.Target.{Target}
 use Rattle.command_words.specs.declared.commands.Target.TheVariants as targets
 use Rattle.command_words.specs.declared.commands.NodeModel.{NodeModel}
 use Rattle.command_words.specs.declared.commands.NodeModel.TheVariants.{Qubo, Ising}
 use Rattle.command_words.specs.declared.commands.TargetWord.{TargetWord}
-use Rattle.command_words.specs.declared.commands.TargetWord.TheVariants.{Nodes, Chimera}
+use Rattle.command_words.specs.declared.commands.TargetWord.TheVariants.{Nodes, Chimera, Graph}
 use Rattle.command_words.specs.declared.commands.Chaining.{Chaining}
 use Rattle.command_words.specs.declared.commands.Chaining.TheVariants.{Clique, Map}
 use Rattle.command_words.specs.declared.commands.ChainStrength.{ChainStrength}
 use Rattle.command_words.specs.declared.commands.ChainStrength.TheVariants.{Choi, Cut}
-use Rattle.command_words.specs.declared.commands.Bound.{Bound}
 use Rattle.command_words.specs.declared.commands.Slack.{Slack}
-use Rattle.command_words.specs.declared.commands.Slack.TheVariants.{Bits, Pairs}
+use Rattle.command_words.specs.declared.commands.Slack.TheVariants.{Bits, Pairs, Clauses}
 use Rattle.command_words.specs.declared.commands.Verb.{Verb}
 use Rattle.command_words.specs.declared.commands.Verb.TheVariants as verbs
 use Rattle.command_words.specs.declared.commands.Notice.{Notice}
@@ -41,9 +45,22 @@ use Rattle.command_words.specs.declared.commands.Origin.TheVariants.{File, Drawn
 use Rattle.command_words.specs.declared.commands.Ask.{Ask}
 use Rattle.command_words.specs.declared.commands.Ask.TheVariants as asks
 use Rattle.command_words.specs.declared.commands.Command.{Command}
-use Rattle.command_words.specs.Commands.{◌>>=◌, chosen_target, clauses_of, command_of, commanding, first_notice, request_of}
-use Rattle.command_words.specs.Keys.{cut, keys_from, no_keys, with_word}
+use Rattle.command_words.specs.Commands.{◌>>=◌, ask_by, clauses_of, command_of, commanding, first_key, first_notice, request_of, source_words, valued, verb_of}
+use Rattle.command_words.specs.Keys.{Key, bound_of, cut, embed_of, high_of, key_table, keys_from, listed, no_keys, normal_of, on_ground, penalty_of, side_of, slack_of, takes, target_by, ties_of, unit_of, with_word}
 use Rattle.command_words.specs.Names.{text_at}
+
+-- ---- words
+
+-- the word of a verb
+abbrev pub verb_word : Verb → List ℕ
+verb_word verbs.Compile = codes "compile"
+verb_word verbs.Size = codes "size"
+verb_word verbs.Decode = codes "decode"
+verb_word verbs.Evaluate = codes "evaluate"
+verb_word verbs.Extend = codes "extend"
+verb_word verbs.Sample = codes "sample"
+verb_word verbs.Solve = codes "solve"
+verb_word verbs.Prove = codes "prove"
 
 -- the word of a format
 abbrev pub format_word : Format → List ℕ
@@ -59,48 +76,24 @@ abbrev pub target_word : TargetWord → List ℕ
 target_word (Nodes Qubo) = codes "qubo"
 target_word (Nodes Ising) = codes "ising"
 target_word Chimera = codes "chimera"
+target_word Graph = codes "graph"
+
+-- what the word of a ground says
+abbrev pub ground_word : Ground → TargetWord
+ground_word (grounds.Chimera graph dead chains) = Chimera
+ground_word (grounds.Listed graph map) = Graph
 
 -- what the word of a target says
 abbrev pub word_of : Target → TargetWord
 word_of (targets.Nodes model) = Nodes model
-word_of (targets.Chimera board) = Chimera
+word_of (targets.Qubits board) = ground_word board.ground
 
--- The words of a format, a target and a file. Every verb but `sample` has them after itself.
-abbrev pub job_words : Format → TargetWord → List ℕ → List (List ℕ)
-job_words format target file = format_word format ∷ target_word target ∷ file ∷ []
-
--- the words that ask for the model of a file, with keys
-abbrev pub compile_words : Format → TargetWord → List ℕ → List (List ℕ) → List (List ℕ)
-compile_words format target file keys = codes "compile" ∷ job_words format target file ++ keys
-
--- the words that ask how large the model of a file is, with keys
-abbrev pub size_words : Format → TargetWord → List ℕ → List (List ℕ) → List (List ℕ)
-size_words format target file keys = codes "size" ∷ job_words format target file ++ keys
-
--- the words that ask to take a state back to an assignment, with keys
-abbrev pub decode_words : Format → TargetWord → List ℕ → List ℕ → List (List ℕ) → List (List ℕ)
-decode_words format target file state keys =
-    codes "decode" ∷ job_words format target file ++ state ∷ keys
-
--- the words that ask for the best of many states, with keys
-abbrev pub evaluate_words : Format → TargetWord → List ℕ → List ℕ → List (List ℕ) → List (List ℕ)
-evaluate_words format target file states keys =
-    codes "evaluate" ∷ job_words format target file ++ states ∷ keys
-
--- the words that ask to take an assignment to a state, with keys
-abbrev pub extend_words : Format → TargetWord → List ℕ → List ℕ → List (List ℕ) → List (List ℕ)
-extend_words format target file assignment keys =
-    codes "extend" ∷ job_words format target file ++ assignment ∷ keys
-
--- the words that ask for the first least state of the model of a file, with keys
-abbrev pub solve_words : Format → TargetWord → List ℕ → List (List ℕ) → List (List ℕ)
-solve_words format target file keys = codes "solve" ∷ job_words format target file ++ keys
-
--- the words that ask whether a certificate proves a state least, with keys
-abbrev pub prove_words : Format → TargetWord → List ℕ → List ℕ → List ℕ → List (List ℕ)
+-- The words of a command on a file: a verb, format, target and file, the files that the verb has
+-- besides, and keys. Every verb but `sample` has such words.
+abbrev pub file_command : Verb → Format → TargetWord → List ℕ → List (List ℕ) → List (List ℕ)
     → List (List ℕ)
-prove_words format target file state certificate keys =
-    codes "prove" ∷ job_words format target file ++ state ∷ certificate ∷ keys
+file_command verb format target file files keys =
+    verb_word verb ∷ format_word format ∷ target_word target ∷ file ∷ files ++ keys
 
 -- The words that ask for the model of a sample, with keys. Two numbers stand in place of a format
 -- and a file.
@@ -108,138 +101,61 @@ abbrev pub sample_words : List ℕ → List ℕ → TargetWord → List (List �
 sample_words number clauses target keys =
     codes "sample" ∷ number ∷ clauses ∷ target_word target ∷ keys
 
--- What is asked of the file that the fourth word names. Counted from 0 it is word 3.
-abbrev pub on_fourth_word : Format → Target → Keys → Ask → Command
-on_fourth_word format target keys ask = commanding (File format (Whole 3)) target keys ask
+-- the words say a verb, a source and the word of a target, and then these keys
+pub record SayKeys (words : List (List ℕ)) (verb : Verb) (origin : Origin) (word : TargetWord)
+    (keys : Keys) : Type 0 where
+  pub first : valued verb_of words 0 ≡ Ok verb
+  pub source : source_words verb words ≡ Ok (origin, word)
+  pub given : keys_from verb word no_keys (first_key verb) (drop (first_key verb) words) ≡ Ok keys
 
--- the summary of the sample of these numbers
-abbrev pub summary_of : ℕ → ℕ → Target → Keys → Command
-summary_of number clauses target keys = commanding (Drawn number clauses) target keys asks.Summary
+-- the word of a key with a value, as in `rows=16`
+abbrev pub key_word : List ℕ → List ℕ → List ℕ
+key_word name value = name ++ (codes "=" ++ value)
 
--- the key that chooses a normal form
-abbrev pub normal_key : Normal → List ℕ
-normal_key Literal = codes "normal=literal"
-normal_key Multilinear = codes "normal=multilinear"
+-- the word of a normal form
+abbrev pub normal_word : Normal → List ℕ
+normal_word Literal = codes "literal"
+normal_word Multilinear = codes "multilinear"
 
--- the key that chooses what stands for terms of degree 3 or more
-abbrev pub high_key : High → List ℕ
-high_key Monomial = codes "high=monomial"
-high_key Rosenberg = codes "high=rosenberg"
+-- the word of what stands for terms of degree 3 or more
+abbrev pub high_word : High → List ℕ
+high_word Monomial = codes "monomial"
+high_word Rosenberg = codes "rosenberg"
 
--- the key that chooses a unit
-abbrev pub unit_key : UnitChoice → List ℕ
-unit_key One = codes "unit=one"
-unit_key Reduce = codes "unit=reduce"
+-- the word of a way to choose the unit
+abbrev pub unit_word : UnitChoice → List ℕ
+unit_word One = codes "one"
+unit_word Reduce = codes "reduce"
 
--- the key that chooses how conflicts enter the model
-abbrev pub slack_key : Slack → List ℕ
-slack_key Bits = codes "slack=bits"
-slack_key Pairs = codes "slack=pairs"
+-- the word of a way of conflicts and covers into the model
+abbrev pub slack_word : Slack → List ℕ
+slack_word Bits = codes "bits"
+slack_word Pairs = codes "pairs"
+slack_word Clauses = codes "clauses"
 
--- the key that names the order of elimination
-abbrev pub order_key : List ℕ → List ℕ
-order_key name = codes "order=" ++ name
+-- the word of a scope of penalties
+abbrev pub penalty_word : PenaltyScope → List ℕ
+penalty_word Global = codes "global"
+penalty_word Local = codes "local"
 
--- the key that gives a bound of the cost, as in `bound=231` and `bound=-7`
-abbrev pub bound_key : List ℕ → List ℕ
-bound_key value = codes "bound=" ++ value
+-- the word of a tie of chains
+abbrev pub ties_word : ChainStrength → List ℕ
+ties_word Choi = codes "choi"
+ties_word Cut = codes "cut"
 
--- The key that gives a number of a graph, the map of chains, the chains of a clique, the list of
--- dead qubits, or how chains are tied. The value is the digits of the number, as in `rows=16`.
-abbrev pub rows_key : List ℕ → List ℕ
-rows_key value = codes "rows=" ++ value
+-- ---- commands
 
--- the key that gives how many columns of cells the graph has, as in `cols=16`
-abbrev pub cols_key : List ℕ → List ℕ
-cols_key value = codes "cols=" ++ value
-
--- the key that gives how many qubits a side of a cell has, as in `shore=4`
-abbrev pub shore_key : List ℕ → List ℕ
-shore_key value = codes "shore=" ++ value
-
--- the key that names the map of chains
-abbrev pub map_key : List ℕ → List ℕ
-map_key name = codes "map=" ++ name
-
--- the key that takes the chains of a clique
-abbrev pub clique_key : List ℕ
-clique_key = codes "embed=clique"
-
--- the key that names the list of dead qubits
-abbrev pub dead_key : List ℕ → List ℕ
-dead_key name = codes "dead=" ++ name
-
--- the key that chooses how chains are tied
-abbrev pub chain_key : ChainStrength → List ℕ
-chain_key Choi = codes "chain=choi"
-chain_key Cut = codes "chain=cut"
-
--- Every format, target and file can be asked for, with what the keys after them choose. So no
--- format and no target is left out.
+-- Every verb but `sample` can be said with every format, target and file, with the files that it has
+-- besides, and with what the keys after them choose; where these choose no target, the position after
+-- all words is told. So no format and no target is left out.
 abbrev pub EachJobIsAskedFor : Type 0
-EachJobIsAskedFor = (format : Format) (word : TargetWord) (file : List ℕ) (keys : List (List ℕ))
-    → command_of (compile_words format word file keys)
-    ≡ (keys_from verbs.Compile word no_keys 4 keys
-    >>= λ given. chosen_target (compile_words format word file keys) word given
-    >>= λ target. Ok (on_fourth_word format target given asks.Model))
-
--- with every format, target and file it can be asked how large the model is, with what the keys
--- after them choose
-abbrev pub EachSizeIsAskedFor : Type 0
-EachSizeIsAskedFor = (format : Format) (word : TargetWord) (file : List ℕ) (keys : List (List ℕ))
-    → command_of (size_words format word file keys)
-    ≡ (keys_from verbs.Size word no_keys 4 keys
-    >>= λ given. chosen_target (size_words format word file keys) word given
-    >>= λ target. Ok (on_fourth_word format target given asks.Size))
-
--- with every format, target, file and state it can be asked for that state's assignment, with what
--- the keys after them choose
-abbrev pub EachDecodingIsAskedFor : Type 0
-EachDecodingIsAskedFor =
-    (format : Format) (word : TargetWord) (file state : List ℕ) (keys : List (List ℕ))
-    → command_of (decode_words format word file state keys)
-    ≡ (keys_from verbs.Decode word no_keys 5 keys
-    >>= λ given. chosen_target (decode_words format word file state keys) word given
-    >>= λ target. Ok (on_fourth_word format target given (asks.Decode (Whole 4))))
-
--- with every format, target, file and states it can be asked for the best of these, with what the
--- keys after them choose
-abbrev pub EachEvaluationIsAskedFor : Type 0
-EachEvaluationIsAskedFor =
-    (format : Format) (word : TargetWord) (file states : List ℕ) (keys : List (List ℕ))
-    → command_of (evaluate_words format word file states keys)
-    ≡ (keys_from verbs.Evaluate word no_keys 5 keys
-    >>= λ given. chosen_target (evaluate_words format word file states keys) word given
-    >>= λ target. Ok (on_fourth_word format target given (asks.Evaluate (Whole 4))))
-
--- with every format, target, file and assignment it can be asked for that assignment's state, with
--- what the keys after them choose
-abbrev pub EachExtensionIsAskedFor : Type 0
-EachExtensionIsAskedFor =
-    (format : Format) (word : TargetWord) (file assignment : List ℕ) (keys : List (List ℕ))
-    → command_of (extend_words format word file assignment keys)
-    ≡ (keys_from verbs.Extend word no_keys 5 keys
-    >>= λ given. chosen_target (extend_words format word file assignment keys) word given
-    >>= λ target. Ok (on_fourth_word format target given (asks.Extend (Whole 4))))
-
--- with every format, target and file it can be asked for the first least state, with what the keys
--- after them choose; one of them may name the order of elimination
-abbrev pub EachSolutionIsAskedFor : Type 0
-EachSolutionIsAskedFor = (format : Format) (word : TargetWord) (file : List ℕ) (keys : List (List ℕ))
-    → command_of (solve_words format word file keys)
-    ≡ (keys_from verbs.Solve word no_keys 4 keys
-    >>= λ given. chosen_target (solve_words format word file keys) word given
-    >>= λ target. Ok (on_fourth_word format target given (asks.Solve given.order)))
-
--- with every format, target, file, state and certificate it can be asked whether the certificate
--- proves the state, with what the keys after them choose
-abbrev pub EachProofIsAskedFor : Type 0
-EachProofIsAskedFor =
-    (format : Format) (word : TargetWord) (file state certificate : List ℕ) (keys : List (List ℕ))
-    → command_of (prove_words format word file state certificate keys)
-    ≡ (keys_from verbs.Prove word no_keys 6 keys
-    >>= λ given. chosen_target (prove_words format word file state certificate keys) word given
-    >>= λ target. Ok (on_fourth_word format target given (asks.Prove (Whole 4) (Whole 5))))
+EachJobIsAskedFor = (verb : Verb) (format : Format) (word : TargetWord) (file : List ℕ)
+    (files keys : List (List ℕ)) → verb ≢ verbs.Sample → length files + 4 ≡ first_key verb
+    → command_of (file_command verb format word file files keys)
+    ≡ (keys_from verb word no_keys (first_key verb) keys
+    >>= λ given. ok_or (target_by word given)
+    (length (file_command verb format word file files keys) + 1)
+    >>= λ target. Ok (commanding (File format (Whole 3)) target given (ask_by verb given.order)))
 
 -- every sample can be asked for, with any words for its numbers, and with what the keys after them
 -- choose
@@ -248,133 +164,64 @@ EachSampleIsAskedFor = (number clauses : ℕ) (first second : List ℕ) (word : 
     (keys : List (List ℕ)) → digits_number first ≡ Some number → clauses_of second ≡ Some clauses
     → command_of (sample_words first second word keys)
     ≡ (keys_from verbs.Sample word no_keys 4 keys
-    >>= λ given. chosen_target (sample_words first second word keys) word given
-    >>= λ target. Ok (summary_of number clauses target given))
+    >>= λ given. ok_or (target_by word given) (length (sample_words first second word keys) + 1)
+    >>= λ target. Ok (commanding (Drawn number clauses) target given asks.Summary))
 
--- each way to choose the unit can be asked for, with every format, file and model on nodes
-abbrev pub EachUnitIsAskedFor : Type 0
-EachUnitIsAskedFor = (format : Format) (model : NodeModel) (file : List ℕ) (unit : UnitChoice)
-    → command_of (compile_words format (Nodes model) file (unit_key unit ∷ []))
-    ≡ Ok (on_fourth_word format (targets.Nodes model) (record no_keys { unit = Some unit })
-    asks.Model)
+-- each key that can stand can be asked for alone, with every verb but `sample`, every format, file
+-- and model on nodes
+abbrev pub EachKeyIsAskedFor : Type 0
+EachKeyIsAskedFor = (verb : Verb) (format : Format) (model : NodeModel) (file : List ℕ)
+    (files : List (List ℕ)) (key : List ℕ) (given : Keys) → verb ≢ verbs.Sample
+    → length files + 4 ≡ first_key verb
+    → with_word verb (Nodes model) no_keys (first_key verb) key ≡ Some given
+    → command_of (file_command verb format (Nodes model) file files (key ∷ []))
+    ≡ Ok (commanding (File format (Whole 3)) (targets.Nodes model) given (ask_by verb given.order))
 
--- both ways of conflicts into the model can be asked for, with every format, file and model on nodes
-abbrev pub EachSlackIsAskedFor : Type 0
-EachSlackIsAskedFor = (format : Format) (model : NodeModel) (file : List ℕ) (slack : Slack)
-    → command_of (compile_words format (Nodes model) file (slack_key slack ∷ []))
-    ≡ Ok (on_fourth_word format (targets.Nodes model) (record no_keys { slack = Some slack })
-    asks.Model)
+-- the word of a key, where there is a value for it
+abbrev pub optional : List ℕ → Option (List ℕ) → List (List ℕ)
+optional name None = []
+optional name (Some value) = key_word name value ∷ []
 
--- each order of elimination can be asked for, with every format, file and model on nodes
-abbrev pub EachOrderIsAskedFor : Type 0
-EachOrderIsAskedFor = (format : Format) (model : NodeModel) (file name : List ℕ)
-    → command_of (solve_words format (Nodes model) file (order_key name ∷ []))
-    ≡ Ok (on_fourth_word format (targets.Nodes model) no_keys (asks.Solve (Some (Value 4))))
+-- the word of the chains of a clique or of those of a map, where one is named
+abbrev pub chains_key : Option (List ℕ) → List ℕ
+chains_key None = codes "embed=clique"
+chains_key (Some name) = key_word (codes "map") name
 
--- a graph, where the list of its dead qubits is named, and how the nodes get chains of its qubits
--- and these are tied
-abbrev pub board_with : graphs.Chimera → Option WordAt → Chaining → ChainStrength → Target
-board_with graph dead chains ties =
-    targets.Chimera (record { graph = graph; dead = dead; chains = chains; ties = ties })
-
--- A graph without dead qubits, with chains that are tied as usual. The strength that no state can
--- gain by breaking is the usual one.
-abbrev pub board_of : graphs.Chimera → Chaining → Target
-board_of graph chains = board_with graph None chains Choi
-
--- the key of a list of dead qubits, where there is one, and the place of its name at an index
-abbrev pub dead_keys : Option (List ℕ) → List (List ℕ)
-dead_keys None = []
-dead_keys (Some name) = dead_key name ∷ []
+-- these chains, where the word of their key stands at an index
+abbrev pub chains_at : ℕ → Option (List ℕ) → Chaining
+chains_at i None = Clique
+chains_at i (Some name) = Map (Value i)
 
 -- where the list of dead qubits is named, its name is the value of the key at this index
 abbrev pub dead_at : ℕ → Option (List ℕ) → Option WordAt
 dead_at i None = None
 dead_at i (Some name) = Some (Value i)
 
--- each graph can be asked for, with every format and file, any words for its numbers, and the chains
--- of a clique or of any map; besides with or without any list of dead qubits, and with both ties
-pub record EachGraphIsAskedFor : Type 0 where
-  -- with the chains of a clique, and ties as usual
-  pub clique : (format : Format) (file first second third : List ℕ) (graph : graphs.Chimera)
-      → digits_number first ≡ Some graph.rows → digits_number second ≡ Some graph.cols
-      → digits_number third ≡ Some graph.shore
-      → command_of (compile_words format Chimera file
-      (rows_key first ∷ cols_key second ∷ shore_key third ∷ clique_key ∷ []))
-      ≡ Ok (on_fourth_word format (board_of graph Clique) no_keys asks.Model)
-  -- with the chains of a map, and ties as usual
-  pub map : (format : Format) (file first second third name : List ℕ) (graph : graphs.Chimera)
-      → digits_number first ≡ Some graph.rows → digits_number second ≡ Some graph.cols
-      → digits_number third ≡ Some graph.shore
-      → command_of (compile_words format Chimera file
-      (rows_key first ∷ cols_key second ∷ shore_key third ∷ map_key name ∷ []))
-      ≡ Ok (on_fourth_word format (board_of graph (Map (Value 7))) no_keys asks.Model)
-  -- with the chains of a clique, any list of dead parts and any ties
-  pub tied_clique : (format : Format) (file first second third : List ℕ) (dead : Option (List ℕ))
-      (ties : ChainStrength) (graph : graphs.Chimera)
-      → digits_number first ≡ Some graph.rows → digits_number second ≡ Some graph.cols
-      → digits_number third ≡ Some graph.shore
-      → command_of (compile_words format Chimera file
-      (rows_key first ∷ cols_key second ∷ shore_key third ∷ clique_key
-      ∷ dead_keys dead ++ chain_key ties ∷ []))
-      ≡ Ok (on_fourth_word format (board_with graph (dead_at 8 dead) Clique ties) no_keys
-      asks.Model)
-  -- with the chains of a map, any list of dead parts and any ties
-  pub tied_map : (format : Format) (file first second third name : List ℕ) (dead : Option (List ℕ))
-      (ties : ChainStrength) (graph : graphs.Chimera)
-      → digits_number first ≡ Some graph.rows → digits_number second ≡ Some graph.cols
-      → digits_number third ≡ Some graph.shore
-      → command_of (compile_words format Chimera file
-      (rows_key first ∷ cols_key second ∷ shore_key third ∷ map_key name
-      ∷ dead_keys dead ++ chain_key ties ∷ []))
-      ≡ Ok (on_fourth_word format (board_with graph (dead_at 8 dead) (Map (Value 7)) ties) no_keys
-      asks.Model)
+-- the model of a file on the qubits of a ground, with ties as usual where none are given
+abbrev pub on_qubits : Format → Ground → Option ChainStrength → Command
+on_qubits format g ties =
+    commanding (File format (Whole 3)) (on_ground g ties) no_keys asks.Model
 
--- each value of a key can stand where that key is not given yet, whatever others are
-pub record EachKeyStands : Type 0 where
-  pub normal : (verb : Verb) (target : TargetWord) (keys : Keys) (at : ℕ) (normal : Normal)
-      → keys.normal ≡ None
-      → with_word verb target keys at (normal_key normal)
-      ≡ Some (record keys { normal = Some normal })
-  pub high : (verb : Verb) (target : TargetWord) (keys : Keys) (at : ℕ) (high : High)
-      → keys.high ≡ None
-      → with_word verb target keys at (high_key high) ≡ Some (record keys { high = Some high })
-  pub unit : (verb : Verb) (target : TargetWord) (keys : Keys) (at : ℕ) (unit : UnitChoice)
-      → keys.unit ≡ None
-      → with_word verb target keys at (unit_key unit) ≡ Some (record keys { unit = Some unit })
-  pub bound : (verb : Verb) (target : TargetWord) (keys : Keys) (at : ℕ) (value : List ℕ) (size : ℕ)
-      → keys.bound ≡ None → digits_number value ≡ Some size
-      → with_word verb target keys at (bound_key value)
-      ≡ Some (record keys { bound = Some (record { negative = false; size = size }) })
-  pub bound_below : (verb : Verb) (target : TargetWord) (keys : Keys) (at : ℕ) (value : List ℕ)
-      (size : ℕ) → keys.bound ≡ None → digits_number value ≡ Some size
-      → with_word verb target keys at (bound_key (codes "-" ++ value))
-      ≡ Some (record keys { bound = Some (record { negative = true; size = size }) })
-  pub slack : (verb : Verb) (target : TargetWord) (keys : Keys) (at : ℕ) (slack : Slack)
-      → keys.slack ≡ None
-      → with_word verb target keys at (slack_key slack) ≡ Some (record keys { slack = Some slack })
-  pub order : (target : TargetWord) (keys : Keys) (at : ℕ) (name : List ℕ) → keys.order ≡ None
-      → with_word verbs.Solve target keys at (order_key name)
-      ≡ Some (record keys { order = Some (Value at) })
-  pub rows : (verb : Verb) (keys : Keys) (at : ℕ) (value : List ℕ) (side : ℕ) → keys.rows ≡ None
-      → digits_number value ≡ Some side → 0 < side → side ≤ 2 ^ 20
-      → with_word verb Chimera keys at (rows_key value) ≡ Some (record keys { rows = Some side })
-  pub cols : (verb : Verb) (keys : Keys) (at : ℕ) (value : List ℕ) (side : ℕ) → keys.cols ≡ None
-      → digits_number value ≡ Some side → 0 < side → side ≤ 2 ^ 20
-      → with_word verb Chimera keys at (cols_key value) ≡ Some (record keys { cols = Some side })
-  pub shore : (verb : Verb) (keys : Keys) (at : ℕ) (value : List ℕ) (side : ℕ) → keys.shore ≡ None
-      → digits_number value ≡ Some side → 0 < side → side ≤ 2 ^ 20
-      → with_word verb Chimera keys at (shore_key value) ≡ Some (record keys { shore = Some side })
-  pub clique : (verb : Verb) (keys : Keys) (at : ℕ) → keys.chains ≡ None
-      → with_word verb Chimera keys at clique_key ≡ Some (record keys { chains = Some Clique })
-  pub map : (verb : Verb) (keys : Keys) (at : ℕ) (name : List ℕ) → keys.chains ≡ None
-      → with_word verb Chimera keys at (map_key name)
-      ≡ Some (record keys { chains = Some (Map (Value at)) })
-  pub dead : (verb : Verb) (keys : Keys) (at : ℕ) (name : List ℕ) → keys.dead ≡ None
-      → with_word verb Chimera keys at (dead_key name)
-      ≡ Some (record keys { dead = Some (Value at) })
-  pub ties : (verb : Verb) (keys : Keys) (at : ℕ) (ties : ChainStrength) → keys.ties ≡ None
-      → with_word verb Chimera keys at (chain_key ties) ≡ Some (record keys { ties = Some ties })
+-- Each graph can be asked for, with every format and file: a Chimera graph with any words for its
+-- numbers, the chains of a clique or of any map, and with or without any list of dead qubits, and a
+-- graph in any file with any map; both with each tie or with none.
+pub record EachGraphIsAskedFor : Type 0 where
+  pub in_words : (format : Format) (file first second third : List ℕ) (map dead : Option (List ℕ))
+      (ties : Option ChainStrength) (graph : graphs.Chimera)
+      → digits_number first ≡ Some graph.rows → digits_number second ≡ Some graph.cols
+      → digits_number third ≡ Some graph.shore
+      → command_of (file_command verbs.Compile format Chimera file []
+      (key_word (codes "rows") first ∷ key_word (codes "cols") second
+      ∷ key_word (codes "shore") third ∷ chains_key map
+      ∷ optional (codes "dead") dead ++ optional (codes "chain") (option_map ties_word ties)))
+      ≡ Ok (on_qubits format (grounds.Chimera graph (dead_at 8 dead) (chains_at 7 map)) ties)
+  pub in_a_file : (format : Format) (file name map : List ℕ) (ties : Option ChainStrength)
+      → command_of (file_command verbs.Compile format Graph file []
+      (key_word (codes "graph") name ∷ key_word (codes "map") map
+      ∷ optional (codes "chain") (option_map ties_word ties)))
+      ≡ Ok (on_qubits format (grounds.Listed (Value 4) (Value 5)) ties)
+
+-- ---- keys
 
 -- No word of this name can stand. Whatever its value is, the word is refused at its position.
 abbrev pub CannotStand : Verb → TargetWord → Keys → ℕ → List ℕ → Type 0
@@ -382,110 +229,81 @@ CannotStand verb target keys at name =
     (word value : List ℕ) → cut word ≡ Some (name, value)
     → with_word verb target keys at word ≡ None
 
--- no key stands twice, and with the chains of a clique no map can stand, nor the other way round.
--- `embed` and `map` both choose the chains, so one of them keeps out the other.
-pub record NoKeyStandsTwice : Type 0 where
-  pub normal : (verb : Verb) (target : TargetWord) (keys : Keys) (at : ℕ) (first : Normal)
-      → keys.normal ≡ Some first → CannotStand verb target keys at (codes "normal")
-  pub high : (verb : Verb) (target : TargetWord) (keys : Keys) (at : ℕ) (first : High)
-      → keys.high ≡ Some first → CannotStand verb target keys at (codes "high")
-  pub unit : (verb : Verb) (target : TargetWord) (keys : Keys) (at : ℕ) (first : UnitChoice)
-      → keys.unit ≡ Some first → CannotStand verb target keys at (codes "unit")
-  pub bound : (verb : Verb) (target : TargetWord) (keys : Keys) (at : ℕ) (first : Bound)
-      → keys.bound ≡ Some first → CannotStand verb target keys at (codes "bound")
-  pub slack : (verb : Verb) (target : TargetWord) (keys : Keys) (at : ℕ) (first : Slack)
-      → keys.slack ≡ Some first → CannotStand verb target keys at (codes "slack")
-  pub order : (verb : Verb) (target : TargetWord) (keys : Keys) (at : ℕ) (first : WordAt)
-      → keys.order ≡ Some first → CannotStand verb target keys at (codes "order")
-  pub rows : (verb : Verb) (target : TargetWord) (keys : Keys) (at first : ℕ)
-      → keys.rows ≡ Some first → CannotStand verb target keys at (codes "rows")
-  pub cols : (verb : Verb) (target : TargetWord) (keys : Keys) (at first : ℕ)
-      → keys.cols ≡ Some first → CannotStand verb target keys at (codes "cols")
-  pub shore : (verb : Verb) (target : TargetWord) (keys : Keys) (at first : ℕ)
-      → keys.shore ≡ Some first → CannotStand verb target keys at (codes "shore")
+-- A key of this name stands once. With each of its values it can stand where the verb and the
+-- target take it and it is not given yet, whatever others are; it is given then.
+pub record StandsOnce (name : List ℕ) (key : Key) : Type 0 where
+  pub stands : (verb : Verb) (target : TargetWord) (keys : Keys) (at : ℕ) (value : List ℕ)
+      (put : Keys → Keys) → takes key.takers verb target ≡ true → key.is_free keys ≡ true
+      → key.put at value ≡ Some put
+      → with_word verb target keys at (key_word name value) ≡ Some (put keys)
+  pub is_given : (keys : Keys) (at : ℕ) (value : List ℕ) (put : Keys → Keys)
+      → key.put at value ≡ Some put → key.is_free (put keys) ≡ false
+  -- no key stands twice
+  pub once : (verb : Verb) (target : TargetWord) (keys : Keys) (at : ℕ)
+      → key.is_free keys ≡ false → CannotStand verb target keys at name
+  -- it stands with no verb and target that do not take it, so it is refused and not passed over
+  pub elsewhere : (verb : Verb) (target : TargetWord) (keys : Keys) (at : ℕ)
+      → takes key.takers verb target ≡ false → CannotStand verb target keys at name
+  -- it stands with no other value
+  pub valued : (verb : Verb) (target : TargetWord) (keys : Keys) (at : ℕ) (value : List ℕ)
+      → key.put at value ≡ None
+      → with_word verb target keys at (key_word name value) ≡ None
+
+-- Each key of the table stands once, and no other name of a key stands. The table says for each key
+-- who takes it, which texts are its values, and what each of them makes of the keys.
+pub record EachKeyStands : Type 0 where
+  pub each : (name : List ℕ) (key : Key) → listed key_table name ≡ Some key → StandsOnce name key
+  pub others : (name : List ℕ) → listed key_table name ≡ None → (verb : Verb)
+      (target : TargetWord) (keys : Keys) (at : ℕ) → CannotStand verb target keys at name
+
+-- with the chains of a clique no map can stand, nor the other way round: both choose the chains
+pub record NoChainsStandTwice : Type 0 where
   pub embed : (verb : Verb) (target : TargetWord) (keys : Keys) (at : ℕ) (first : Chaining)
       → keys.chains ≡ Some first → CannotStand verb target keys at (codes "embed")
   pub map : (verb : Verb) (target : TargetWord) (keys : Keys) (at : ℕ) (first : Chaining)
       → keys.chains ≡ Some first → CannotStand verb target keys at (codes "map")
-  pub dead : (verb : Verb) (target : TargetWord) (keys : Keys) (at : ℕ) (first : WordAt)
-      → keys.dead ≡ Some first → CannotStand verb target keys at (codes "dead")
-  pub ties : (verb : Verb) (target : TargetWord) (keys : Keys) (at : ℕ) (first : ChainStrength)
-      → keys.ties ≡ Some first → CannotStand verb target keys at (codes "chain")
 
--- No key of a graph stands with a model on nodes. So a key of a graph with a model on nodes is
--- refused, and not passed over.
-pub record NoGraphKeyElsewhere : Type 0 where
-  pub rows : (verb : Verb) (model : NodeModel) (keys : Keys) (at : ℕ)
-      → CannotStand verb (Nodes model) keys at (codes "rows")
-  pub cols : (verb : Verb) (model : NodeModel) (keys : Keys) (at : ℕ)
-      → CannotStand verb (Nodes model) keys at (codes "cols")
-  pub shore : (verb : Verb) (model : NodeModel) (keys : Keys) (at : ℕ)
-      → CannotStand verb (Nodes model) keys at (codes "shore")
-  pub embed : (verb : Verb) (model : NodeModel) (keys : Keys) (at : ℕ)
-      → CannotStand verb (Nodes model) keys at (codes "embed")
-  pub map : (verb : Verb) (model : NodeModel) (keys : Keys) (at : ℕ)
-      → CannotStand verb (Nodes model) keys at (codes "map")
-  pub dead : (verb : Verb) (model : NodeModel) (keys : Keys) (at : ℕ)
-      → CannotStand verb (Nodes model) keys at (codes "dead")
-  pub ties : (verb : Verb) (model : NodeModel) (keys : Keys) (at : ℕ)
-      → CannotStand verb (Nodes model) keys at (codes "chain")
+-- each value of a key has its word, and a number any digits
+pub record EachValueIsSaid : Type 0 where
+  pub normal : (normal : Normal) → normal_of (normal_word normal) ≡ Some normal
+  pub high : (high : High) → high_of (high_word high) ≡ Some high
+  pub unit : (unit : UnitChoice) → unit_of (unit_word unit) ≡ Some unit
+  pub bound : (value : List ℕ) (size : ℕ) → digits_number value ≡ Some size
+      → bound_of value ≡ Some (record { negative = false; size = size })
+  pub bound_below : (value : List ℕ) (size : ℕ) → digits_number value ≡ Some size
+      → bound_of (codes "-" ++ value) ≡ Some (record { negative = true; size = size })
+  pub slack : (slack : Slack) → slack_of (slack_word slack) ≡ Some slack
+  pub penalty : (scope : PenaltyScope) → penalty_of (penalty_word scope) ≡ Some scope
+  pub side : (value : List ℕ) (side : ℕ) → digits_number value ≡ Some side → 0 < side
+      → side ≤ 2 ^ 20 → side_of value ≡ Some side
+  pub clique : embed_of (codes "clique") ≡ Some Clique
+  pub ties : (ties : ChainStrength) → ties_of (ties_word ties) ≡ Some ties
 
--- No order of elimination stands with another verb than `solve`. So such a word is refused, and not
--- passed over.
-abbrev pub NoOrderElsewhere : Type 0
-NoOrderElsewhere = (verb : Verb) (target : TargetWord) (keys : Keys) (at : ℕ)
-    → verb ≢ verbs.Solve → CannotStand verb target keys at (codes "order")
+-- ---- keys that are missing
 
--- With these keys the words of a graph's model are refused, at the number of words and one. It is
--- one fact for each verb.
-pub record IsRefusedAfterAll (given : Keys) : Type 0 where
-  pub job : (format : Format) (file : List ℕ) (keys : List (List ℕ))
-      → keys_from verbs.Compile Chimera no_keys 4 keys ≡ Ok given
-      → command_of (compile_words format Chimera file keys)
-      ≡ Err (length (compile_words format Chimera file keys) + 1)
-  pub size : (format : Format) (file : List ℕ) (keys : List (List ℕ))
-      → keys_from verbs.Size Chimera no_keys 4 keys ≡ Ok given
-      → command_of (size_words format Chimera file keys)
-      ≡ Err (length (size_words format Chimera file keys) + 1)
-  pub decoding : (format : Format) (file state : List ℕ) (keys : List (List ℕ))
-      → keys_from verbs.Decode Chimera no_keys 5 keys ≡ Ok given
-      → command_of (decode_words format Chimera file state keys)
-      ≡ Err (length (decode_words format Chimera file state keys) + 1)
-  pub evaluation : (format : Format) (file states : List ℕ) (keys : List (List ℕ))
-      → keys_from verbs.Evaluate Chimera no_keys 5 keys ≡ Ok given
-      → command_of (evaluate_words format Chimera file states keys)
-      ≡ Err (length (evaluate_words format Chimera file states keys) + 1)
-  pub extension : (format : Format) (file assignment : List ℕ) (keys : List (List ℕ))
-      → keys_from verbs.Extend Chimera no_keys 5 keys ≡ Ok given
-      → command_of (extend_words format Chimera file assignment keys)
-      ≡ Err (length (extend_words format Chimera file assignment keys) + 1)
-  pub solution : (format : Format) (file : List ℕ) (keys : List (List ℕ))
-      → keys_from verbs.Solve Chimera no_keys 4 keys ≡ Ok given
-      → command_of (solve_words format Chimera file keys)
-      ≡ Err (length (solve_words format Chimera file keys) + 1)
-  pub proof : (format : Format) (file state certificate : List ℕ) (keys : List (List ℕ))
-      → keys_from verbs.Prove Chimera no_keys 6 keys ≡ Ok given
-      → command_of (prove_words format Chimera file state certificate keys)
-      ≡ Err (length (prove_words format Chimera file state certificate keys) + 1)
-  pub sample : (number clauses : ℕ) (first second : List ℕ) (keys : List (List ℕ))
-      → digits_number first ≡ Some number → clauses_of second ≡ Some clauses
-      → keys_from verbs.Sample Chimera no_keys 4 keys ≡ Ok given
-      → command_of (sample_words first second Chimera keys)
-      ≡ Err (length (sample_words first second Chimera keys) + 1)
+-- with these keys the words of a model on a graph are refused, at the number of words and one,
+-- whatever the verb is
+abbrev pub IsRefusedAfterAll : TargetWord → Keys → Type 0
+IsRefusedAfterAll word keys = (words : List (List ℕ)) (verb : Verb) (origin : Origin)
+    → SayKeys words verb origin word keys → command_of words ≡ Err (length words + 1)
 
 -- No graph stands without one of its keys. A key that is missing is told after the last word, where
 -- it might have stood.
 pub record NoGraphWithout : Type 0 where
-  pub rows : (keys : Keys) → keys.rows ≡ None → IsRefusedAfterAll keys
-  pub cols : (keys : Keys) → keys.cols ≡ None → IsRefusedAfterAll keys
-  pub shore : (keys : Keys) → keys.shore ≡ None → IsRefusedAfterAll keys
-  pub chains : (keys : Keys) → keys.chains ≡ None → IsRefusedAfterAll keys
+  pub rows : (keys : Keys) → keys.rows ≡ None → IsRefusedAfterAll Chimera keys
+  pub cols : (keys : Keys) → keys.cols ≡ None → IsRefusedAfterAll Chimera keys
+  pub shore : (keys : Keys) → keys.shore ≡ None → IsRefusedAfterAll Chimera keys
+  pub chains : (keys : Keys) → keys.chains ≡ None → IsRefusedAfterAll Chimera keys
+  pub graph : (keys : Keys) → keys.graph ≡ None → IsRefusedAfterAll Graph keys
+  pub map : (keys : Keys) → keys.chains ≡ None → IsRefusedAfterAll Graph keys
 
--- no graph has more than 2^20 qubits
+-- no Chimera graph has more than 2^20 qubits
 abbrev pub NoLargerGraph : Type 0
 NoLargerGraph = (keys : Keys) (rows cols shore : ℕ) → keys.rows ≡ Some rows
     → keys.cols ≡ Some cols → keys.shore ≡ Some shore → 2 ^ 20 < 2 * rows * cols * shore
-    → IsRefusedAfterAll keys
+    → IsRefusedAfterAll Chimera keys
+
+-- ---- what words say
 
 -- The words say a sample of these numbers, before keys. Many words say one number, as 7 and 007.
 pub record SaySample (words : List (List ℕ)) (number clauses : ℕ) (target : TargetWord)
@@ -496,28 +314,28 @@ pub record SaySample (words : List (List ℕ)) (number clauses : ℕ) (target : 
   pub clauses_said : clauses_of second ≡ Some clauses
   pub all : words ≡ sample_words first second target keys
 
+-- the verb that asks this, and the files that it has besides FILE
+abbrev pub verb_for : Ask → Verb × List WordAt
+verb_for asks.Model = (verbs.Compile, [])
+verb_for asks.Summary = (verbs.Sample, [])
+verb_for asks.Size = (verbs.Size, [])
+verb_for (asks.Solve order) = (verbs.Solve, [])
+verb_for (asks.Decode state) = (verbs.Decode, state ∷ [])
+verb_for (asks.Evaluate states) = (verbs.Evaluate, states ∷ [])
+verb_for (asks.Extend assignment) = (verbs.Extend, assignment ∷ [])
+verb_for (asks.Prove state certificate) = (verbs.Prove, state ∷ certificate ∷ [])
+
 -- the words say what is asked of a source, before keys; a summary is asked of a sample alone, and
 -- of a sample nothing else
 abbrev pub SayOf : List (List ℕ) → Origin → Ask → TargetWord → List (List ℕ) → Type 0
-SayOf words (File format at) asks.Model target keys =
-    words ≡ compile_words format target (text_at words at) keys
-SayOf words (File format at) asks.Size target keys =
-    words ≡ size_words format target (text_at words at) keys
-SayOf words (File format at) (asks.Solve order) target keys =
-    words ≡ solve_words format target (text_at words at) keys
-SayOf words (File format at) (asks.Decode state) target keys =
-    words ≡ decode_words format target (text_at words at) (text_at words state) keys
-SayOf words (File format at) (asks.Evaluate states) target keys =
-    words ≡ evaluate_words format target (text_at words at) (text_at words states) keys
-SayOf words (File format at) (asks.Extend assignment) target keys =
-    words ≡ extend_words format target (text_at words at) (text_at words assignment) keys
-SayOf words (File format at) (asks.Prove state certificate) target keys =
+SayOf words (File format at) asks.Summary target keys = ⊥
+SayOf words (File format at) ask target keys =
     words
-    ≡ prove_words format target (text_at words at) (text_at words state)
-    (text_at words certificate) keys
+    ≡ file_command (verb_for ask).0 format target (text_at words at)
+    (map (text_at words) (verb_for ask).1) keys
 SayOf words (Drawn number clauses) asks.Summary target keys =
     SaySample words number clauses target keys
-SayOf words origin ask target keys = ⊥
+SayOf words (Drawn number clauses) ask target keys = ⊥
 
 -- the words say this command, before keys
 abbrev pub Say : List (List ℕ) → Command → List (List ℕ) → Type 0

@@ -3,11 +3,12 @@
 -- words and one.
 --
 -- So `compile wcnf qubo clash.wcnf unit=reduce` asks for a model, `compile wcnf qubo` is refused at
--- position 4, where the file is missing, and `compile wcnf graph clash.wcnf` at position 3.
+-- position 4, where the file is missing, and `compile wcnf pegasus clash.wcnf` at position 3.
 -- `--help` asks for a notice, and `--help compile` is refused at position 2.
-use Rattle.std.specs.Prelude.{ℕ, ◌+◌, ◌≤◌, ◌==◌, ◌||◌, ⊤, List, [], ◌∷◌, length, drop, String, string_bytes, map, bytes_eq, codes, nat_le, if◌then◌else◌, option_and_then, Ok, Err, Some, None, Result, Option, slice_get, unwrap_or}
+use Rattle.std.specs.Prelude.{ℕ, ◌+◌, ◌≤◌, ◌==◌, ◌||◌, ⊤, List, [], ◌∷◌, length, drop, String, string_bytes, map, bytes_eq, codes, nat_le, nat_lt, if◌then◌else◌, option_and_then, Ok, Err, Some, None, Result, Option, slice_get, unwrap_or}
 use Rattle.std.specs.Option.{option_map_or, ok_or}
 use Rattle.base.specs.declared.unit.UnitChoice.TheVariants.{One}
+use Rattle.form_steps.specs.declared.scope.PenaltyScope.TheVariants.{Global}
 use Rattle.problem_form.specs.declared.limits.Normal.TheVariants.{Literal}
 use Rattle.problem_form.specs.declared.limits.High.TheVariants.{Monomial}
 use Rattle.whole_text.specs.Numbers.{digits_number}
@@ -17,7 +18,7 @@ use Rattle.command_words.specs.declared.commands.Slack.TheVariants.{Bits}
 use Rattle.command_words.specs.declared.commands.Target.{Target}
 use Rattle.command_words.specs.declared.commands.NodeModel.TheVariants.{Qubo, Ising}
 use Rattle.command_words.specs.declared.commands.TargetWord.{TargetWord}
-use Rattle.command_words.specs.declared.commands.TargetWord.TheVariants.{Nodes, Chimera}
+use Rattle.command_words.specs.declared.commands.TargetWord.TheVariants.{Nodes, Chimera, Graph}
 use Rattle.command_words.specs.declared.commands.WordAt.{WordAt}
 use Rattle.command_words.specs.declared.commands.WordAt.TheVariants.{Whole}
 use Rattle.command_words.specs.declared.commands.Origin.{Origin}
@@ -54,27 +55,23 @@ named words i = option_map_or (λ word. Ok (Whole i)) (slice_get words i) (Err (
 
 -- the words of the formats
 abbrev pub format_of : List ℕ → Option Format
-format_of = listed None
-    ((codes "wcnf", Some formats.Wcnf)
-    ∷ (codes "wbo", Some formats.Wbo)
-    ∷ (codes "opb", Some formats.Opb)
-    ∷ (codes "poly", Some formats.Poly)
-    ∷ (codes "ising", Some formats.Ising)
-    ∷ (codes "qubo", Some formats.Qubo)
+format_of = listed
+    ((codes "wcnf", formats.Wcnf)
+    ∷ (codes "wbo", formats.Wbo)
+    ∷ (codes "opb", formats.Opb)
+    ∷ (codes "poly", formats.Poly)
+    ∷ (codes "ising", formats.Ising)
+    ∷ (codes "qubo", formats.Qubo)
     ∷ [])
 
 -- the words of the targets
 abbrev pub target_of : List ℕ → Option TargetWord
-target_of = listed None
-    ((codes "qubo", Some (Nodes Qubo))
-    ∷ (codes "ising", Some (Nodes Ising))
-    ∷ (codes "chimera", Some Chimera)
+target_of = listed
+    ((codes "qubo", Nodes Qubo)
+    ∷ (codes "ising", Nodes Ising)
+    ∷ (codes "chimera", Chimera)
+    ∷ (codes "graph", Graph)
     ∷ [])
-
--- The target that a word and the keys choose, or the position after all words. What is missing
--- there is a key of the graph, which might have stood after the last word.
-abbrev pub chosen_target : List (List ℕ) → TargetWord → Keys → Result Target ℕ
-chosen_target words target keys = ok_or (target_by target keys) (length words + 1)
 
 -- The index of the first key of a verb. The keys stand behind what the verb has besides: a state,
 -- states or an assignment, and to prove a certificate as well.
@@ -84,6 +81,13 @@ first_key verbs.Evaluate = 5
 first_key verbs.Extend = 5
 first_key verbs.Prove = 6
 first_key verb = 4
+
+-- The target that a word and the keys choose, or the position after all words. What is missing there
+-- is a word behind FILE, or a key that the target needs, which might have stood after the last word.
+abbrev pub chosen_target : Verb → List (List ℕ) → TargetWord → Keys → Result Target ℕ
+chosen_target verb words target keys =
+    ok_or (if nat_lt (length words) (first_key verb) then None else target_by target keys)
+    (length words + 1)
 
 -- the words FORMAT TARGET FILE: a source in a file, and the word of its target
 abbrev pub file_words : List (List ℕ) → Result (Origin × TargetWord) ℕ
@@ -116,15 +120,15 @@ source_words verb words = file_words words
 
 -- the words of the verbs
 abbrev pub verb_of : List ℕ → Option Verb
-verb_of = listed None
-    ((codes "compile", Some verbs.Compile)
-    ∷ (codes "size", Some verbs.Size)
-    ∷ (codes "decode", Some verbs.Decode)
-    ∷ (codes "evaluate", Some verbs.Evaluate)
-    ∷ (codes "extend", Some verbs.Extend)
-    ∷ (codes "sample", Some verbs.Sample)
-    ∷ (codes "solve", Some verbs.Solve)
-    ∷ (codes "prove", Some verbs.Prove)
+verb_of = listed
+    ((codes "compile", verbs.Compile)
+    ∷ (codes "size", verbs.Size)
+    ∷ (codes "decode", verbs.Decode)
+    ∷ (codes "evaluate", verbs.Evaluate)
+    ∷ (codes "extend", verbs.Extend)
+    ∷ (codes "sample", verbs.Sample)
+    ∷ (codes "solve", verbs.Solve)
+    ∷ (codes "prove", verbs.Prove)
     ∷ [])
 
 -- what is asked of a source, with what the keys choose, and the usual choice for each that is not
@@ -137,23 +141,21 @@ commanding origin target keys ask = record {
   unit = unwrap_or keys.unit One;
   bound = keys.bound;
   slack = unwrap_or keys.slack Bits;
+  penalty = unwrap_or keys.penalty Global;
   ask = ask;
 }
 
 -- What a verb asks of the model of a source, with the names that stand behind FILE. `solve` takes
 -- an order of elimination, where a key names one.
-abbrev pub ask_of : Verb → Option WordAt → List (List ℕ) → Result Ask ℕ
-ask_of verbs.Compile order words = Ok Model
-ask_of verbs.Size order words = Ok Size
-ask_of verbs.Sample order words = Ok Summary
-ask_of verbs.Solve order words = Ok (Solve order)
-ask_of verbs.Decode order words = named words 4 >>= λ state. Ok (Decode state)
-ask_of verbs.Evaluate order words = named words 4 >>= λ states. Ok (Evaluate states)
-ask_of verbs.Extend order words = named words 4 >>= λ assignment. Ok (Extend assignment)
-ask_of verbs.Prove order words = do
-  state ← named words 4
-  certificate ← named words 5
-  Ok (Prove state certificate)
+abbrev pub ask_by : Verb → Option WordAt → Ask
+ask_by verbs.Compile order = Model
+ask_by verbs.Size order = Size
+ask_by verbs.Sample order = Summary
+ask_by verbs.Solve order = Solve order
+ask_by verbs.Decode order = Decode (Whole 4)
+ask_by verbs.Evaluate order = Evaluate (Whole 4)
+ask_by verbs.Extend order = Extend (Whole 4)
+ask_by verbs.Prove order = Prove (Whole 4) (Whole 5)
 
 -- all words of a command: a verb, its source and target, the files that it has besides, and keys
 abbrev pub command_of : List (List ℕ) → Result Command ℕ
@@ -161,9 +163,8 @@ command_of words = do
   verb ← valued verb_of words 0
   source ← source_words verb words
   keys ← keys_from verb source.1 no_keys (first_key verb) (drop (first_key verb) words)
-  target ← chosen_target words source.1 keys
-  ask ← ask_of verb keys.order words
-  Ok (commanding source.0 target keys ask)
+  target ← chosen_target verb words source.1 keys
+  Ok (commanding source.0 target keys (ask_by verb keys.order))
 
 -- the words of the notices, each long or short
 abbrev pub notice_of : List ℕ → Option Notice

@@ -1,41 +1,46 @@
 -- The keys of a command, in any order, each at most once: words of the form `NAME=VALUE`.
 --
 -- A word is cut at its first `=`, so a name may have another one. A key that stands twice, and a
--- key that a target or a verb does not have, are words that cannot stand.
-use Rattle.std.specs.Prelude.{◌≡◌, refl, ℕ, ◌+◌, ◌*◌, ◌^◌, ◌==◌, nat_lt, nat_le, ◌&&◌, List, [], ◌∷◌, take, drop, Bool, true, false, codes, bytes_eq, if◌then◌else◌, Ok, Err, Some, None, Result, Option, option_and_then, unwrap_or}
+-- key that a target or a verb does not take, are words that cannot stand.
+use Rattle.std.specs.Prelude.{◌≡◌, refl, ℕ, ◌+◌, ◌*◌, ◌^◌, ◌==◌, nat_lt, nat_le, ◌&&◌, List, [], ◌∷◌, take, drop, Bool, true, false, codes, bytes_eq, if◌then◌else◌, Ok, Err, Some, None, Result, Option, option_and_then, unwrap_or, is_none}
 use Rattle.std.specs.List.{position}
 use Rattle.std.specs.Option.{option_map, option_map_or}
 use Rattle.std.proofs.lemmas.Bool.{leb-true, ltb-true}
 use Rattle.base.specs.declared.unit.UnitChoice.{UnitChoice}
 use Rattle.base.specs.declared.unit.UnitChoice.TheVariants.{One, Reduce}
+use Rattle.form_steps.specs.declared.scope.PenaltyScope.{PenaltyScope}
+use Rattle.form_steps.specs.declared.scope.PenaltyScope.TheVariants.{Global, Local}
 use Rattle.problem_form.specs.declared.limits.Normal.{Normal}
 use Rattle.problem_form.specs.declared.limits.Normal.TheVariants.{Literal, Multilinear}
 use Rattle.problem_form.specs.declared.limits.High.{High}
 use Rattle.problem_form.specs.declared.limits.High.TheVariants.{Monomial, Rosenberg}
 use Rattle.whole_text.specs.Numbers.{digits_number}
+use Rattle.chimera_graph.specs.declared.chimera.Chimera as graphs
 use Rattle.command_words.specs.declared.commands.Bound.{Bound}
 use Rattle.command_words.specs.declared.commands.Slack.{Slack}
-use Rattle.command_words.specs.declared.commands.Slack.TheVariants.{Bits, Pairs}
+use Rattle.command_words.specs.declared.commands.Slack.TheVariants.{Bits, Pairs, Clauses}
 use Rattle.command_words.specs.declared.commands.Verb.{Verb}
 use Rattle.command_words.specs.declared.commands.Verb.TheVariants as verbs
+use Rattle.command_words.specs.declared.commands.WordAt.{WordAt}
 use Rattle.command_words.specs.declared.commands.WordAt.TheVariants.{Value}
-use Rattle.chimera_graph.specs.declared.chimera.Chimera as graphs
 use Rattle.command_words.specs.declared.commands.Chaining.{Chaining}
 use Rattle.command_words.specs.declared.commands.Chaining.TheVariants.{Clique, Map}
 use Rattle.command_words.specs.declared.commands.ChainStrength.{ChainStrength}
 use Rattle.command_words.specs.declared.commands.ChainStrength.TheVariants.{Choi, Cut}
+use Rattle.command_words.specs.declared.commands.Ground.{Ground}
+use Rattle.command_words.specs.declared.commands.Ground.TheVariants as grounds
 use Rattle.command_words.specs.declared.commands.TargetWord.{TargetWord}
-use Rattle.command_words.specs.declared.commands.TargetWord.TheVariants.{Nodes, Chimera}
+use Rattle.command_words.specs.declared.commands.TargetWord.TheVariants.{Nodes, Chimera, Graph}
 use Rattle.command_words.specs.declared.commands.Target.{Target}
 use Rattle.command_words.specs.declared.commands.Target.TheVariants as targets
+use Rattle.command_words.specs.declared.keys.Takers.{Takers}
+use Rattle.command_words.specs.declared.keys.Takers.TheVariants.{All, Solver, OnChimera, OnQubits, OnGraph}
 use Rattle.command_words.specs.declared.keys.Keys.{Keys}
 
--- ---- tables of words
-
--- what stands beside a word in a table, or something else where the table doesn't have the word
-abbrev pub listed : {A : Type 0} → A → List (List ℕ × A) → List ℕ → A
-listed other [] word = other
-listed other (row ∷ rows) word = if bytes_eq word row.0 then row.1 else listed other rows word
+-- what stands beside a word in a table, or none where the table doesn't have the word
+abbrev pub listed : {A : Type 0} → List (List ℕ × A) → List ℕ → Option A
+listed [] word = None
+listed (row ∷ rows) word = if bytes_eq word row.0 then Some row.1 else listed rows word
 
 -- no key is given
 abbrev pub no_keys : Keys
@@ -45,6 +50,7 @@ no_keys = record {
   unit = None;
   bound = None;
   slack = None;
+  penalty = None;
   order = None;
   rows = None;
   cols = None;
@@ -52,6 +58,7 @@ no_keys = record {
   dead = None;
   chains = None;
   ties = None;
+  graph = None;
 }
 
 -- what goes on where a test passes, and else nothing
@@ -88,20 +95,32 @@ abbrev pub graph_of : Keys → Option graphs.Chimera
 graph_of keys =
     given keys.rows (λ rows. given keys.cols (λ cols. given keys.shore (graph_with rows cols)))
 
--- The target that a word and the keys choose, or none where a key is missing that a graph needs, or
--- it were too large. A model on nodes needs no key, and a graph needs its rows, its columns, its
--- shore, and chains; ties are usually by the simple bound.
+-- the place of the name of a map of chains
+abbrev pub map_at : Chaining → Option WordAt
+map_at Clique = None
+map_at (Map at) = Some at
+
+-- The ground that a word and the keys choose, or none where a key is missing that it needs, or the
+-- graph were too large. A Chimera graph needs its rows, its columns, its shore, and chains, and a
+-- graph in a file needs the file and a map.
+abbrev pub ground_by : TargetWord → Keys → Option Ground
+ground_by (Nodes model) keys = None
+ground_by Chimera keys =
+    given (graph_of keys) (λ graph.
+    given keys.chains (λ chains. Some (grounds.Chimera graph keys.dead chains)))
+ground_by Graph keys =
+    given keys.graph (λ graph.
+    given (given keys.chains map_at) (λ map. Some (grounds.Listed graph map)))
+
+-- the target on a ground, with ties by the simple bound where none are given
+abbrev pub on_ground : (ground : Ground) → Option ChainStrength → Target
+on_ground ground ties = targets.Qubits (record { ground = ground; ties = unwrap_or ties Choi })
+
+-- The target that a word and the keys choose, or none where its ground is. A model on nodes needs
+-- no key.
 abbrev pub target_by : TargetWord → Keys → Option Target
 target_by (Nodes model) keys = Some (targets.Nodes model)
-target_by Chimera keys =
-    given (graph_of keys) (λ graph.
-    given keys.chains (λ chains.
-    Some (targets.Chimera (record {
-      graph = graph;
-      dead = keys.dead;
-      chains = chains;
-      ties = unwrap_or keys.ties Choi;
-    }))))
+target_by word keys = given (ground_by word keys) (λ g. Some (on_ground g keys.ties))
 
 -- the byte `=`
 abbrev pub is_equals : ℕ → Bool
@@ -111,32 +130,27 @@ is_equals byte = byte == 61
 abbrev pub cut : List ℕ → Option (List ℕ × List ℕ)
 cut word = option_map (λ i. (take i word, drop (i + 1) word)) (position is_equals word)
 
--- The value of a key that is given once: none where there is one already. So the second word of a
--- key is the one that cannot stand.
-abbrev pub once : {A : Type 0} → Option A → Option A → Option A
-once None value = value
-once (Some given) value = None
-
--- keys with a value that is given once
-abbrev pub keyed : {A : Type 0} → Option A → Option A → (Option A → Keys) → Option Keys
-keyed given value with = option_map (λ x. with (Some x)) (once given value)
+-- ---- the values of keys
 
 -- the words of the normal forms
 abbrev pub normal_of : List ℕ → Option Normal
-normal_of =
-    listed None ((codes "literal", Some Literal) ∷ (codes "multilinear", Some Multilinear) ∷ [])
+normal_of = listed ((codes "literal", Literal) ∷ (codes "multilinear", Multilinear) ∷ [])
 
 -- the words of the steps for terms of degree 3 or more
 abbrev pub high_of : List ℕ → Option High
-high_of = listed None ((codes "monomial", Some Monomial) ∷ (codes "rosenberg", Some Rosenberg) ∷ [])
+high_of = listed ((codes "monomial", Monomial) ∷ (codes "rosenberg", Rosenberg) ∷ [])
 
 -- the words of the ways to choose the unit
 abbrev pub unit_of : List ℕ → Option UnitChoice
-unit_of = listed None ((codes "one", Some One) ∷ (codes "reduce", Some Reduce) ∷ [])
+unit_of = listed ((codes "one", One) ∷ (codes "reduce", Reduce) ∷ [])
 
--- the words of the ways of conflicts into the model
+-- the words of the ways of conflicts and covers into the model
 abbrev pub slack_of : List ℕ → Option Slack
-slack_of = listed None ((codes "bits", Some Bits) ∷ (codes "pairs", Some Pairs) ∷ [])
+slack_of = listed ((codes "bits", Bits) ∷ (codes "pairs", Pairs) ∷ (codes "clauses", Clauses) ∷ [])
+
+-- the words of the scopes of penalties
+abbrev pub penalty_of : List ℕ → Option PenaltyScope
+penalty_of = listed ((codes "global", Global) ∷ (codes "local", Local) ∷ [])
 
 -- A bound of the cost: an optional `-` (45), and digits.
 abbrev pub bound_of : List ℕ → Option Bound
@@ -155,61 +169,87 @@ side_of value =
 
 -- the words of the chains that need no map
 abbrev pub embed_of : List ℕ → Option Chaining
-embed_of value = if bytes_eq value (codes "clique") then Some Clique else None
+embed_of = listed ((codes "clique", Clique) ∷ [])
 
 -- the words of the ties of chains
 abbrev pub ties_of : List ℕ → Option ChainStrength
-ties_of = listed None ((codes "choi", Some Choi) ∷ (codes "cut", Some Cut) ∷ [])
+ties_of = listed ((codes "choi", Choi) ∷ (codes "cut", Cut) ∷ [])
 
--- The keys of the chains of a graph, `embed`, `map`, `dead` and `chain`: the keys with one more,
--- whose word stands at an index, or none where it cannot stand.
-abbrev pub with_chain_pair : Keys → ℕ → List ℕ → List ℕ → Option Keys
-with_chain_pair keys at name value =
-    listed None
-    ((codes "embed", keyed keys.chains (embed_of value) (λ x. record keys { chains = x }))
-    ∷ (codes "map", keyed keys.chains (Some (Map (Value at))) (λ x. record keys { chains = x }))
-    ∷ (codes "dead", keyed keys.dead (Some (Value at)) (λ x. record keys { dead = x }))
-    ∷ (codes "chain", keyed keys.ties (ties_of value) (λ x. record keys { ties = x }))
-    ∷ []) name
+-- ---- the table of keys
 
--- The keys of a graph: the keys with one more, whose word stands at an index, or none where it
--- cannot stand. They are its numbers, `rows`, `cols` and `shore`, and those of its chains.
-abbrev pub with_graph_pair : Keys → ℕ → List ℕ → List ℕ → Option Keys
-with_graph_pair keys at name value =
-    listed (with_chain_pair keys at name value)
-    ((codes "rows", keyed keys.rows (side_of value) (λ x. record keys { rows = x }))
-    ∷ (codes "cols", keyed keys.cols (side_of value) (λ x. record keys { cols = x }))
-    ∷ (codes "shore", keyed keys.shore (side_of value) (λ x. record keys { shore = x }))
-    ∷ []) name
+-- whether a verb and a target are among those that take a key
+abbrev pub takes : Takers → Verb → TargetWord → Bool
+takes All verb target = true
+takes Solver verbs.Solve target = true
+takes OnChimera verb Chimera = true
+takes OnQubits verb Chimera = true
+takes OnQubits verb Graph = true
+takes OnGraph verb Graph = true
+takes takers verb target = false
 
--- The keys that a target has of its own. A model on nodes has none.
-abbrev pub with_own_pair : TargetWord → Keys → ℕ → List ℕ → List ℕ → Option Keys
-with_own_pair (Nodes model) keys at name value = None
-with_own_pair Chimera keys at name value = with_graph_pair keys at name value
+-- a key: who takes it, whether keys do not have it yet, and what keys become with a value of it,
+-- whose word stands at an index, where it is one
+pub record Key : Type 0 where
+  pub takers : Takers
+  pub is_free : Keys → Bool
+  pub put : ℕ → List ℕ → Option (Keys → Keys)
 
--- The keys with an order of elimination, whose word stands at an index, or none where it cannot
--- stand. Only `solve` has an order.
-abbrev pub with_order : Verb → Keys → ℕ → Option Keys
-with_order verbs.Solve keys at = keyed keys.order (Some (Value at)) (λ x. record keys { order = x })
-with_order verb keys at = None
+-- the key that chooses a field of keys by a value of its own
+abbrev pub key : {A B : Type 0} → Takers → (Keys → Option A) → (List ℕ → Option B)
+    → (B → Keys → Keys) → Key
+key takers field value put = record {
+  takers = takers;
+  is_free = λ keys. is_none (field keys);
+  put = λ at text. option_map put (value text);
+}
 
--- The table of keys: the keys with one more, whose word stands at an index, or none where it cannot
--- stand. Every verb and target has `normal`, `high`, `unit`, `bound` and `slack`.
+-- the key that chooses it by a file, whose name is any text
+abbrev pub file_key : {A : Type 0} → Takers → (Keys → Option A) → (WordAt → Keys → Keys) → Key
+file_key takers field put = record {
+  takers = takers;
+  is_free = λ keys. is_none (field keys);
+  put = λ at text. Some (put (Value at));
+}
+
+-- The keys, each with its name. `embed` and `map` both choose the chains, so one of them keeps out
+-- the other.
+abbrev pub key_table : List (List ℕ × Key)
+key_table =
+    (codes "normal", key All (λ k. k.normal) normal_of (λ x k. record k { normal = Some x }))
+    ∷ (codes "high", key All (λ k. k.high) high_of (λ x k. record k { high = Some x }))
+    ∷ (codes "unit", key All (λ k. k.unit) unit_of (λ x k. record k { unit = Some x }))
+    ∷ (codes "bound", key All (λ k. k.bound) bound_of (λ x k. record k { bound = Some x }))
+    ∷ (codes "slack", key All (λ k. k.slack) slack_of (λ x k. record k { slack = Some x }))
+    ∷ (codes "penalty", key All (λ k. k.penalty) penalty_of (λ x k. record k { penalty = Some x }))
+    ∷ (codes "order", file_key Solver (λ k. k.order) (λ x k. record k { order = Some x }))
+    ∷ (codes "rows", key OnChimera (λ k. k.rows) side_of (λ x k. record k { rows = Some x }))
+    ∷ (codes "cols", key OnChimera (λ k. k.cols) side_of (λ x k. record k { cols = Some x }))
+    ∷ (codes "shore", key OnChimera (λ k. k.shore) side_of (λ x k. record k { shore = Some x }))
+    ∷ (codes "dead", file_key OnChimera (λ k. k.dead) (λ x k. record k { dead = Some x }))
+    ∷ (codes "embed", key OnChimera (λ k. k.chains) embed_of (λ x k. record k { chains = Some x }))
+    ∷ (codes "map", file_key OnQubits (λ k. k.chains) (λ x k. record k { chains = Some (Map x) }))
+    ∷ (codes "chain", key OnQubits (λ k. k.ties) ties_of (λ x k. record k { ties = Some x }))
+    ∷ (codes "graph", file_key OnGraph (λ k. k.graph) (λ x k. record k { graph = Some x }))
+    ∷ []
+
+-- The keys with a value of a key more, whose word stands at an index, or none where verb or target
+-- do not take the key, it is given already, or the value is none of it. So the second word of a key
+-- is the one that cannot stand.
+abbrev pub with_key : Verb → TargetWord → Keys → ℕ → List ℕ → Key → Option Keys
+with_key verb target keys at value key =
+    if takes key.takers verb target && key.is_free keys
+    then option_map (λ put. put keys) (key.put at value)
+    else None
+
+-- the keys with that of one name and value more, or none where there is no such key
 abbrev pub with_pair : Verb → TargetWord → Keys → ℕ → List ℕ → List ℕ → Option Keys
 with_pair verb target keys at name value =
-    listed (with_own_pair target keys at name value)
-    ((codes "normal", keyed keys.normal (normal_of value) (λ x. record keys { normal = x }))
-    ∷ (codes "high", keyed keys.high (high_of value) (λ x. record keys { high = x }))
-    ∷ (codes "unit", keyed keys.unit (unit_of value) (λ x. record keys { unit = x }))
-    ∷ (codes "bound", keyed keys.bound (bound_of value) (λ x. record keys { bound = x }))
-    ∷ (codes "slack", keyed keys.slack (slack_of value) (λ x. record keys { slack = x }))
-    ∷ (codes "order", with_order verb keys at)
-    ∷ []) name
+    option_and_then (with_key verb target keys at value) (listed key_table name)
 
 -- the keys with that of one word more, or none where the word cannot stand
 abbrev pub with_word : Verb → TargetWord → Keys → ℕ → List ℕ → Option Keys
 with_word verb target keys at word =
-    option_map_or (λ parts. with_pair verb target keys at parts.0 parts.1) (cut word) None
+    option_and_then (λ parts. with_pair verb target keys at parts.0 parts.1) (cut word)
 
 -- the keys of words from an index on, or the position of the first word that cannot stand
 abbrev pub keys_from : Verb → TargetWord → Keys → ℕ → List (List ℕ) → Result Keys ℕ

@@ -2,23 +2,22 @@
 --
 -- A name is a whole word, as that of the source, or the value of a key, as in `map=chains.txt`. An
 -- empty name is lawful, and names a file that cannot be read.
-use Rattle.std.specs.Prelude.{ℕ, List, [], ◌∷◌, ◌++◌, Some, None, Option, slice_get}
+use Rattle.std.specs.Prelude.{ℕ, List, [], ◌∷◌, ◌++◌, Some, None, Option, option_and_then, slice_get}
 use Rattle.std.specs.Option.{option_map_or}
 use Rattle.command_words.specs.declared.commands.WordAt.{WordAt}
 use Rattle.command_words.specs.declared.commands.WordAt.TheVariants.{Whole, Value}
 use Rattle.command_words.specs.declared.commands.Target.{Target}
 use Rattle.command_words.specs.declared.commands.Target.TheVariants as targets
-use Rattle.command_words.specs.declared.commands.Chaining.{Chaining}
-use Rattle.command_words.specs.declared.commands.Chaining.TheVariants.{Clique}
-use Rattle.command_words.specs.declared.commands.Chaining.TheVariants as chainings
+use Rattle.command_words.specs.declared.commands.Ground.{Ground}
+use Rattle.command_words.specs.declared.commands.Ground.TheVariants as grounds
 use Rattle.command_words.specs.declared.commands.Origin.{Origin}
 use Rattle.command_words.specs.declared.commands.Origin.TheVariants.{File, Drawn}
 use Rattle.command_words.specs.declared.commands.Ask.{Ask}
 use Rattle.command_words.specs.declared.commands.Ask.TheVariants.{Solve, Decode, Evaluate, Extend, Prove}
 use Rattle.command_words.specs.declared.commands.Command.{Command}
 use Rattle.command_words.specs.declared.names.Which.{Which}
-use Rattle.command_words.specs.declared.names.Which.TheVariants.{Source, Dead, Map, State, Certificate, Order}
-use Rattle.command_words.specs.Keys.{cut}
+use Rattle.command_words.specs.declared.names.Which.TheVariants.{Source, Graph, Dead, Map, State, Certificate, Order}
+use Rattle.command_words.specs.Keys.{cut, map_at}
 
 -- what stands after the first `=` of a word
 abbrev pub value_of : List ℕ → List ℕ
@@ -34,21 +33,37 @@ abbrev pub file_of : Origin → Option WordAt
 file_of (File format at) = Some at
 file_of (Drawn number clauses) = None
 
--- The place of the name of the list of dead qubits and couplers that a target has. Only a graph has
--- such a list.
-abbrev pub dead_of : Target → Option WordAt
-dead_of (targets.Nodes model) = None
-dead_of (targets.Chimera board) = board.dead
+-- the ground that a target has; a model on nodes has none
+abbrev pub ground_of : Target → Option Ground
+ground_of (targets.Nodes model) = None
+ground_of (targets.Qubits board) = Some board.ground
+
+-- the place of the name of a graph
+abbrev pub graph_in : Ground → Option WordAt
+graph_in (grounds.Chimera graph dead chains) = None
+graph_in (grounds.Listed graph map) = Some graph
+
+-- the place of the name of a list of dead qubits and couplers
+abbrev pub dead_in : Ground → Option WordAt
+dead_in (grounds.Chimera graph dead chains) = dead
+dead_in (grounds.Listed graph map) = None
 
 -- the place of the name of a map of chains
-abbrev pub map_in : Chaining → Option WordAt
-map_in Clique = None
-map_in (chainings.Map at) = Some at
+abbrev pub map_in : Ground → Option WordAt
+map_in (grounds.Chimera graph dead chains) = map_at chains
+map_in (grounds.Listed graph map) = Some map
+
+-- the places of the names of the graph, the list and the map that a target has
+abbrev pub graph_of : Target → Option WordAt
+graph_of target = option_and_then graph_in (ground_of target)
+
+-- the place of the name of the list of dead qubits and couplers that a target has
+abbrev pub dead_of : Target → Option WordAt
+dead_of target = option_and_then dead_in (ground_of target)
 
 -- the place of the name of the map that a target has
 abbrev pub map_of : Target → Option WordAt
-map_of (targets.Nodes model) = None
-map_of (targets.Chimera board) = map_in board.chains
+map_of target = option_and_then map_in (ground_of target)
 
 -- The place of the name of states or of an assignment. Decoding, evaluating and proving take states
 -- of the model, and extending an assignment of the source.
@@ -72,6 +87,7 @@ order_of ask = None
 -- the place of the name of a file, where a command has such a file
 abbrev pub place_of : Command → Which → Option WordAt
 place_of command Source = file_of command.origin
+place_of command Graph = graph_of command.target
 place_of command Dead = dead_of command.target
 place_of command Map = map_of command.target
 place_of command State = state_of command.ask
@@ -87,9 +103,10 @@ abbrev pub if_named : Command → Which → List Which
 if_named command which = option_map_or (λ place. which ∷ []) (place_of command which) []
 
 -- The files that the model of a command is made of, in the order in which they are taken. At most
--- three: the source, the list of dead parts, and the map.
+-- three: the source, the graph or the list of dead parts, and the map.
 abbrev pub model_files : Command → List Which
-model_files command = if_named command Source ++ if_named command Dead ++ if_named command Map
+model_files command =
+    if_named command Source ++ if_named command Graph ++ if_named command Dead ++ if_named command Map
 
 -- The files that are taken once the model stands. The source is read first, so a fault in it is
 -- told before one in these.

@@ -37,7 +37,8 @@ commands =
 abbrev pub words : List (List ℕ)
 words =
     codes "FORMAT is wcnf, wbo, opb, poly, qubo or ising, and FILE is a file in it."
-    ∷ codes "TARGET is qubo (bits), ising (spins) or chimera (spins on the qubits of a Chimera graph)."
+    ∷ codes "TARGET is qubo (bits), ising (spins), chimera (spins on the qubits of a Chimera graph) or graph"
+    ∷ codes "(spins on the qubits of a graph in a file)."
     ∷ codes "STATE, STATES and ASSIGNMENT are files with lines of 0 and 1, or of - and +."
     ∷ codes "NUMBER is below 2^64 and chooses the clauses; CLAUSES, their count, is at most 100000."
     ∷ []
@@ -49,7 +50,9 @@ usual_keys =
     ∷ codes "  normal=literal|multilinear  keep products of literals, or multiply them out over variables"
     ∷ codes "  high=monomial|rosenberg     replace each long term by itself, or pairs of literals in all of them"
     ∷ codes "  unit=one|reduce             keep the weights, or divide them by what divides them all"
-    ∷ codes "  slack=bits|pairs            slack bits in each constraint, or pairs in those like at-most-one"
+    ∷ codes "  slack=bits|pairs|clauses    slack bits in each constraint, or pairs in those like at-most-one, or"
+    ∷ codes "                              these pairs, and clauses in those like at-least-one"
+    ∷ codes "  penalty=global|local        one penalty for all hard parts, or a lesser one for each of them"
     ∷ codes "  bound=N                     what costs more than N is infeasible; usually there is no bound"
     ∷ []
 
@@ -60,15 +63,18 @@ order_keys =
     ∷ codes "  order=NAME                  a file: the nodes as they are eliminated; usually from the last one"
     ∷ []
 
--- the keys of a graph
+-- the keys of graphs
 abbrev pub graph_keys : List (List ℕ)
 graph_keys =
-    codes "Keys of the target chimera, with every command:"
+    codes "Keys of the targets chimera and graph, with every command:"
+    ∷ codes "  map=NAME                    a file: chains, on each line a node and its qubits"
+    ∷ codes "  chain=choi|cut              tie chains so that no break pays, or so that no least state breaks"
+    ∷ codes "Keys of the target chimera, with every command:"
     ∷ codes "  rows=N cols=N shore=N       rows and columns of cells, qubits on a side of a cell; all needed"
     ∷ codes "  embed=clique                the chains of a clique; exactly one of embed and map is needed"
-    ∷ codes "  map=NAME                    a file: chains, on each line a node and its qubits"
     ∷ codes "  dead=NAME                   a file: qubits and couplers to leave out; usually there are none"
-    ∷ codes "  chain=choi|cut              tie chains so that no break pays, or so that no least state breaks"
+    ∷ codes "Key of the target graph, with every command; it is needed, and map is:"
+    ∷ codes "  graph=NAME                  a file: on each line a qubit or the two of a coupler, which work"
     ∷ []
 
 -- the statuses, each with its number

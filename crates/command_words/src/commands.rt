@@ -4,6 +4,7 @@ ghost use Rattle.command_words.specs.Bounds.{most_of, number_of};
 
 use base::UnitChoice;
 use chimera_graph::Chimera;
+use form_steps::PenaltyScope;
 use problem_form::Choices;
 
 /// The layout of a source.
@@ -24,8 +25,8 @@ pub enum NodeModel {
     Ising,
 }
 
-/// How the nodes of a form get chains of qubits: as those of a clique, or by the map in a file of
-/// this name.
+/// How the nodes of a form get chains of the qubits of a Chimera graph: as those of a clique, or by
+/// the map in a file of this name.
 #[derive(Clone, Copy, Debug, PartialEq, Eq)]
 pub enum Chaining {
     Clique,
@@ -40,13 +41,26 @@ pub enum ChainStrength {
     Cut,
 }
 
-/// The qubits of a graph, without those in a file of dead ones where there is one, and how the
-/// nodes of a form get chains of them and these are tied.
+/// The qubits of a graph, and how the nodes of a form get chains of them: those of a Chimera graph
+/// without those in a file of dead ones, where there is one, or those of a graph in a file, with the
+/// map in another.
+#[derive(Clone, Copy, Debug, PartialEq, Eq)]
+pub enum Ground {
+    Chimera {
+        graph: Chimera,
+        dead: Option<WordAt>,
+        chains: Chaining,
+    },
+    Listed {
+        graph: WordAt,
+        map: WordAt,
+    },
+}
+
+/// The qubits of a graph with chains of them, and how these are tied.
 #[derive(Clone, Copy, Debug, PartialEq, Eq)]
 pub struct Board {
-    pub graph: Chimera,
-    pub dead: Option<WordAt>,
-    pub chains: Chaining,
+    pub ground: Ground,
     pub ties: ChainStrength,
 }
 
@@ -54,7 +68,7 @@ pub struct Board {
 #[derive(Clone, Copy, Debug, PartialEq, Eq)]
 pub enum Target {
     Nodes(NodeModel),
-    Chimera(Board),
+    Qubits(Board),
 }
 
 /// What the word of a target says.
@@ -62,6 +76,7 @@ pub enum Target {
 pub enum TargetWord {
     Nodes(NodeModel),
     Chimera,
+    Graph,
 }
 
 /// A text in the words: the word at an index, or what stands in it after its first `=`.
@@ -71,12 +86,14 @@ pub enum WordAt {
     Value(usize),
 }
 
-/// How conflicts, the constraints of which no two products may miss, enter a model: with slack
-/// bits, as other constraints do, or as clauses of pairs.
+/// How conflicts, the constraints of which no two products may miss, and covers, those that one
+/// product makes hold, enter a model: with slack bits, as other constraints do, or conflicts as
+/// clauses of pairs, or both as clauses.
 #[derive(Clone, Copy, Debug, PartialEq, Eq)]
 pub enum Slack {
     Bits,
     Pairs,
+    Clauses,
 }
 
 /// A bound of the cost: its size, which is below 2^64, and whether it is negative.
@@ -154,7 +171,7 @@ pub enum Ask {
 }
 
 /// What a run does: a source, the most that an assignment of it may cost, how it becomes a model,
-/// and what is asked of that model.
+/// whose penalties are of this scope, and what is asked of that model.
 #[derive(Clone, Copy, Debug, PartialEq, Eq)]
 pub struct Command {
     pub origin: Origin,
@@ -163,6 +180,7 @@ pub struct Command {
     pub unit: UnitChoice,
     pub bound: Option<Bound>,
     pub slack: Slack,
+    pub penalty: PenaltyScope,
     pub ask: Ask,
 }
 

@@ -1,12 +1,13 @@
 //! The keys of a command, in any order, each at most once: words of the form `NAME=VALUE`.
-ghost use Rattle.std.specs.Prelude.{◌≡◌, ◌+◌, ◌<◌, ◌^◌, length, map, string_bytes, Some, None, MatchOption};
-ghost use Rattle.command_words.specs.Keys.{bound_of, cut, embed_of, graph_of, high_of, keys_from, no_keys, normal_of, once, side_of, slack_of, target_by, ties_of, unit_of, with_chain_pair, with_graph_pair, with_order, with_pair, with_word};
+ghost use Rattle.std.specs.Prelude.{◌≡◌, ◌+◌, ◌<◌, ◌^◌, ◌&&◌, length, map, string_bytes, Some, None, MatchOption, is_none, if◌then◌else◌};
+ghost use Rattle.command_words.specs.Keys.{bound_of, cut, embed_of, graph_of, ground_by, high_of, keys_from, map_at, no_keys, normal_of, penalty_of, side_of, slack_of, takes, target_by, ties_of, unit_of, with_pair, with_word};
 
 use crate::commands::{
-    Board, Bound, ChainStrength, Chaining, Slack, Target, TargetWord, Verb, WordAt,
+    Board, Bound, ChainStrength, Chaining, Ground, Slack, Target, TargetWord, Verb, WordAt,
 };
 use base::UnitChoice;
 use chimera_graph::Chimera;
+use form_steps::PenaltyScope;
 use problem_form::{High, Normal};
 use whole_text::digits;
 
@@ -21,6 +22,7 @@ pub struct Keys {
     pub unit: Option<UnitChoice>,
     pub bound: Option<Bound>,
     pub slack: Option<Slack>,
+    pub penalty: Option<PenaltyScope>,
     pub order: Option<WordAt>,
     pub rows: Option<u32>,
     pub cols: Option<u32>,
@@ -28,6 +30,30 @@ pub struct Keys {
     pub dead: Option<WordAt>,
     pub chains: Option<Chaining>,
     pub ties: Option<ChainStrength>,
+    pub graph: Option<WordAt>,
+}
+
+/// The commands that take a key: all, those with a verb, or those with a target.
+#[derive(Clone, Copy)]
+pub enum Takers {
+    All,
+    Solver,
+    OnChimera,
+    OnQubits,
+    OnGraph,
+}
+
+/// Whether a verb and a target are among those that take a key.
+fn takes(takers: Takers, verb: Verb, target: TargetWord) -> bool
+    ensures { result ≡ takes takers verb target }
+{
+    match takers {
+        Takers::All => true,
+        Takers::Solver => matches!(verb, Verb::Solve),
+        Takers::OnChimera => matches!(target, TargetWord::Chimera),
+        Takers::OnQubits => matches!(target, TargetWord::Chimera | TargetWord::Graph),
+        Takers::OnGraph => matches!(target, TargetWord::Graph),
+    }
 }
 
 /// No key is given.
@@ -40,6 +66,7 @@ pub(crate) fn no_keys() -> Keys
         unit: None,
         bound: None,
         slack: None,
+        penalty: None,
         order: None,
         rows: None,
         cols: None,
@@ -47,6 +74,7 @@ pub(crate) fn no_keys() -> Keys
         dead: None,
         chains: None,
         ties: None,
+        graph: None,
     }
 }
 
@@ -60,20 +88,50 @@ fn graph_of(keys: Keys) -> Option<Chimera>
     Chimera::new(rows, cols, shore)
 }
 
-/// The target that a word and the keys choose, or none where a key is missing that a graph needs,
-/// or it were too large.
+/// The place of the name of a map of chains.
+pub(crate) fn map_at(chains: Chaining) -> Option<WordAt>
+    ensures { result ≡ map_at chains }
+{
+    match chains {
+        Chaining::Clique => None,
+        Chaining::Map(at) => Some(at),
+    }
+}
+
+/// The ground that a word and the keys choose, or none where a key is missing that it needs, or the
+/// graph were too large.
+fn ground_by(target: TargetWord, keys: Keys) -> Option<Ground>
+    ensures { result ≡ ground_by target keys }
+{
+    match target {
+        TargetWord::Nodes(_) => None,
+        TargetWord::Chimera => {
+            let graph = graph_of(keys)?;
+            let chains = keys.chains?;
+            Some(Ground::Chimera {
+                graph,
+                dead: keys.dead,
+                chains,
+            })
+        }
+        TargetWord::Graph => {
+            let graph = keys.graph?;
+            let map = map_at(keys.chains?)?;
+            Some(Ground::Listed { graph, map })
+        }
+    }
+}
+
+/// The target that a word and the keys choose, or none where its ground is.
 pub(crate) fn target_by(target: TargetWord, keys: Keys) -> Option<Target>
     ensures { result ≡ target_by target keys }
 {
     match target {
         TargetWord::Nodes(model) => Some(Target::Nodes(model)),
-        TargetWord::Chimera => {
-            let graph = graph_of(keys)?;
-            let chains = keys.chains?;
-            Some(Target::Chimera(Board {
-                graph,
-                dead: keys.dead,
-                chains,
+        TargetWord::Chimera | TargetWord::Graph => {
+            let ground = ground_by(target, keys)?;
+            Some(Target::Qubits(Board {
+                ground,
                 ties: keys.ties.unwrap_or(ChainStrength::Choi),
             }))
         }
@@ -87,16 +145,6 @@ pub(crate) fn cut(word: &str) -> Option<(&str, &str)>
         (λ parts. cut word.now ≡ Some (parts.0.now, parts.1.now)) }
 {
     word.split_once('=')
-}
-
-/// The value of a key that is given once: none where there is one already.
-fn once<T: Copy>(given: Option<T>, value: Option<T>) -> Option<T>
-    ensures { result ≡ once given value }
-{
-    match given {
-        None => value,
-        Some(_) => None,
-    }
 }
 
 fn normal_of(value: &str) -> Option<Normal>
@@ -135,6 +183,17 @@ fn slack_of(value: &str) -> Option<Slack>
     match value {
         "bits" => Some(Slack::Bits),
         "pairs" => Some(Slack::Pairs),
+        "clauses" => Some(Slack::Clauses),
+        _ => None,
+    }
+}
+
+fn penalty_of(value: &str) -> Option<PenaltyScope>
+    ensures { result ≡ penalty_of value.now }
+{
+    match value {
+        "global" => Some(PenaltyScope::Global),
+        "local" => Some(PenaltyScope::Local),
         _ => None,
     }
 }
@@ -194,70 +253,18 @@ fn ties_of(value: &str) -> Option<ChainStrength>
     }
 }
 
-/// The keys of the chains of a graph: the keys with one more, whose word stands at the index `at`,
-/// or none where it cannot stand.
-fn with_chain_pair(mut keys: Keys, at: usize, name: &str, value: &str) -> Option<Keys>
-    ensures { result ≡ with_chain_pair keys at name.now value.now }
+/// The value of a key: none where it is not taken, or there is one already.
+fn once<T: Copy>(taken: bool, given: Option<T>, value: Option<T>) -> Option<T>
+    ensures { result ≡ (if taken && is_none given then value else None) }
 {
-    match name {
-        "embed" => {
-            keys.chains = Some(once(keys.chains, embed_of(value))?);
-            Some(keys)
-        }
-        "map" => {
-            keys.chains = Some(once(keys.chains, Some(Chaining::Map(WordAt::Value(at))))?);
-            Some(keys)
-        }
-        "dead" => {
-            keys.dead = Some(once(keys.dead, Some(WordAt::Value(at)))?);
-            Some(keys)
-        }
-        "chain" => {
-            keys.ties = Some(once(keys.ties, ties_of(value))?);
-            Some(keys)
-        }
-        _ => None,
-    }
-}
-
-/// The keys of a graph: the keys with one more, whose word stands at the index `at`, or none where
-/// it cannot stand.
-fn with_graph_pair(mut keys: Keys, at: usize, name: &str, value: &str) -> Option<Keys>
-    ensures { result ≡ with_graph_pair keys at name.now value.now }
-{
-    match name {
-        "rows" => {
-            keys.rows = Some(once(keys.rows, side_of(value))?);
-            Some(keys)
-        }
-        "cols" => {
-            keys.cols = Some(once(keys.cols, side_of(value))?);
-            Some(keys)
-        }
-        "shore" => {
-            keys.shore = Some(once(keys.shore, side_of(value))?);
-            Some(keys)
-        }
-        _ => with_chain_pair(keys, at, name, value),
-    }
-}
-
-/// The keys with an order of elimination, whose word stands at the index `at`, or none where it
-/// cannot stand: `solve` alone takes one.
-fn with_order(verb: Verb, mut keys: Keys, at: usize) -> Option<Keys>
-    ensures { result ≡ with_order verb keys at }
-{
-    match verb {
-        Verb::Solve => {
-            keys.order = Some(once(keys.order, Some(WordAt::Value(at)))?);
-            Some(keys)
-        }
+    match given {
+        None if taken => value,
         _ => None,
     }
 }
 
 /// The table of keys: the keys with one more, whose word stands at the index `at`, or none where
-/// it cannot stand. `solve` has a key of its own, and so has a graph.
+/// it cannot stand.
 fn with_pair(
     verb: Verb,
     target: TargetWord,
@@ -268,33 +275,30 @@ fn with_pair(
 ) -> Option<Keys>
     ensures { result ≡ with_pair verb target keys at name.now value.now }
 {
+    let solve = takes(Takers::Solver, verb, target);
+    let chimera = takes(Takers::OnChimera, verb, target);
+    let qubits = takes(Takers::OnQubits, verb, target);
+    let graph = takes(Takers::OnGraph, verb, target);
+    let file = WordAt::Value(at);
     match name {
-        "normal" => {
-            keys.normal = Some(once(keys.normal, normal_of(value))?);
-            Some(keys)
-        }
-        "high" => {
-            keys.high = Some(once(keys.high, high_of(value))?);
-            Some(keys)
-        }
-        "unit" => {
-            keys.unit = Some(once(keys.unit, unit_of(value))?);
-            Some(keys)
-        }
-        "bound" => {
-            keys.bound = Some(once(keys.bound, bound_of(value))?);
-            Some(keys)
-        }
-        "slack" => {
-            keys.slack = Some(once(keys.slack, slack_of(value))?);
-            Some(keys)
-        }
-        "order" => with_order(verb, keys, at),
-        _ => match target {
-            TargetWord::Nodes(_) => None,
-            TargetWord::Chimera => with_graph_pair(keys, at, name, value),
-        },
+        "normal" => keys.normal = Some(once(true, keys.normal, normal_of(value))?),
+        "high" => keys.high = Some(once(true, keys.high, high_of(value))?),
+        "unit" => keys.unit = Some(once(true, keys.unit, unit_of(value))?),
+        "bound" => keys.bound = Some(once(true, keys.bound, bound_of(value))?),
+        "slack" => keys.slack = Some(once(true, keys.slack, slack_of(value))?),
+        "penalty" => keys.penalty = Some(once(true, keys.penalty, penalty_of(value))?),
+        "order" => keys.order = Some(once(solve, keys.order, Some(file))?),
+        "rows" => keys.rows = Some(once(chimera, keys.rows, side_of(value))?),
+        "cols" => keys.cols = Some(once(chimera, keys.cols, side_of(value))?),
+        "shore" => keys.shore = Some(once(chimera, keys.shore, side_of(value))?),
+        "dead" => keys.dead = Some(once(chimera, keys.dead, Some(file))?),
+        "embed" => keys.chains = Some(once(chimera, keys.chains, embed_of(value))?),
+        "map" => keys.chains = Some(once(qubits, keys.chains, Some(Chaining::Map(file)))?),
+        "chain" => keys.ties = Some(once(qubits, keys.ties, ties_of(value))?),
+        "graph" => keys.graph = Some(once(graph, keys.graph, Some(file))?),
+        _ => return None,
     }
+    Some(keys)
 }
 
 /// The keys with that of one word more, or none where the word cannot stand.

@@ -1,25 +1,16 @@
 //! Laws, as functions without code: each contract is a statement of `specs/`.
-ghost use Rattle.command_words.specs.Asked.{EachJobIsAskedFor, EachSizeIsAskedFor, EachEvaluationIsAskedFor, EachSlackIsAskedFor, EachOrderIsAskedFor, EachNoticeIsAskedFor, EachCommandIsAskedFor, NoOrderElsewhere, EachDecodingIsAskedFor, EachExtensionIsAskedFor, EachSampleIsAskedFor, EachSolutionIsAskedFor, EachProofIsAskedFor, EachUnitIsAskedFor, EachGraphIsAskedFor, EachKeyStands, NoKeyStandsTwice, NoGraphKeyElsewhere, NoGraphWithout, NoLargerGraph, NoOtherWordsAsk};
+ghost use Rattle.command_words.specs.Asked.{EachJobIsAskedFor, EachSampleIsAskedFor, EachKeyIsAskedFor, EachGraphIsAskedFor, EachKeyStands, EachValueIsSaid, NoChainsStandTwice, NoGraphWithout, NoLargerGraph, EachNoticeIsAskedFor, EachCommandIsAskedFor, NoOtherWordsAsk};
 ghost use Rattle.command_words.specs.Positions.{PositionsTellTheFirst};
 
 /// Which words ask for a command or a notice, and which don't.
 pub fn laws_of_words()
     ensures each_job { EachJobIsAskedFor }
-    ensures each_size { EachSizeIsAskedFor }
-    ensures each_decoding { EachDecodingIsAskedFor }
-    ensures each_evaluation { EachEvaluationIsAskedFor }
-    ensures each_extension { EachExtensionIsAskedFor }
     ensures each_sample { EachSampleIsAskedFor }
-    ensures each_solution { EachSolutionIsAskedFor }
-    ensures each_proof { EachProofIsAskedFor }
-    ensures each_unit { EachUnitIsAskedFor }
-    ensures each_slack { EachSlackIsAskedFor }
-    ensures each_order { EachOrderIsAskedFor }
+    ensures each_alone { EachKeyIsAskedFor }
     ensures each_graph { EachGraphIsAskedFor }
     ensures each_key { EachKeyStands }
-    ensures once { NoKeyStandsTwice }
-    ensures elsewhere { NoGraphKeyElsewhere }
-    ensures order_elsewhere { NoOrderElsewhere }
+    ensures each_value { EachValueIsSaid }
+    ensures chains { NoChainsStandTwice }
     ensures without { NoGraphWithout }
     ensures larger { NoLargerGraph }
     ensures each_notice { EachNoticeIsAskedFor }

@@ -10,7 +10,7 @@ mod notices;
 mod words;
 
 pub use commands::{
-    Ask, Board, Bound, ChainStrength, Chaining, Command, Format, NodeModel, Notice, Origin,
+    Ask, Board, Bound, ChainStrength, Chaining, Command, Format, Ground, NodeModel, Notice, Origin,
     Request, Slack, Target, WordAt, most_of,
 };
 pub use laws::{laws_of_words, positions_tell_the_first};

@@ -1,16 +1,17 @@
 //! The files that a command names.
 ghost use Rattle.std.specs.Prelude.{◌≡◌, None, Some, MatchOption, map, string_bytes};
 ghost use Rattle.std.specs.List.{slice_get};
-ghost use Rattle.command_words.specs.Names.{certificate_of, dead_of, file_of, map_of, name_of, order_of, place_of, state_of, text_at, value_of};
+ghost use Rattle.command_words.specs.Names.{certificate_of, dead_of, file_of, graph_of, map_of, name_of, order_of, place_of, state_of, text_at, value_of};
 
-use crate::commands::{Ask, Chaining, Command, Origin, Target, WordAt};
-use crate::keys::cut;
+use crate::commands::{Ask, Command, Ground, Origin, Target, WordAt};
+use crate::keys::{cut, map_at};
 
-/// A file that a command names: the source, the list of dead qubits and couplers, the map of
-/// chains, the states or the assignment, the certificate, or the order of elimination.
+/// A file that a command names: the source, the graph, the list of dead qubits and couplers, the map
+/// of chains, the states or the assignment, the certificate, or the order of elimination.
 #[derive(Clone, Copy, Debug, PartialEq, Eq)]
 pub enum Which {
     Source,
+    Graph,
     Dead,
     Map,
     State,
@@ -66,13 +67,29 @@ fn file_of(origin: Origin) -> Option<WordAt>
     }
 }
 
+/// The place of the name of a graph.
+fn graph_of(target: Target) -> Option<WordAt>
+    ensures { result ≡ graph_of target }
+{
+    match target {
+        Target::Nodes(_) => None,
+        Target::Qubits(board) => match board.ground {
+            Ground::Chimera { .. } => None,
+            Ground::Listed { graph, .. } => Some(graph),
+        },
+    }
+}
+
 /// The place of the name of the list of dead qubits and couplers.
 fn dead_of(target: Target) -> Option<WordAt>
     ensures { result ≡ dead_of target }
 {
     match target {
         Target::Nodes(_) => None,
-        Target::Chimera(board) => board.dead,
+        Target::Qubits(board) => match board.ground {
+            Ground::Chimera { dead, .. } => dead,
+            Ground::Listed { .. } => None,
+        },
     }
 }
 
@@ -82,9 +99,9 @@ fn map_of(target: Target) -> Option<WordAt>
 {
     match target {
         Target::Nodes(_) => None,
-        Target::Chimera(board) => match board.chains {
-            Chaining::Clique => None,
-            Chaining::Map(at) => Some(at),
+        Target::Qubits(board) => match board.ground {
+            Ground::Chimera { chains, .. } => map_at(chains),
+            Ground::Listed { map, .. } => Some(map),
         },
     }
 }
@@ -125,6 +142,7 @@ fn place_of(command: Command, which: Which) -> Option<WordAt>
 {
     match which {
         Which::Source => file_of(command.origin),
+        Which::Graph => graph_of(command.target),
         Which::Dead => dead_of(command.target),
         Which::Map => map_of(command.target),
         Which::State => state_of(command.ask),

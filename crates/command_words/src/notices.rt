@@ -24,7 +24,8 @@ Commands. KEYS are words NAME=VALUE, in any order, each at most once; they may b
   --version, -V                                    writes the version
 
 FORMAT is wcnf, wbo, opb, poly, qubo or ising, and FILE is a file in it.
-TARGET is qubo (bits), ising (spins) or chimera (spins on the qubits of a Chimera graph).
+TARGET is qubo (bits), ising (spins), chimera (spins on the qubits of a Chimera graph) or graph
+(spins on the qubits of a graph in a file).
 STATE, STATES and ASSIGNMENT are files with lines of 0 and 1, or of - and +.
 NUMBER is below 2^64 and chooses the clauses; CLAUSES, their count, is at most 100000.
 
@@ -32,16 +33,21 @@ Keys of every command and target, with the usual value first:
   normal=literal|multilinear  keep products of literals, or multiply them out over variables
   high=monomial|rosenberg     replace each long term by itself, or pairs of literals in all of them
   unit=one|reduce             keep the weights, or divide them by what divides them all
-  slack=bits|pairs            slack bits in each constraint, or pairs in those like at-most-one
+  slack=bits|pairs|clauses    slack bits in each constraint, or pairs in those like at-most-one, or
+                              these pairs, and clauses in those like at-least-one
+  penalty=global|local        one penalty for all hard parts, or a lesser one for each of them
   bound=N                     what costs more than N is infeasible; usually there is no bound
 Key of solve, with every target:
   order=NAME                  a file: the nodes as they are eliminated; usually from the last one
+Keys of the targets chimera and graph, with every command:
+  map=NAME                    a file: chains, on each line a node and its qubits
+  chain=choi|cut              tie chains so that no break pays, or so that no least state breaks
 Keys of the target chimera, with every command:
   rows=N cols=N shore=N       rows and columns of cells, qubits on a side of a cell; all needed
   embed=clique                the chains of a clique; exactly one of embed and map is needed
-  map=NAME                    a file: chains, on each line a node and its qubits
   dead=NAME                   a file: qubits and couplers to leave out; usually there are none
-  chain=choi|cut              tie chains so that no break pays, or so that no least state breaks
+Key of the target graph, with every command; it is needed, and map is:
+  graph=NAME                  a file: on each line a qubit or the two of a coupler, which work
 
 Statuses. For each but 0 a line on the error output tells more.
   0  done                          6  a file is beyond a limit

@@ -1,7 +1,7 @@
 //! The words of a command, one after another. Nothing here takes memory.
 ghost use Rattle.std.specs.Prelude.{◌≡◌, ◌<◌, ◌≤◌, ◌^◌, IfOk, IfSome, length, map, drop, string_bytes};
 ghost use Rattle.whole_text.specs.Numbers.{digits_number};
-ghost use Rattle.command_words.specs.Commands.{HasFewClauses, AsksForFewClauses, alone, ask_of, chosen_target, clauses_of, command_of, drawn_words, file_words, first_key, first_notice, format_of, named, notice_of, request_of, source_words, target_of, valued, verb_of};
+ghost use Rattle.command_words.specs.Commands.{HasFewClauses, AsksForFewClauses, alone, ask_by, chosen_target, clauses_of, command_of, drawn_words, file_words, first_key, first_notice, format_of, named, notice_of, request_of, source_words, target_of, valued, verb_of};
 
 use crate::commands::{
     Ask, Command, Format, NodeModel, Notice, Origin, Request, Slack, Target, TargetWord, Verb,
@@ -10,6 +10,7 @@ use crate::commands::{
 use crate::keys::{Keys, keys_from, target_by};
 use crate::names::word_at;
 use base::UnitChoice;
+use form_steps::PenaltyScope;
 use problem_form::{Choices, High, Normal};
 use whole_text::digits;
 
@@ -53,6 +54,7 @@ fn target_of(word: &str) -> Option<TargetWord>
         "qubo" => Some(TargetWord::Nodes(NodeModel::Qubo)),
         "ising" => Some(TargetWord::Nodes(NodeModel::Ising)),
         "chimera" => Some(TargetWord::Chimera),
+        "graph" => Some(TargetWord::Graph),
         _ => None,
     }
 }
@@ -140,15 +142,6 @@ fn words_from(words: &[String], i: usize) -> &[String]
     }
 }
 
-/// The target that a word and the keys choose. Where a key is missing that a graph needs, or the
-/// graph were too large, it is the position after all words.
-fn chosen_target(words: &[String], target: TargetWord, keys: Keys) -> Result<Target, usize>
-    requires { length words.now < 2 ^ 60 }
-    ensures { result ≡ chosen_target (map string_bytes words.now) target keys }
-{
-    target_by(target, keys).ok_or(words.len() + 1)
-}
-
 /// The index of the first key of a verb.
 fn first_key(verb: Verb) -> usize
     ensures index { result ≡ first_key verb }
@@ -195,23 +188,39 @@ fn source_words(verb: Verb, words: &[String]) -> Result<(Origin, TargetWord), us
     }
 }
 
-/// What a verb asks of the model of a source, with the names that stand behind FILE.
-fn ask_of(verb: Verb, order: Option<WordAt>, words: &[String]) -> Result<Ask, usize>
-    ensures { result ≡ ask_of verb order (map string_bytes words.now) }
+/// What a verb asks of the model of a source, by the words behind FILE.
+fn ask_by(verb: Verb, order: Option<WordAt>) -> Ask
+    ensures { result ≡ ask_by verb order }
 {
+    let first = WordAt::Whole(4);
     match verb {
-        Verb::Compile => Ok(Ask::Model),
-        Verb::Size => Ok(Ask::Size),
-        Verb::Sample => Ok(Ask::Summary),
-        Verb::Solve => Ok(Ask::Solve(order)),
-        Verb::Decode => Ok(Ask::Decode(named(words, 4)?)),
-        Verb::Evaluate => Ok(Ask::Evaluate(named(words, 4)?)),
-        Verb::Extend => Ok(Ask::Extend(named(words, 4)?)),
-        Verb::Prove => {
-            let state = named(words, 4)?;
-            Ok(Ask::Prove(state, named(words, 5)?))
-        }
+        Verb::Compile => Ask::Model,
+        Verb::Size => Ask::Size,
+        Verb::Sample => Ask::Summary,
+        Verb::Solve => Ask::Solve(order),
+        Verb::Decode => Ask::Decode(first),
+        Verb::Evaluate => Ask::Evaluate(first),
+        Verb::Extend => Ask::Extend(first),
+        Verb::Prove => Ask::Prove(first, WordAt::Whole(5)),
     }
+}
+
+/// The target that a word and the keys choose, or the position after all words where a word behind
+/// FILE or a key that it needs is missing, or the graph were too large.
+fn chosen_target(
+    verb: Verb,
+    words: &[String],
+    target: TargetWord,
+    keys: Keys,
+) -> Result<Target, usize>
+    requires { length words.now < 2 ^ 60 }
+    ensures { result ≡ chosen_target verb (map string_bytes words.now) target keys }
+{
+    let missing = words.len() + 1;
+    if words.len() < first_key(verb) {
+        return Err(missing);
+    }
+    target_by(target, keys).ok_or(missing)
 }
 
 /// The command of the words, or the position of the first word that cannot stand, counted from 1;
@@ -225,8 +234,7 @@ fn command(words: &[String]) -> Result<Command, usize>
     let (origin, word) = source_words(verb, words)?;
     let first = first_key(verb);
     let keys = keys_from(verb, word, first, words_from(words, first))?;
-    let target = chosen_target(words, word, keys)?;
-    let ask = ask_of(verb, keys.order, words)?;
+    let target = chosen_target(verb, words, word, keys)?;
     Ok(Command {
         origin,
         target,
@@ -237,7 +245,8 @@ fn command(words: &[String]) -> Result<Command, usize>
         unit: keys.unit.unwrap_or(UnitChoice::One),
         bound: keys.bound,
         slack: keys.slack.unwrap_or(Slack::Bits),
-        ask,
+        penalty: keys.penalty.unwrap_or(PenaltyScope::Global),
+        ask: ask_by(verb, keys.order),
     })
 }
 
