@@ -1,5 +1,5 @@
 -- Texts of entries, QUBO and Ising: their problems stand for what they say.
-use Rattle.source_texts.proofs.Common.{◌≡◌, List, Ok, refl, Word, ◌>>=◌, normal_form, Layout, listing_of, problem_of, reading_keeps_costs, own, plain}
+use Rattle.source_texts.proofs.Common.{◌≡◌, List, Ok, refl, Word, ◌>>=◌, normal_form, Layout, listing_of, problem_of, reading_keeps_costs, Slack, own, plain}
 use Rattle.command_words.specs.declared.commands.Format.TheVariants as formats
 use Rattle.entry_reader.specs.declared.layout.Layout.TheVariants as layouts
 use Rattle.entry_reader.specs.Problems.{problem_of_words}
@@ -13,14 +13,14 @@ entries_read layout =
     (λ s. (refl, refl, refl, refl))
 
 -- words are read into the problem of their reader
-pub ising_words : (ws : List Word) → sources.problem_of_words formats.Ising ws
+pub ising_words : (slack : Slack) (ws : List Word) → sources.problem_of_words slack formats.Ising ws
     ≡ (problem_of_words layouts.Ising ws >>= λ p. Ok (own p))
 unfolding problem_of_words
-ising_words ws =
+ising_words slack ws =
     kept_as (listing_of layouts.Ising ws) (λ s. normal_form (problem_of layouts.Ising s)) own
 
-pub qubo_words : (ws : List Word) → sources.problem_of_words formats.Qubo ws
+pub qubo_words : (slack : Slack) (ws : List Word) → sources.problem_of_words slack formats.Qubo ws
     ≡ (problem_of_words layouts.Qubo ws >>= λ p. Ok (own p))
 unfolding problem_of_words
-qubo_words ws =
+qubo_words slack ws =
     kept_as (listing_of layouts.Qubo ws) (λ s. normal_form (problem_of layouts.Qubo s)) own

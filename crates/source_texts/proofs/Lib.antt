@@ -1,6 +1,7 @@
 pub mod Common
 pub mod Bounded
-pub mod Cleared
+pub mod Penalized
+pub mod Slacked
 pub mod Readings
 pub mod WcnfTexts
 pub mod OpbTexts

@@ -1,5 +1,5 @@
 -- Polynomial texts: their problems stand for what they say.
-use Rattle.source_texts.proofs.Common.{◌≡◌, List, Ok, refl, Word, ◌>>=◌, polynomial_of, polynomial_of_words, named}
+use Rattle.source_texts.proofs.Common.{◌≡◌, List, Ok, refl, Word, ◌>>=◌, polynomial_of, polynomial_of_words, Slack, named}
 use Rattle.command_words.specs.declared.commands.Format.TheVariants as formats
 use Rattle.poly_reader.specs.Poly.{reading_of_words}
 use Rattle.poly_reader.specs.Cost.{form_of}
@@ -13,7 +13,7 @@ poly_read =
     (λ ts. (refl, refl, refl, refl))
 
 -- words are read into the polynomial of their reader
-pub poly_words : (ws : List Word)
-    → sources.problem_of_words formats.Poly ws ≡ (polynomial_of_words ws >>= λ q. Ok (named q))
+pub poly_words : (slack : Slack) (ws : List Word)
+    → sources.problem_of_words slack formats.Poly ws ≡ (polynomial_of_words ws >>= λ q. Ok (named q))
 unfolding polynomial_of_words
-poly_words ws = kept_as (reading_of_words ws) polynomial_of named
+poly_words slack ws = kept_as (reading_of_words ws) polynomial_of named

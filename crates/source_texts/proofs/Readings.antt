@@ -1,8 +1,12 @@
 -- A problem with the costs of a source stands for the source, and texts that are read into such a
 -- problem.
-use Rattle.source_texts.proofs.Common.{nat_tests, ◌≡◌, false, None, Ok, Err, Result, refl, ◌∙◌, subst, arith, ints, take_all, length-replicate, Form, Source, Rewrites, HasSameCosts, rewritten_by, IsGlobal, TextFault, TextAnswer, Gives, MatchResult, ◌>>=◌, own_upper, upper, Read, CostsAs, PlainOwnsAll, RelaxesStoodFor, StandsBounded}
+use Rattle.source_texts.proofs.Common.{nat_tests, ◌≡◌, false, None, Ok, Err, Result, refl, ◌∙◌, subst, arith, ints, take_all, length-replicate, Form, Source, Rewrites, HasSameCosts, rewritten_by, IsGlobal, TextFault, TextAnswer, Gives, MatchResult, ◌>>=◌, ProblemContent, own_cost, upper, Read, CostsAs, PlainOwnsAll, RelaxesStoodFor, StaysStoodFor, StandsBounded}
 use Rattle.problem_form.specs.Problems as problems
-use Rattle.source_texts.proofs.Bounded.{own_form, rewritten_stand}
+use Rattle.source_texts.proofs.Bounded.{rewritten_stand}
+
+-- what a problem says, whatever the most is
+abbrev own_form : ProblemContent → Form
+own_form p = record { bits = p.variables; cost = own_cost p }
 
 -- forms with as many bits and the same costs rewrite each other
 pub same_costs_rewrite : (f f' : Form) → HasSameCosts f' f → Rewrites f f'
@@ -12,25 +16,39 @@ same_costs_rewrite f f' same = record {
   reached = λ x w v whole. grind (arith, nat_tests, take_all);
 }
 
+-- a problem without a most has its own costs
+without_most : (s : Source) (r : Read) → HasSameCosts (own_form r.problem) s.form
+    → r.problem.most ≡ None → HasSameCosts (problems.form_of r.problem) s.form
+without_most s r same none =
+    record { width = same.width; costs = λ x. grind (arith, nat_tests, same.costs) }
+
 -- a problem with the costs of a source, and its upper bound, stands for it
 pub same_costs_stand : (s : Source) (r : Read) → HasSameCosts (own_form r.problem) s.form
-    → r.variables ≡ r.problem.variables → own_upper r.problem ≡ s.upper → IsGlobal r.problem
-    → StandsBounded s r
-same_costs_stand s r same all bound alike =
-    rewritten_stand s r (all ∙ same.width) bound alike (same_costs_rewrite s.form (own_form r.problem) same)
+    → r.variables ≡ r.problem.variables → upper r.problem ≡ s.upper → r.problem.most ≡ None
+    → IsGlobal r.problem → StandsBounded s r
+same_costs_stand s r same all bound none alike =
+    rewritten_stand s r (all ∙ same.width) bound alike
+    (same_costs_rewrite s.form (problems.form_of r.problem) (without_most s r same none))
 
 pub relaxes_stood_for : RelaxesStoodFor
-relaxes_stood_for s r stands scope g d u n relaxes =
+relaxes_stood_for scope s r stands g d u n relaxes =
     rewritten_by scope s.form (problems.form_of r.problem) g d u n stands.rewrites relaxes
 
 -- a problem with the costs of a source costs what it does, where nothing is carried
 pub same_costs : (s : Source) (r : Read) → HasSameCosts (own_form r.problem) s.form
-    → r.variables ≡ r.problem.variables → r.soft ≡ None → CostsAs s r
-same_costs s r same all none = grind (arith, nat_tests, take_all)
+    → r.variables ≡ r.problem.variables → r.soft ≡ None → r.problem.most ≡ None → CostsAs None s r
+same_costs s r same all none unbounded = grind (arith, nat_tests, take_all)
 
 -- the assignment of zeros has as many bits as the source, and is carried to itself
 pub plain_owns_all : PlainOwnsAll
-plain_owns_all s r costs none = grind (arith, nat_tests, length-replicate s.form.bits false)
+plain_owns_all most s r costs none = grind (arith, nat_tests, length-replicate s.form.bits false)
+
+pub stays_stood_for : StaysStoodFor
+stays_stood_for most s r costs none g d u n wide stays =
+    let all = plain_owns_all most s r costs none in
+    record {
+      bound = λ y w v whole. stays.bound y w v (grind (arith, nat_tests, take_all));
+    }
 
 -- ---- words that say something, which is read into a problem
 
@@ -42,14 +60,14 @@ module _ {S : Type 0} (form : S → Form) (kept : S → Read) where
   -- what is said is read into a problem that stands for its source, and costs what it does
   pub record AreRead : Type 0 where
     pub stands : (s : S) → StandsBounded (source_by s) (kept s)
-    pub costs : (s : S) → CostsAs (source_by s) (kept s)
+    pub costs : (s : S) → CostsAs None (source_by s) (kept s)
 
   pub read_alike : ((s : S) → HasSameCosts (own_form (kept s).problem) (form s))
       → ((s : S) → ((kept s).variables ≡ (kept s).problem.variables) × ((kept s).soft ≡ None)
-      × (own_upper (kept s).problem ≡ upper (kept s).problem) × IsGlobal (kept s).problem) → AreRead
+      × ((kept s).problem.most ≡ None) × IsGlobal (kept s).problem) → AreRead
   read_alike same all = record {
-    stands = λ s. same_costs_stand _ (kept s) (same s) (all s).0 (all s).2 (all s).3;
-    costs = λ s. same_costs _ (kept s) (same s) (all s).0 (all s).1;
+    stands = λ s. same_costs_stand _ (kept s) (same s) (all s).0 refl (all s).2 (all s).3;
+    costs = λ s. same_costs _ (kept s) (same s) (all s).0 (all s).1 (all s).2;
   }
 
   pub read_stands : (said : Result S TextFault) (r : Read) → AreRead
@@ -64,7 +82,7 @@ module _ {S : Type 0} (form : S → Form) (kept : S → Read) where
   pub read_costs : (said : Result S TextFault) (r : Read) (t : Source) → AreRead
       → (said >>= λ s. Ok (kept s)) ≡ Ok r
       → ((said >>= λ s. Ok (form s)) >>= λ f. (said >>= λ s. Ok (kept s))
-      >>= λ r. Ok (record { form = f; upper = upper r.problem })) ≡ Ok t → CostsAs t r
+      >>= λ r. Ok (record { form = f; upper = upper r.problem })) ≡ Ok t → CostsAs None t r
   read_costs said r t h e says = grind (arith, nat_tests)
 
 -- what is read is kept as something else

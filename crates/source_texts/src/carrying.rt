@@ -4,7 +4,7 @@ ghost use Rattle.base.specs.Costs.{IsOf};
 ghost use Rattle.problem_form.specs.Problems.{own_cost};
 ghost use Rattle.wbo_reader.specs.Wbo.{form_of as soft_form};
 ghost use Rattle.wbo_reader.specs.Rewriting.{extended, rewritten};
-ghost use Rattle.source_texts.specs.Sources.{carried, KeepsSoft};
+ghost use Rattle.source_texts.specs.Sources.{carried, said_cost, KeepsSoft};
 
 use crate::reading::Read;
 use base::{Cost, Costed, NoMemory};
@@ -36,13 +36,12 @@ fn soft_cost(wbo: &Wbo, x: &[bool]) -> Cost
     wbo.cost(x)
 }
 
-/// What an assignment of the source costs, which is what the one of the problem costs that stands
-/// for it, whatever the most is that it may cost. It takes no memory.
+/// What an assignment of the source costs, whatever the most is that it may cost. It takes no memory.
 pub fn cost_of(read: &Read, x: &[bool]) -> Cost
     requires kept { KeepsSoft read.now }
     requires width { length x.now ≡ read.now.variables }
     requires narrow { length x.now < 2 ^ 32 }
-    ensures { result ≡ own_cost read.now.problem (carried read.now.soft x.now) }
+    ensures { result ≡ said_cost read.now x.now }
 {
     match &read.soft {
         Some(wbo) => soft_cost(wbo, x),

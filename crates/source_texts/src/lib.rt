@@ -10,7 +10,7 @@ mod reading;
 
 pub use carrying::{carried, cost_of};
 pub use laws::{
-    clearing_keeps_sources, problems_cost_as_sources, problems_stand_for_sources,
-    words_are_read_as_texts,
+    penalties_keep_sources, problems_cost_as_sources, problems_stand_for_sources,
+    slack_keeps_sources, words_are_read_as_texts,
 };
 pub use reading::{Read, read_source, read_source_words, style_of};

@@ -1,23 +1,30 @@
 //! The reading of a text in a format.
-ghost use Rattle.std.specs.Prelude.{◌≡◌, ◌<◌, ◌≤◌, ◌^◌, length, unsigned_abs, Ok, Err, IfOk, IfSome, MatchResult};
+ghost use Rattle.std.specs.Prelude.{◌≡◌, ◌<◌, ◌≤◌, ◌^◌, length, unsigned_abs, Ok, Err, IfOk, IfSome, OnOk, MatchResult};
+ghost use Rattle.local_penalties.specs.Kept.{IsWithinLimits};
 ghost use Rattle.whole_text.specs.Steps.{Gives};
 ghost use Rattle.whole_text.specs.TokenTexts.{words_of};
+ghost use Rattle.wbo_reader.specs.Rewriting.{lesser_most};
 ghost use Rattle.source_texts.specs.Sources.{
+  AreEnoughIn,
   bounded_read,
-  cleared_read,
   eased,
   KeepsSoft,
   named,
   own,
+  penalized,
   problem_of,
   problem_of_words,
+  slacked,
   style_of,
+  with_slack,
 };
 
 use base::NoMemory;
-use command_words::Format;
-use conflict_clauses::without_conflicts;
+use command_words::{Format, Slack};
+use conflict_clauses::{without_conflicts, without_covers};
+use form_steps::PenaltyScope;
 use ising_file::read_ising_tokens;
+use local_penalties::local_penalties;
 use opb_reader::read_opb_tokens;
 use poly_reader::{Names, Polynomial, read_poly_tokens};
 use problem_form::Problem;
@@ -62,19 +69,20 @@ impl Read {
         problem
     }
 
-    /// Gives the problem the most that an assignment may cost.
+    /// Gives the problem the most that an assignment may cost, where it has no lesser one.
     pub fn cut_off(&mut self, most: Option<i128>)
         requires { IfSome most (λ n. unsigned_abs n < 2 ^ 64) }
         ensures value { self.new ≡ bounded_read most self.old }
         ensures kept { KeepsSoft self.old → KeepsSoft self.new }
     {
+        let most = lesser_most(most, self.problem.most);
         self.problem.cut_off(most);
     }
 
-    /// The same with clauses in place of the conflicts of the problem, which costs what it did. The
+    /// The same where the constraints of the problem get their slack so, which costs what it did. The
     /// soft constraints are kept beside it.
-    pub fn without_conflicts(self, alloc: Global) -> Result<Read, NoMemory>
-        ensures value { IfOk result (λ read. read ≡ cleared_read self) }
+    pub fn slacked(self, alloc: Global, slack: Slack) -> Result<Read, NoMemory>
+        ensures value { IfOk result (λ read. read ≡ slacked slack self) }
         ensures kept { KeepsSoft self → IfOk result KeepsSoft }
     {
         let Read {
@@ -83,13 +91,52 @@ impl Read {
             names,
             soft,
         } = self;
-        let problem = without_conflicts(alloc, problem)?;
+        let problem = with_slack(alloc, slack, problem)?;
         Ok(Read {
             problem,
             variables,
             names,
             soft,
         })
+    }
+
+    /// Gives the hard parts of the problem the penalties of a scope, which are enough.
+    pub fn penalize(&mut self, alloc: Global, scope: PenaltyScope) -> Result<(), NoMemory>
+        requires { IsWithinLimits self.old.problem }
+        ensures value { OnOk result (self.new ≡ penalized scope self.old) }
+        ensures kept { KeepsSoft self.old → KeepsSoft self.new }
+        ensures enough { OnOk result (AreEnoughIn scope self.new) }
+    {
+        match scope {
+            PenaltyScope::Global => {}
+            PenaltyScope::Local => {
+                let penalties = local_penalties(alloc, &self.problem)?;
+                self.problem.set_penalties(penalties);
+            }
+        }
+        Ok(())
+    }
+}
+
+/// A problem whose constraints get their slack so: from bits alone, or with clauses in place of
+/// conflicts, or of conflicts and covers.
+fn with_slack(alloc: Global, slack: Slack, problem: Problem) -> Result<Problem, NoMemory>
+    ensures { IfOk result (λ given. given ≡ with_slack slack problem) }
+{
+    match slack {
+        Slack::Bits => Ok(problem),
+        Slack::Pairs => without_conflicts(alloc, problem),
+        Slack::Clauses => without_covers(alloc, problem),
+    }
+}
+
+/// The lesser of two bounds, where they are given.
+fn lesser_most(most: Option<i128>, own: Option<i128>) -> Option<i128>
+    ensures { result ≡ lesser_most most own }
+{
+    match (most, own) {
+        (Some(most), Some(own)) => Some(if most < own { most } else { own }),
+        (None, most) | (most, None) => most,
     }
 }
 
@@ -135,11 +182,17 @@ fn named(polynomial: Result<Polynomial, TextAnswer>) -> Result<Read, TextAnswer>
     })
 }
 
-/// The problem that soft constraints are rewritten to, and these.
-fn eased(alloc: Global, wbo: Wbo) -> Result<Read, NoMemory>
-    ensures { IfOk result (λ read. read ≡ eased wbo) }
+/// The problem that soft constraints are rewritten to, and these. The top is a bound where clauses
+/// take the place of constraints.
+fn eased(alloc: Global, slack: Slack, wbo: Wbo) -> Result<Read, NoMemory>
+    ensures read { IfOk result (λ read. read ≡ eased slack wbo) }
+    ensures within { IfOk result (λ read. read.variables ≤ read.problem.variables) }
+    ensures kept { IfOk result KeepsSoft }
 {
-    let problem = wbo.rewrite(alloc)?;
+    let problem = match slack {
+        Slack::Bits | Slack::Pairs => wbo.rewrite(alloc)?,
+        Slack::Clauses => wbo.rewrite_within(alloc)?,
+    };
     Ok(Read {
         problem,
         variables: wbo.variables,
@@ -148,33 +201,47 @@ fn eased(alloc: Global, wbo: Wbo) -> Result<Read, NoMemory>
     })
 }
 
-/// The problem of a text that was cut into words, in normal form, or the first fault of the text.
+/// The problem of a text that was cut into words, in normal form, or the first fault of the text. How
+/// constraints get their slack says how soft ones are rewritten.
 pub fn read_source_words(
     alloc: Global,
+    slack: Slack,
     format: Format,
     text: &TokenText,
 ) -> Result<Read, TextAnswer>
     requires { length text.now.bytes ≤ 2 ^ 24 }
-    ensures read { Gives (λ read. read) result (problem_of_words format (words_of text.now)) }
+    ensures read { Gives (λ read. read) result
+        (problem_of_words slack format (words_of text.now)) }
     ensures own { IfOk result (λ read. read.variables ≤ read.problem.variables) }
     ensures kept { IfOk result KeepsSoft }
 {
     match format {
         Format::Wcnf => own(read_wcnf_tokens(alloc, text)),
         Format::Opb => own(read_opb_tokens(alloc, text)),
-        Format::Wbo => Ok(eased(alloc, read_wbo_tokens(alloc, text)?)?),
+        Format::Wbo => Ok(eased(alloc, slack, read_wbo_tokens(alloc, text)?)?),
         Format::Poly => named(read_poly_tokens(alloc, text)),
         Format::Ising => own(read_ising_tokens(alloc, text)),
         Format::Qubo => own(read_qubo_tokens(alloc, text)),
     }
 }
 
-/// The problem of a text, in normal form, or the first fault of the text.
-pub fn read_source(alloc: Global, format: Format, text: &[u8]) -> Result<Read, TextAnswer>
+/// The problem of a text, in normal form, or the first fault of the text. How constraints get their
+/// slack says how soft ones are rewritten.
+pub fn read_source(
+    alloc: Global,
+    slack: Slack,
+    format: Format,
+    text: &[u8],
+) -> Result<Read, TextAnswer>
     requires { length text.now ≤ 2 ^ 24 }
-    ensures read { Gives (λ read. read) result (problem_of format text.now) }
+    ensures read { Gives (λ read. read) result (problem_of slack format text.now) }
     ensures own { IfOk result (λ read. read.variables ≤ read.problem.variables) }
     ensures kept { IfOk result KeepsSoft }
 {
-    read_source_words(alloc, format, &cut_words(alloc, text, style_of(format))?)
+    read_source_words(
+        alloc,
+        slack,
+        format,
+        &cut_words(alloc, text, style_of(format))?,
+    )
 }
