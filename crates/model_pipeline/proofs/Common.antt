@@ -37,7 +37,7 @@ pub use Rattle.ising_form.proofs.Images.{image_is_ising, total-image}
 pub use Rattle.model_pipeline.specs.declared.site.Site.{Site}
 pub use Rattle.bits_model.specs.declared.output.Graph.{Graph}
 pub use Rattle.bits_model.specs.Output.{qubits_of}
-pub use Rattle.model_pipeline.specs.Sites.{chains_of, fabric_in, graph_in, in_numbers, CanStandBy, clique_in, places_in, whole_fabric, CanStandAt, IsFaultBy}
+pub use Rattle.model_pipeline.specs.Sites.{chains_of, fabric_in, graph_in, in_numbers, CanStandBy, clique_in, places_in, whole_fabric, listed_fabric, CanStandAt, IsFaultBy}
 pub use Rattle.model_pipeline.specs.QubitStanding.{AreSmall, IsQubitModelOf, HasChainRoom, StandsForWhat, LeastStandBy, StandsBy, StaysForWhat, StaysBy}
 pub use Rattle.model_pipeline.specs.GraphModels.{ising_of, site_chains, IsGraphModelOf, IsFormAt, IsOnQubits}
 pub use Rattle.problem_form.specs.declared.limits.Normal.{Normal}
@@ -77,3 +77,4 @@ pub use Rattle.chain_layer.specs.declared.link.ChainLink.{ChainLink}
 pub use Rattle.command_words.specs.declared.commands.ChainStrength.TheVariants.{Choi, Cut}
 pub use Rattle.command_words.specs.declared.commands.ChainStrength.{ChainStrength}
 pub use Rattle.command_words.specs.declared.commands.NodeModel.{NodeModel}
+pub use Rattle.part_lists.specs.declared.parts.Part.{Part}

@@ -1,10 +1,11 @@
 -- What is known of the qubits that there are, and of chains that can stand on them.
-use Rattle.model_pipeline.proofs.Common.{◌≡◌, ◌≤◌, ◌<◌, ℕ, ◌^◌, true, List, length, All, refl, arith, nat_tests, IsingContent, IsIsing, Chimera, Graph, HasNumbers, qubits_of, place_of, are_joined-comm, clique_valid, IsValidOn, joined_in-comm, working_clique_valid, Qubits, ChainSource, chains_of, clique_in, fabric_in, graph_in, in_numbers, places_in, CanStandAt, inr, ℤ, ◌*ℤ◌, ap, sym, subst, ◌∙◌, IfOk, Result, ints, Figures, UnitChoice, Written, scale_of, Choices, ProblemContent, form_of, upper, figures, QuadContent, IsQuad, coupled, length-fields, image_is_ising, total-image, ChainStrength, Fabric, Site, CanStandBy, AreSmall, IsQubitModelOf, ising_figures, IsQuadratized, IsIsingOf, ising_of, site_chains, IsGraphModelOf, IsFormAt, IsOnQubits, IsMadeOf}
+use Rattle.model_pipeline.proofs.Common.{◌≡◌, ◌≤◌, ◌<◌, ℕ, ◌^◌, true, List, [], length, All, refl, arith, nat_tests, IsingContent, IsIsing, Chimera, Graph, HasNumbers, qubits_of, place_of, are_joined-comm, clique_valid, IsValidOn, joined_in-comm, working_clique_valid, Qubits, ChainSource, chains_of, clique_in, fabric_in, graph_in, in_numbers, places_in, listed_fabric, Part, CanStandAt, inr, ℤ, ◌*ℤ◌, ap, sym, subst, ◌∙◌, IfOk, Result, ints, Figures, UnitChoice, Written, scale_of, Choices, ProblemContent, form_of, upper, figures, QuadContent, IsQuad, coupled, length-fields, image_is_ising, total-image, ChainStrength, Fabric, Site, CanStandBy, AreSmall, IsQubitModelOf, ising_figures, IsQuadratized, IsIsingOf, ising_of, site_chains, IsGraphModelOf, IsFormAt, IsOnQubits, IsMadeOf}
 use Rattle.model_pipeline.specs.declared.site.ChainSource.TheVariants.{Clique, Map}
 use Rattle.ising_form.proofs.Images.{size-image}
 use Rattle.model_pipeline.proofs.Standing.{ising_figures_are_stated, spins_stand}
 use Rattle.model_pipeline.specs.declared.site.Qubits.TheVariants as which
 use Rattle.ising_form.specs.Spins as spins
+use Rattle.listed_graph.specs.laws.ListedJoins as listed_joins
 
 -- ---- the qubits
 
@@ -15,22 +16,35 @@ sized_in qubits = grind (arith, nat_tests)
 chimera_numbers : (graph : Chimera) → HasNumbers (in_numbers graph)
 chimera_numbers graph = grind (arith, nat_tests)
 
-pub numbers_in : (qubits : Qubits) → HasNumbers (graph_in qubits)
-numbers_in (which.All graph) = chimera_numbers graph
-numbers_in (which.Working w) = chimera_numbers w.graph
+pub numbers_in : (qubits : Qubits) → (fabric_in qubits).qubits ≤ 2 ^ 20 → HasNumbers (graph_in qubits)
+numbers_in (which.All graph) few = chimera_numbers graph
+numbers_in (which.Working w) few = chimera_numbers w.graph
+numbers_in (which.Listed parts) few = omega (arith, few)
 
 pub joined_both_ways : (qubits : Qubits) (a b : ℕ)
     → (fabric_in qubits).joined a b ≡ (fabric_in qubits).joined b a
 joined_both_ways (which.All graph) a b = are_joined-comm (place_of graph a) (place_of graph b)
 joined_both_ways (which.Working w) a b = joined_in-comm w a b
-
-pub few_in : (qubits : Qubits) → (fabric_in qubits).qubits ≤ 2 ^ 20
-few_in qubits = grind (arith, nat_tests)
+joined_both_ways (which.Listed parts) a b = listed_joins.joined_in-comm parts a b
 
 pub below_in : (qubits : Qubits) (q : ℕ) → (fabric_in qubits).exists q ≡ true → q < (fabric_in qubits).qubits
-below_in qubits q h = grind (arith, nat_tests)
+below_in (which.All graph) q h = grind (arith, nat_tests)
+below_in (which.Working w) q h = grind (arith, nat_tests)
+below_in (which.Listed parts) q h = listed_joins.exists_in-below parts q h
 
 -- ---- chains that can stand
+
+-- without nodes no chains are a valid map
+pub no_nodes_valid : (parts : List Part) (f : IsingContent) → IsIsing f → length f.fields ≤ 0
+    → IsValidOn (listed_fabric parts) f []
+no_nodes_valid parts f ising none = record {
+  counted = omega (arith, none);
+  filled = λ k d low. absurd (omega (arith, low));
+  within = λ k d low. absurd (omega (arith, low));
+  once = λ q. omega arith;
+  connected = λ k d low. absurd (omega (arith, low));
+  coupled = λ k d low. absurd (omega (arith, ising.couplings k d low, none));
+}
 
 -- where there are places for all nodes, a clique is a valid map
 pub clique_in_valid : (qubits : Qubits) (f : IsingContent) → IsIsing f
@@ -40,6 +54,7 @@ clique_in_valid (which.All graph) f ising fits =
     clique_valid graph (length f.fields) fits f ising refl
 clique_in_valid (which.Working w) f ising fits =
     working_clique_valid w (length f.fields) fits f ising refl
+clique_in_valid (which.Listed parts) f ising fits = no_nodes_valid parts f ising fits
 
 pub site_valid : (qubits : Qubits) (chain_source : ChainSource) (f : IsingContent) → IsIsing f
     → CanStandAt qubits chain_source f
@@ -113,6 +128,11 @@ module _ (p : ProblemContent) (own : ℕ) (choice : UnitChoice) (ties : ChainStr
 -- ---- a model at a site
 
 -- what is true of a result's value by two facts
+pub if_ok-both : {T E : Type 0} (r : Result T E) (P Q : T → Type 0) → IfOk r P → IfOk r Q
+    → IfOk r (λ y. P y × Q y)
+if_ok-both r P Q p q = grind (arith, nat_tests)
+
+-- and so are two
 pub if_ok-by_two : {T E : Type 0} (r : Result T E) {P Q R : T → Type 0} → IfOk r P → IfOk r Q
     → ((y : T) → P y → Q y → R y) → IfOk r R
 if_ok-by_two r p q f = grind (arith, nat_tests)
@@ -141,15 +161,16 @@ module _ (site : Site) (choices : Choices) (unit : UnitChoice) (own : ℕ) (p : 
       }
 
   pub made_at_site : (m : Written) → IsIsing (ising_of choices p) → own ≤ p.variables
-      → CanStandBy site (ising_of choices p)
+      → (fabric_in site.qubits).qubits ≤ 2 ^ 20 → CanStandBy site (ising_of choices p)
       → IsFormAt site unit (ising_of choices p) own (ising_figures (figures p)) m
       → IsMadeOf site.ties own choices p m
-  made_at_site m ising few can by = (
+  made_at_site m ising few room can by = (
     few,
     inr (
       unit,
       site.qubits,
       site_chains site choices p,
+      room,
       site_valid site.qubits site.chain_source (ising_of choices p) ising can,
       by,
     ),

@@ -1,6 +1,6 @@
 -- Where chains stand: the qubits that there are, the chains on them, and whether a form has a place
 -- there.
-use Rattle.std.specs.Prelude.{◌≡◌, ℕ, ◌<◌, ◌≤◌, List, length, nat_lt}
+use Rattle.std.specs.Prelude.{◌≡◌, ℕ, ◌<◌, ◌≤◌, List, [], length, nat_lt}
 use Rattle.bits_model.specs.declared.output.Graph.{Graph}
 use Rattle.bits_model.specs.declared.output.Graph.TheVariants as graphs
 use Rattle.ising_form.specs.Isings.{IsingContent}
@@ -14,6 +14,9 @@ use Rattle.hardware.specs.Fabrics.{Fabric}
 use Rattle.embedding_check.specs.Fabrics.{IsValidOn, IsFaultOn}
 use Rattle.working_graph.specs.Places.{taken_places, working_clique}
 use Rattle.working_graph.specs.Working.{fabric_of}
+use Rattle.part_lists.specs.declared.parts.Part.{Part}
+use Rattle.listed_graph.specs.Parts.{exists_in, joined_in}
+use Rattle.listed_graph.specs.Parts as listed
 use Rattle.model_pipeline.specs.declared.site.Qubits.{Qubits}
 use Rattle.model_pipeline.specs.declared.site.Qubits.TheVariants as which
 use Rattle.model_pipeline.specs.declared.site.ChainSource.{ChainSource}
@@ -30,6 +33,14 @@ whole_fabric graph = record {
   joined = λ a b. are_joined (place_of graph a) (place_of graph b);
 }
 
+-- the qubits that parts name, and the joins that they are
+abbrev pub listed_fabric : List Part → Fabric
+listed_fabric parts = record {
+  qubits = listed.qubits_of parts;
+  exists = exists_in parts;
+  joined = joined_in parts;
+}
+
 -- a Chimera graph, in the numbers that a model has of it
 abbrev pub in_numbers : Chimera → Graph
 in_numbers graph = graphs.Chimera graph.rows graph.cols graph.shore
@@ -38,16 +49,19 @@ in_numbers graph = graphs.Chimera graph.rows graph.cols graph.shore
 abbrev pub graph_in : Qubits → Graph
 graph_in (which.All graph) = in_numbers graph
 graph_in (which.Working w) = in_numbers w.graph
+graph_in (which.Listed parts) = graphs.Listed (listed.qubits_of parts)
 
 -- which qubits there are, and which two of them are joined
 abbrev pub fabric_in : Qubits → Fabric
 fabric_in (which.All graph) = whole_fabric graph
 fabric_in (which.Working w) = fabric_of w
+fabric_in (which.Listed parts) = listed_fabric parts
 
--- how many nodes of a clique have a place on them
+-- how many nodes of a clique have a place on them; no clique stands on a graph that is given as a list
 abbrev pub places_in : Qubits → ℕ
 places_in (which.All graph) = clique_places graph
 places_in (which.Working w) = length (taken_places w)
+places_in (which.Listed parts) = 0
 
 -- ---- the chains
 
@@ -55,6 +69,7 @@ places_in (which.Working w) = length (taken_places w)
 abbrev pub clique_in : Qubits → ℕ → List (List ℕ)
 clique_in (which.All graph) nodes = clique_of graph nodes
 clique_in (which.Working w) nodes = working_clique w nodes
+clique_in (which.Listed parts) nodes = []
 
 -- the chains of so many nodes: those of the clique, or of the map
 abbrev pub chains_of : Qubits → ChainSource → ℕ → List (List ℕ)

@@ -1,8 +1,9 @@
 //! The embedding of an Ising form on the qubits that there are, on chains of a clique or of a map.
 //!
-//! On all qubits of a graph the places of a clique are known at once. Where some do not work, the
-//! chains of a clique are checked as those of a map are.
-ghost use Rattle.std.specs.Prelude.{◌≡◌, ◌≤◌, ◌<◌, length, IfOk, IfErr};
+//! On all qubits of a Chimera graph the places of a clique are known at once. Where some do not work,
+//! the chains of a clique are checked as those of a map are. A graph that is given as a list has no
+//! places for a clique.
+ghost use Rattle.std.specs.Prelude.{◌≡◌, ◌≤◌, ◌<◌, [], length, IfOk, IfErr};
 ghost use Rattle.chain_map.specs.Faults.{IfFault};
 ghost use Rattle.embedding_check.specs.Checked.{IsChecked};
 ghost use Rattle.embedding_check.specs.Fabrics.{IsValidOn, IsFaultOn};
@@ -17,8 +18,8 @@ ghost use Rattle.model_pipeline.specs.Sites.{
   IsFaultAt,
 };
 
-use crate::site::{ChainSource, Qubits};
-use chain_map::{ChainMap, CheckAnswer};
+use crate::site::{ChainSource, GivenGraph, Qubits};
+use chain_map::{ChainMap, CheckAnswer, EmbedFault};
 use embedding_check::{Embedded, check};
 use ising_form::Ising;
 use std::alloc::Global;
@@ -37,6 +38,23 @@ fn clique_on_working(alloc: Global, working: &Working, form: Ising) -> Result<Em
     check(alloc, working, form, &map)
 }
 
+/// An Ising form on the chains of a clique, of the qubits of a graph that is given as a list: there
+/// is no place for any node.
+fn clique_on_given(alloc: Global, given: &GivenGraph, form: Ising) -> Result<Embedded, CheckAnswer>
+    ensures checked { IfOk result (IsChecked (fabric_in (Qubits.Listed given.now)).joined
+        (fabric_in (Qubits.Listed given.now)).qubits form []) }
+    ensures fits { IfOk result (λ _. length form.fields ≤ 0) }
+    ensures refused { IfErr result (λ e. IfFault e
+        (IsFaultAt (Qubits.Listed given.now) ChainSource.Clique form)) }
+{
+    let nodes = form.fields.as_slice().len();
+    if nodes > 0 {
+        return Err(CheckAnswer::Fault(EmbedFault::TooManyNodes(nodes, 0)));
+    }
+    let no_chains = ChainMap::new(alloc);
+    check(alloc, &given.listed, form, &no_chains)
+}
+
 /// An Ising form on the chains of a clique. It is refused exactly where there are more nodes than
 /// places.
 fn on_clique(alloc: Global, qubits: &Qubits, form: Ising) -> Result<Embedded, CheckAnswer>
@@ -49,6 +67,7 @@ fn on_clique(alloc: Global, qubits: &Qubits, form: Ising) -> Result<Embedded, Ch
     match qubits {
         Qubits::All(graph) => clique_embedded(alloc, graph, form),
         Qubits::Working(working) => clique_on_working(alloc, working, form),
+        Qubits::Listed(given) => clique_on_given(alloc, given, form),
     }
 }
 
@@ -69,6 +88,7 @@ fn on_map(
     match qubits {
         Qubits::All(graph) => check(alloc, graph, form, map),
         Qubits::Working(working) => check(alloc, working, form, map),
+        Qubits::Listed(given) => check(alloc, &given.listed, form, map),
     }
 }
 

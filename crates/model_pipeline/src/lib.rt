@@ -1,7 +1,8 @@
 //! From a problem to its model: the steps that a command chooses, one after another.
 //!
-//! On the qubits of a graph, or on those of it that work, the model stands on the chains of a map,
-//! or on those of a clique, and each chain is tied.
+//! On the qubits of a Chimera graph, or on those of it that work, the model stands on the chains of a
+//! map, or on those of a clique; on a graph that is given as a list, on those of a map. Each chain is
+//! tied.
 #![tactic(auto)]
 
 mod chained;
@@ -33,6 +34,6 @@ pub use promise::{
     standing_is_faithful,
 };
 pub use scaled::Scaled;
-pub use site::{ChainSource, Qubits, Site};
+pub use site::{ChainSource, GivenGraph, Qubits, Site};
 pub use size_laws::laws_of_sizes;
 pub use states::extended_state;

@@ -4,6 +4,7 @@ ghost use Rattle.problem_form.specs.Limits.{limit_fault};
 ghost use Rattle.ising_form.specs.Isings.{ising_size, ising_total};
 ghost use Rattle.chain_map.specs.Faults.{IfFault};
 ghost use Rattle.model_pipeline.specs.Sites.{
+  fabric_in,
   graph_in,
   CanStandBy,
   IsFaultBy,
@@ -45,6 +46,7 @@ pub fn form_on_qubits(
     ensures stands { IfOk result (StandsForForm site.now unit form own figures) }
 
     ensures can_stand { IfOk result (λ _. CanStandBy site.now form) }
+    ensures few { IfOk result (λ _. (fabric_in site.now.qubits).qubits ≤ 2 ^ 20) }
     ensures fault { IfErr result (λ e. IfFault e (IsFaultBy site.now form)) }
     ensures refused { IfErr result (λ e. IfFault e (λ _. CanStandBy site.now form → ⊥)) }
 {

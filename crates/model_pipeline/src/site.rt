@@ -6,13 +6,42 @@ use bits_model::Graph;
 use chain_map::ChainMap;
 use chimera_graph::Chimera;
 use command_words::ChainStrength;
+use hardware::Hardware;
+use listed_graph::Listed;
+use std::marker::Model;
 use working_graph::Working;
 
-/// The qubits that chains may stand on: all those of a graph, or those of it that work.
+/// A graph that a text lists, which contracts see as the parts that are listed.
+#[derive(Drop)]
+pub struct GivenGraph {
+    pub(crate) listed: Listed,
+}
+
+impl Model for GivenGraph {
+    ghost use Rattle.std.specs.Prelude.{List};
+    ghost use Rattle.part_lists.specs.declared.parts.Part.{Part};
+
+    ghost Value = { List Part };
+
+    ghost view = { λ given. given.listed.parts.items };
+}
+
+impl GivenGraph {
+    /// The graph that was read of a text.
+    pub fn of(listed: Listed) -> GivenGraph
+        ensures { result ≡ listed.parts.items }
+    {
+        GivenGraph { listed }
+    }
+}
+
+/// The qubits that chains may stand on: all those of a Chimera graph, those of it that work, or
+/// those of a graph that is given as a list.
 #[derive(Drop)]
 pub enum Qubits {
     All(Chimera),
     Working(Working),
+    Listed(GivenGraph),
 }
 
 /// Where chains come from: they are those of a clique, or of a map.
@@ -48,5 +77,8 @@ pub(crate) fn graph_in(qubits: &Qubits) -> Graph
     match qubits {
         Qubits::All(graph) => in_numbers(*graph),
         Qubits::Working(working) => in_numbers(working.graph()),
+        Qubits::Listed(given) => Graph::Listed {
+            qubits: given.listed.qubits(),
+        },
     }
 }

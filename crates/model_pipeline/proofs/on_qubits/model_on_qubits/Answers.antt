@@ -1,5 +1,5 @@
 use Rattle.model_pipeline.proofs.Common.{arith, subst, IfOk, IfErr, IsIsing, IfFault, CanStandBy, IsFaultBy}
-use Rattle.model_pipeline.proofs.GraphModels.{form_at_site, if_ok-by_two, made_at_site}
+use Rattle.model_pipeline.proofs.GraphModels.{form_at_site, if_ok-both, if_ok-by_two, made_at_site}
 use Rattle.model_pipeline.proofs.LeastStates.{if_ok-always}
 use Rattle.model_pipeline.proofs.on_qubits.model_on_qubits.Goals as goal
 
@@ -28,9 +28,9 @@ returns g c =
     record {
       model = model;
       can_stand = can_stand;
-      made = if_ok-by_two r can_stand model
+      made = if_ok-by_two r (if_ok-both r _ _ on.few can_stand) model
           (λ m can on. made_at_site site c.args.choices.now c.args.unit c.args.variables p m
-          (subst IsIsing made.image made.stands.kept) c.requires.own can on.by);
+          (subst IsIsing made.image made.stands.kept) c.requires.own can.0 can.1 on.by);
       kept = if_ok-always r (λ _. c.in_ok-made.ensures.kept);
       fault = subst (λ f. IfErr r (λ e. IfFault e (IsFaultBy site f))) made.image on.fault;
       refused = subst (λ f. IfErr r (λ e. IfFault e (λ _. CanStandBy site f → ⊥))) made.image on.refused;
