@@ -14,15 +14,15 @@ pub use Rattle.edge_io.specs.Counts.{Counts, Rose}
 pub use Rattle.command_words.specs.declared.names.Which.{Which}
 pub use Rattle.command_words.specs.Names.{text_at, place_of, name_of, certificate_of, if_named, model_files, last_files}
 pub use Rattle.run_steps.specs.declared.status.Status.{Status}
-pub use Rattle.run_steps.specs.Steps.{asked_width, bits_at, Steps, ends, certifying, proof_end, ◌>>=◌, Last, Bits, gives, last_step, Meets, Refuses, go_on, taking, text_end, wanted, limited}
+pub use Rattle.run_steps.specs.Steps.{asked_width, bits_at, Steps, ends, certifying, proof_end, ◌>>=◌, Last, Bits, gives, last_step, Meets, Refuses, go_on, taking, text_end, prepared, limited}
 unfoldable pub use Rattle.run_steps.specs.Steps.{stating, certified, proving, checking, reading_source, sourcing, ordered, chains_step, placing, siting, surveying, planning}
 pub use Rattle.run_steps.specs.Statuses.{IsReading, IsRefusal, IsUnproved, ended, IsUsageOf, CountsReadFault}
 pub use Rattle.command_words.specs.declared.commands.Request.{Request}
-pub use Rattle.run_steps.specs.Causes.{AreRead, AreRefused, AreFilesOf, AreBegun, IsBegun, AreWanting, IsReadTo, IsCause, IsLimited, last_of, IsAt, IsRefusedBy, MayHold, board_files, state_files}
+pub use Rattle.run_steps.specs.Causes.{AreRead, AreRefused, AreFilesOf, AreBegun, IsBegun, AreWanting, IsReadTo, IsCause, IsLimited, last_of, IsAt, IsRefusedBy, MayHold, board_files, qubit_files, state_files}
 pub use Rattle.std.specs.Io.KnownBytes.{Consumes, IsAtEnd}
 pub use Rattle.std.proofs.lemmas.List.Elements.{Contains-append_left, Contains-append_right}
 pub use Rattle.whole_text.specs.declared.token.Style.{Style}
-pub use Rattle.source_texts.specs.Sources.{problem_of, problem_of_words, style_of, own}
+pub use Rattle.source_texts.specs.Sources.{penalized, problem_of, problem_of_words, style_of, own}
 pub use Rattle.run_steps.specs.Cut.{AreWordsOf, IsCut, HasEnded, IsSameBegin}
 unfoldable pub use Rattle.run_steps.specs.Cut.{cutting, reading_file, checking_file}
 pub use Rattle.edge_io.specs.declared.whole.ReadAnswer.{ReadAnswer}
@@ -35,6 +35,8 @@ pub use Rattle.state_file.specs.States.{is_one, is_state, lines_of, state_of}
 pub use Rattle.std.proofs.lemmas.Result.{IfErr-weaker, err_from_is_err_and, IfOk-weaker}
 pub use Rattle.run_steps.specs.Takes.{judged, Takes, TakesOne}
 pub use Rattle.command_words.specs.declared.commands.Format.{Format}
+pub use Rattle.command_words.specs.declared.commands.Slack.{Slack}
+pub use Rattle.form_steps.specs.declared.scope.PenaltyScope.{PenaltyScope}
 pub use Rattle.source_texts.specs.declared.reading.Read.{Read}
 pub use Rattle.whole_text.specs.declared.faults.TextFault.{TextFault}
 pub use Rattle.whole_text.specs.declared.faults.TextAnswer.{TextAnswer}
@@ -55,3 +57,5 @@ pub use Rattle.run_steps.specs.declared.placements.Placement.{Placement}
 pub use Rattle.model_pipeline.specs.declared.site.Qubits.{Qubits}
 pub use Rattle.model_pipeline.specs.declared.site.ChainSource.{ChainSource}
 pub use Rattle.model_pipeline.specs.declared.site.Site.{Site}
+pub use Rattle.command_words.specs.Names.{map_in}
+unfoldable pub use Rattle.run_steps.specs.Steps.{working_step}

@@ -1,5 +1,5 @@
 -- A file that is cut into words as it comes.
-use Rattle.run_steps.proofs.Common.{nat_tests, ◌≡◌, ℕ, ◌+◌, ◌≤◌, List, [], ◌++◌, length, take, Some, None, Ok, Result, refl, sym, subst, append_assoc, arith, append-nil, length-append, length-take, take-append-le, Consumes, IsAtEnd, Option, NamedFiles, IsFront, WhereTold, find_file, Style, Word, tokens_of, LexerState, StandsFor, Which, Format, Read, problem_of_words, style_of, Status, Steps, cutting, ◌>>=◌, ends, gives, taking, text_end, Meets, Refuses, AreWordsOf, IsCut, reading_file, Source}
+use Rattle.run_steps.proofs.Common.{nat_tests, ◌≡◌, ℕ, ◌+◌, ◌≤◌, List, [], ◌++◌, length, take, Some, None, Ok, Result, refl, sym, subst, append_assoc, arith, append-nil, length-append, length-take, take-append-le, Consumes, IsAtEnd, Option, NamedFiles, IsFront, WhereTold, find_file, Style, Word, tokens_of, LexerState, StandsFor, Which, Format, Slack, Read, problem_of_words, style_of, Status, Steps, cutting, ◌>>=◌, ends, gives, taking, text_end, Meets, Refuses, AreWordsOf, IsCut, reading_file, Source}
 use Rattle.run_steps.proofs.Stepping.{bound, meets_next}
 
 -- the front of a file, with the piece that was taken next
@@ -53,21 +53,21 @@ cut_next view result held which name style cut f e meets =
     meets_next view result (taking held which name) (λ bytes. f (tokens_of style bytes)) taken.0 taken.1
     (subst (λ ws. Meets view result (f ws)) (sym same) meets)
 
-read_once : (held : NamedFiles) (name : List ℕ) (format : Format) (style : Style)
+read_once : (held : NamedFiles) (name : List ℕ) (slack : Slack) (format : Format) (style : Style)
     (cut : List Word) (result : Result Read Status) → style ≡ style_of format
     → (cutting held Source name style).end ≡ Some (Ok cut)
-    → Meets (λ r. r) result (ends (text_end Source (problem_of_words format cut)))
-    → Meets (λ r. r) result (reading_file held name format)
+    → Meets (λ r. r) result (ends (text_end Source (problem_of_words slack format cut)))
+    → Meets (λ r. r) result (reading_file held name slack format)
 unfolding cutting reading_file
-read_once held name format style cut result its_own e meets = grind (arith, nat_tests)
+read_once held name slack format style cut result its_own e meets = grind (arith, nat_tests)
 
 -- what the words of a file are read into is what the file is read into
-pub read_from_words : (told : Option NamedFiles) (name : List ℕ) (format : Format) (style : Style)
+pub read_from_words : (told : Option NamedFiles) (name : List ℕ) (slack : Slack) (format : Format) (style : Style)
     (cut : List Word) (result : Result Read Status) → style ≡ style_of format
     → WhereTold told (λ held. (cutting held Source name style).end ≡ Some (Ok cut))
-    → Meets (λ r. r) result (ends (text_end Source (problem_of_words format cut)))
-    → WhereTold told (λ held. Meets (λ r. r) result (reading_file held name format))
-read_from_words told name format style cut result its_own e meets =
+    → Meets (λ r. r) result (ends (text_end Source (problem_of_words slack format cut)))
+    → WhereTold told (λ held. Meets (λ r. r) result (reading_file held name slack format))
+read_from_words told name slack format style cut result its_own e meets =
     grind (arith, nat_tests, read_once)
 
 -- a file that could not be taken is refused, whatever is made of its bytes
@@ -77,8 +77,8 @@ pub cut_refuses : {B : Type 0} (status : Status) (held : NamedFiles) (which : Wh
 unfolding cutting
 cut_refuses status held which name style g refused = grind (arith, nat_tests)
 
-pub read_refused : (told : Option NamedFiles) (name : List ℕ) (format : Format) (style : Style)
+pub read_refused : (told : Option NamedFiles) (name : List ℕ) (slack : Slack) (format : Format) (style : Style)
     (status : Status) → WhereTold told (λ held. Refuses status (cutting held Source name style))
-    → WhereTold told (λ held. Refuses status (reading_file held name format))
+    → WhereTold told (λ held. Refuses status (reading_file held name slack format))
 unfolding reading_file
-read_refused told name format style status refused = grind (arith, nat_tests, cut_refuses)
+read_refused told name slack format style status refused = grind (arith, nat_tests, cut_refuses)

@@ -1,33 +1,63 @@
 -- The text of a sample is read, and passes no limit.
-use Rattle.run_steps.proofs.Common.{nat_tests, arith, ◌≡◌, ℕ, ◌≤◌, Ok, Err, None, Result, ap, ◌∙◌, TextFault, ProblemContent, limit_fault, Command, wanted, Normal, sample_text, each_sample_is_read, Read, own, problem_of, IsDrawnInto, clauses_have_no_conflicts, wcnf_problem, Wcnf}
+use Rattle.run_steps.proofs.Common.{nat_tests, arith, ◌≡◌, ℕ, ◌≤◌, List, Ok, Err, None, Result, ap, sym, subst, ◌∙◌, TextFault, ProblemContent, limit_fault, Command, Slack, penalized, prepared, Normal, sample_text, each_sample_is_read, Read, own, problem_of, IsDrawnFor, IsDrawnInto, clauses_have_no_conflicts, wcnf_problem, Wcnf}
 use Rattle.whole_text.specs.Steps.{◌>>=◌}
+use Rattle.command_words.specs.declared.commands.Slack.TheVariants.{Bits}
 use Rattle.problem_form.specs.declared.limits.Normal.TheVariants.{Literal}
+use Rattle.command_words.specs.Bounds.{most_of}
+use Rattle.source_texts.specs.Sources.{bounded_read}
 use Rattle.run_steps.proofs.BoundedLimits.{within_bounded}
+
+-- a weighted CNF has no bound
+unbounded : (text : List ℕ) (r : Read) → problem_of Bits Wcnf text ≡ Ok r → r.problem.most ≡ None
+unbounded text r e = grind (arith, nat_tests)
 
 -- there is something that it is read into
 read_into : (number clauses : ℕ) (normal : Normal) → clauses ≤ 100000
     → (read : Read) × IsDrawnInto number clauses normal read
 read_into number clauses normal few =
     let law = each_sample_is_read number clauses normal few in
-    let from : problem_of Wcnf (sample_text number clauses) ≡ Ok (own law.0) =
-    wcnf_problem (sample_text number clauses)
+    let from : (slack : Slack) → problem_of slack Wcnf (sample_text number clauses) ≡ Ok (own law.0) =
+    λ slack. wcnf_problem slack (sample_text number clauses)
     ∙ ap (λ (r : Result ProblemContent TextFault). r >>= λ p. Ok (own p)) law.1 in
-    grind (arith, nat_tests, within_bounded)
+    let free = unbounded (sample_text number clauses) (own law.0) (from Bits) in (
+      own law.0,
+      record {
+        from = from;
+        within = λ most. within_bounded normal law.0 (bounded_read most (own law.0)).problem.most free law.2;
+      },
+    )
 
 pub drawn_is_read : (number clauses : ℕ) (read : Read) → clauses ≤ 100000
-    → problem_of Wcnf (sample_text number clauses) ≡ Ok read
+    → problem_of Bits Wcnf (sample_text number clauses) ≡ Ok read
     → (normal : Normal) → IsDrawnInto number clauses normal read
 drawn_is_read number clauses read few e normal =
-    grind (arith, nat_tests, read_into number clauses normal few)
+    let into = read_into number clauses normal few in
+    let same : into.0 ≡ read = let one = into.1.from Bits in cc in
+    subst (IsDrawnInto number clauses normal) same into.1
 
 pub drawn_has_no_fault : (number clauses : ℕ) (fault : TextFault) → clauses ≤ 100000
-    → problem_of Wcnf (sample_text number clauses) ≡ Err fault → ⊥
+    → problem_of Bits Wcnf (sample_text number clauses) ≡ Err fault → ⊥
 drawn_has_no_fault number clauses fault few e =
-    grind (arith, nat_tests, read_into number clauses Literal few)
+    let one = (read_into number clauses Literal few).1.from Bits in
+    grind (arith, nat_tests)
 
--- what a command wants of it passes no limit
+-- it passes no limit with the slack and the bound of a command
 pub drawn_within : (number clauses : ℕ) (command : Command) (read given : Read)
-    → IsDrawnInto number clauses command.choices.normal read → given ≡ wanted command read
+    → IsDrawnInto number clauses command.choices.normal read → given ≡ prepared command read
     → limit_fault command.choices.normal given.problem ≡ None
 drawn_within number clauses command read given drawn is =
-    grind (arith, nat_tests, clauses_have_no_conflicts)
+    let most = most_of command.bound in
+    let same = clauses_have_no_conflicts command.slack (sample_text number clauses) read
+    (drawn.from command.slack) in
+    subst (λ (r : Read). limit_fault command.choices.normal r.problem ≡ None)
+    (sym (is ∙ ap (bounded_read most) same)) (drawn.within most)
+
+-- with penalties too it is what a command wants of it
+pub drawn_for : (number clauses : ℕ) (command : Command) (own given made : Read)
+    → IsDrawnInto number clauses command.choices.normal own → given ≡ prepared command own
+    → made ≡ penalized command.penalty given → IsDrawnFor number clauses command made
+drawn_for number clauses command own given made drawn is penal = record {
+  own = own;
+  from = drawn.from command.slack;
+  given = penal ∙ ap (penalized command.penalty) is;
+}

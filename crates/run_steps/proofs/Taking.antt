@@ -1,5 +1,5 @@
 -- What functions do that take files, one after another.
-use Rattle.run_steps.proofs.Common.{nat_tests, arith, ◌≡◌, ℕ, List, [], ◌∷◌, ◌++◌, Ok, Err, Some, Result, refl, OnOk, IfErr, IsErrAnd, IfErr-weaker, err_from_is_err_and, Option, NamedFiles, Counts, Which, WordAt, Command, text_at, name_of, if_named, place_of, model_files, Status, Steps, ends, gives, text_end, ◌>>=◌, Meets, IsReading, IsRefusal, IsReadTo, IsRefusedBy, board_files, TextFault, TextAnswer, Gives, judged, Takes, TakesOne, Source}
+use Rattle.run_steps.proofs.Common.{nat_tests, arith, subst, ◌≡◌, ℕ, List, [], ◌∷◌, ◌++◌, Ok, Err, Some, Result, refl, OnOk, IfErr, IsErrAnd, IfErr-weaker, err_from_is_err_and, Option, NamedFiles, Counts, Which, WordAt, Command, text_at, name_of, if_named, place_of, model_files, Status, Steps, ends, gives, text_end, ◌>>=◌, Meets, IsReading, IsRefusal, IsReadTo, IsRefusedBy, board_files, TextFault, TextAnswer, Gives, judged, Takes, TakesOne, Source}
 use Rattle.run_steps.proofs.FilesRead.{read_then, refused_alone, refused_first, refused_then}
 use Rattle.run_steps.proofs.Holding.{may_first, may_next, of_model_files}
 use Rattle.run_steps.proofs.Stepping.{meets_next, next_end, refuses_on}
@@ -128,6 +128,11 @@ module _ {X A : Type 0} {told later : Option NamedFiles} {name : Which → List 
 
   pub refuses : Takes told later name files view result m a b → IfErr result IsRefusal
   refuses took = IfErr-weaker result _ _ reading_refuses (reads took)
+
+  -- the same files
+  pub takes_files : {others : List Which} → files ≡ others
+      → Takes told later name files view result m a b → Takes told later name others view result m a b
+  takes_files same took = subst (λ fs. Takes told later name fs view result m a b) same took
 
   -- other steps that are the same
   pub takes_same : {n : NamedFiles → Steps A} → ((held : NamedFiles) → m held ≡ n held)

@@ -7,7 +7,7 @@ use Rattle.edge_io.specs.Held.{NamedFiles}
 use Rattle.problem_form.specs.declared.limits.LimitKind.{LimitKind}
 use Rattle.problem_form.specs.declared.limits.LimitKind.TheVariants.{Bytes}
 use Rattle.command_words.specs.declared.names.Which.{Which}
-use Rattle.command_words.specs.declared.names.Which.TheVariants.{Certificate, Dead, Map, State}
+use Rattle.command_words.specs.declared.names.Which.TheVariants.{Certificate, Dead, Graph, Map, State}
 use Rattle.command_words.specs.declared.commands.Command.{Command}
 use Rattle.command_words.specs.declared.commands.WordAt.{WordAt}
 use Rattle.command_words.specs.Names.{name_of, if_named, text_at, model_files, last_files}
@@ -29,9 +29,14 @@ spelled_at words at = text_at (spelled words) at
 abbrev pub named_in : {A : Type 0} → List (String A) → Command → Which → List ℕ
 named_in words command = name_of (spelled words) command
 
--- the files that a command names for a graph: what of it is dead, and where chains stand
+-- the files that say which qubits there are: what they are and how they are joined, and what of a
+-- Chimera graph is dead
+abbrev pub qubit_files : Command → List Which
+qubit_files command = if_named command Graph ++ if_named command Dead
+
+-- the files that a command names for a graph: which qubits there are, and where chains stand
 abbrev pub board_files : Command → List Which
-board_files command = if_named command Dead ++ if_named command Map
+board_files command = qubit_files command ++ if_named command Map
 
 -- the files that a command takes once the model stands, but for an order: of a state or an assignment,
 -- and of a certificate

@@ -10,6 +10,7 @@ use Rattle.whole_text.specs.Lexing.{LexerState, StandsFor}
 use Rattle.command_words.specs.declared.names.Which.{Which}
 use Rattle.command_words.specs.declared.names.Which.TheVariants.{Source}
 use Rattle.command_words.specs.declared.commands.Format.{Format}
+use Rattle.command_words.specs.declared.commands.Slack.{Slack}
 use Rattle.command_words.specs.declared.commands.Command.{Command}
 use Rattle.source_texts.specs.declared.reading.Read.{Read}
 use Rattle.source_texts.specs.Sources.{problem_of}
@@ -53,13 +54,13 @@ cutting held which name style = do
   gives (tokens_of style bytes)
 
 -- taking a file of this name, and reading it in a format
-unfoldable pub reading_file : NamedFiles → List ℕ → Format → Steps Read
-reading_file held name format = do
+unfoldable pub reading_file : NamedFiles → List ℕ → Slack → Format → Steps Read
+reading_file held name slack format = do
   bytes ← taking held Source name
-  ends (text_end Source (problem_of format bytes))
+  ends (text_end Source (problem_of slack format bytes))
 
 -- the same, and then making it what a command wants, and checking its limits
 unfoldable pub checking_file : NamedFiles → List ℕ → Format → Command → Steps Read
 checking_file held name format command = do
-  read ← reading_file held name format
+  read ← reading_file held name command.slack format
   ends (limited command read)

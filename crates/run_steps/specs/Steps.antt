@@ -11,35 +11,35 @@ use Rattle.problem_form.specs.declared.limits.LimitFault.{LimitFault}
 use Rattle.problem_form.specs.declared.limits.LimitKind.TheVariants.{Bytes}
 use Rattle.problem_form.specs.Limits.{limit_fault, most_bytes}
 use Rattle.command_words.specs.declared.names.Which.{Which}
-use Rattle.command_words.specs.declared.names.Which.TheVariants.{Source, Dead, Map, State, Certificate, Order}
+use Rattle.command_words.specs.declared.names.Which.TheVariants.{Source, Graph, Dead, Map, State, Certificate, Order}
 use Rattle.command_words.specs.declared.commands.Format.{Format}
 use Rattle.command_words.specs.declared.commands.Format.TheVariants.{Wcnf}
 use Rattle.command_words.specs.declared.commands.Origin.{Origin}
 use Rattle.command_words.specs.declared.commands.Origin.TheVariants.{File, Drawn}
 use Rattle.command_words.specs.declared.commands.Board.{Board}
-use Rattle.command_words.specs.declared.commands.Chaining.{Chaining}
-use Rattle.command_words.specs.declared.commands.Chaining.TheVariants as chainings
+use Rattle.command_words.specs.declared.commands.Ground.{Ground}
+use Rattle.command_words.specs.declared.commands.Ground.TheVariants as grounds
 use Rattle.command_words.specs.declared.commands.Target.{Target}
 use Rattle.command_words.specs.declared.commands.Target.TheVariants as targets
 use Rattle.command_words.specs.declared.commands.Ask.{Ask}
 use Rattle.command_words.specs.declared.commands.Ask.TheVariants.{Model, Summary, Size, Solve, Decode, Evaluate, Extend, Prove}
 use Rattle.command_words.specs.declared.commands.Slack.{Slack}
-use Rattle.command_words.specs.declared.commands.Slack.TheVariants as slacks
 use Rattle.command_words.specs.declared.commands.WordAt.{WordAt}
 use Rattle.command_words.specs.declared.commands.Command.{Command}
 use Rattle.command_words.specs.Bounds.{most_of}
-use Rattle.command_words.specs.Names.{text_at}
+use Rattle.command_words.specs.Names.{map_in, text_at}
 use Rattle.sample_text.specs.Sample.{sample_text}
 use Rattle.chimera_graph.specs.declared.chimera.Chimera.{Chimera}
 use Rattle.chain_map.specs.Maps as maps
 use Rattle.working_graph.specs.Working.{WorkingGraph}
 use Rattle.working_graph.specs.DeadLists.{working_of}
+use Rattle.part_lists.specs.declared.parts.Part.{Part}
+use Rattle.listed_graph.specs.Complete.{listed_parts}
 use Rattle.source_texts.specs.declared.reading.Read.{Read}
-use Rattle.source_texts.specs.Sources.{bounded_read, cleared_read, problem_of}
+use Rattle.source_texts.specs.Sources.{bounded_read, penalized, problem_of, slacked}
 use Rattle.state_file.specs.States.{StateLine, state_of, states_of}
-use Rattle.basic_solve.specs.Widths.{width}
 use Rattle.elimination_order.specs.Orders.{order_of}
-use Rattle.elimination_order.specs.Widths.{first_wide}
+use Rattle.elimination_order.specs.Widths.{first_wide, from_last}
 use Rattle.posiform_check.specs.declared.faults.ProofFault.{ProofFault}
 use Rattle.posiform_check.specs.BitForms.{CertificateContent}
 use Rattle.posiform_check.specs.Certificates.{certificate_fault}
@@ -127,19 +127,18 @@ sourcing words held (File format at) = taking held Source (text_at words at)
 sourcing words held (Drawn number clauses) = gives (sample_text number clauses)
 
 -- and then reading it
-unfoldable pub reading_source : List (List ℕ) → NamedFiles → Origin → Steps Read
-reading_source words held origin = do
+unfoldable pub reading_source : List (List ℕ) → NamedFiles → Slack → Origin → Steps Read
+reading_source words held slack origin = do
   text ← sourcing words held origin
-  ends (text_end Source (problem_of (format_in origin) text))
+  ends (text_end Source (problem_of slack (format_in origin) text))
 
--- what is read, with clauses in place of its conflicts where they shall not need slack bits
-abbrev pub slacked : Slack → Read → Read
-slacked slacks.Bits read = read
-slacked slacks.Pairs read = cleared_read read
+-- what is read, where its constraints get their slack as a command says, and with the command's bound
+abbrev pub prepared : Command → Read → Read
+prepared command read = bounded_read (most_of command.bound) (slacked command.slack read)
 
--- what is read as a command wants it: with or without conflicts, and with the command's bound
+-- what is read as a command wants it: the same, with penalties in the command's scope
 abbrev pub wanted : Command → Read → Read
-wanted command read = bounded_read (most_of command.bound) (slacked command.slack read)
+wanted command read = penalized command.penalty (prepared command read)
 
 -- the same, within the limits
 abbrev pub limited : Command → Read → Result Read Status
@@ -150,7 +149,7 @@ limited command read =
 -- and then making it what the command wants, and checking its limits
 unfoldable pub checking : List (List ℕ) → NamedFiles → Command → Steps Read
 checking words held command = do
-  read ← reading_source words held command.origin
+  read ← reading_source words held command.slack command.origin
   ends (limited command read)
 
 -- what a dead list leaves of a graph, read from the file of this name
@@ -159,12 +158,26 @@ working held name graph = do
   bytes ← taking held Dead name
   ends (text_end Dead (working_of graph bytes))
 
--- the qubits that chains may stand on: all, or those that the dead list leaves that is named
-unfoldable pub surveying : List (List ℕ) → NamedFiles → Chimera → Option WordAt → Steps Qubits
-surveying words held graph None = gives (which.All graph)
-surveying words held graph (Some at) = do
+-- the qubits of a Chimera graph that chains may stand on: all, or those that the dead list leaves
+-- that is named
+unfoldable pub working_step : List (List ℕ) → NamedFiles → Chimera → Option WordAt → Steps Qubits
+working_step words held graph None = gives (which.All graph)
+working_step words held graph (Some at) = do
   w ← working held (text_at words at) graph
   gives (which.Working w)
+
+-- the parts of a graph, read from the file of this name
+unfoldable pub listing : NamedFiles → List ℕ → Steps (List Part)
+listing held name = do
+  bytes ← taking held Graph name
+  ends (text_end Graph (listed_parts bytes))
+
+-- the qubits that chains may stand on: those of a Chimera graph, or those of the graph that is named
+unfoldable pub surveying : List (List ℕ) → NamedFiles → Ground → Steps Qubits
+surveying words held (grounds.Chimera graph dead chains) = working_step words held graph dead
+surveying words held (grounds.Listed graph map) = do
+  parts ← listing held (text_at words graph)
+  gives (which.Listed parts)
 
 -- the chains of a map, read from the file of this name
 unfoldable pub mapping : NamedFiles → List ℕ → Steps (List (List ℕ))
@@ -172,24 +185,24 @@ mapping held name = do
   bytes ← taking held Map name
   ends (text_end Map (maps.reading bytes))
 
--- where the chains come from, with the map that is named
-unfoldable pub chains_step : List (List ℕ) → NamedFiles → Chaining → Steps ChainSource
-chains_step words held chainings.Clique = gives chain_sources.Clique
-chains_step words held (chainings.Map at) = do
+-- where the chains come from: those of a clique, or of the map that is named
+unfoldable pub chains_step : List (List ℕ) → NamedFiles → Option WordAt → Steps ChainSource
+chains_step words held None = gives chain_sources.Clique
+chains_step words held (Some at) = do
   map ← mapping held (text_at words at)
   gives (chain_sources.Map map)
 
 -- where chains stand, and how they are tied
 unfoldable pub siting : List (List ℕ) → NamedFiles → Board → Steps Site
 siting words held board = do
-  qubits ← surveying words held board.graph board.dead
-  chain_source ← chains_step words held board.chains
+  qubits ← surveying words held board.ground
+  chain_source ← chains_step words held (map_in board.ground)
   gives (record { qubits = qubits; chain_source = chain_source; ties = board.ties })
 
 -- what the model stands on
 unfoldable pub placing : List (List ℕ) → NamedFiles → Target → Steps Placement
 placing words held (targets.Nodes target) = gives (placements.Nodes target)
-placing words held (targets.Chimera board) = do
+placing words held (targets.Qubits board) = do
   site ← siting words held board
   gives (placements.Qubits site)
 
@@ -252,10 +265,11 @@ ordered held name nodes = do
   bytes ← taking held Order name
   ends (text_end Order (order_of nodes (tokens_of Plain bytes)))
 
--- the first node to be eliminated that is too wide, of the nodes below this one, with its width
-abbrev pub wide_below : Written → ℕ → Option (ℕ × ℕ)
-wide_below m zero = None
-wide_below m (suc v) = if nat_lt 16 (width m v) then Some (v, width m v) else wide_below m v
+-- the order in which so many nodes are eliminated: from the last to the first, or that of the file that
+-- is named
+abbrev pub ordering : List (List ℕ) → NamedFiles → Option WordAt → ℕ → Steps (List ℕ)
+ordering words held None nodes = gives (from_last nodes)
+ordering words held (Some at) nodes = ordered held (text_at words at) nodes
 
 -- what is read once the model stands: nothing, bits, an order of its nodes, or states with the numbers
 -- of their lines
@@ -265,18 +279,16 @@ pub data Last : Type 0 where
   InOrder : List ℕ → Last
   Several : List StateLine → Last
 
--- no node is too wide, or the first one that is
-abbrev pub width_end : Last → Option (ℕ × ℕ) → Result Last Status
-width_end last None = Ok last
-width_end last (Some node) = Err (TooWide node.0 node.1)
+-- the order, where no node is too wide in it, or the first one that is
+abbrev pub width_end : List ℕ → Option (ℕ × ℕ) → Result Last Status
+width_end order None = Ok (InOrder order)
+width_end order (Some node) = Err (TooWide node.0 node.1)
 
--- a model to be solved is not too wide, in the order from the last node to the first or in that of the
--- file that is named
+-- a model to be solved is not too wide in the order of its nodes
 abbrev pub solving : List (List ℕ) → NamedFiles → Option WordAt → Written → Steps Last
-solving words held None m = ends (width_end Nothing (wide_below m m.nodes))
-solving words held (Some at) m = do
-  order ← ordered held (text_at words at) m.nodes
-  ends (width_end (InOrder order) (first_wide 16 m [] order))
+solving words held at m = do
+  order ← ordering words held at m.nodes
+  ends (width_end order (first_wide 16 m [] order))
 
 -- all states that a text has, or that it has none
 abbrev pub states_end : ℕ → List StateLine → Result Last Status

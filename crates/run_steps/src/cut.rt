@@ -1,17 +1,42 @@
 //! A file that is cut into words as it comes, so that its text isn't held.
-ghost use Rattle.std.specs.Prelude.{◌≡◌, ◌+◌, ◌^◌, ◌<◌, ◌≤◌, ◌↔◌, [], length, IfOk, OnOk, IsErrOf, string_bytes};
-ghost use Rattle.std.specs.Io.KnownBytes.{IsAtEnd};
-ghost use Rattle.edge_io.specs.Counts.{count_after, Rose};
+ghost use Rattle.std.specs.Prelude.{◌≡◌, ◌+◌, ◌^◌, ◌<◌, ◌≤◌, ◌↔◌, [], Ok, length, IfOk, OnOk, OnErr, IsErrOf, string_bytes};
+ghost use Rattle.std.specs.Io.{ReadsAtMost};
+ghost use Rattle.std.specs.Io.KnownBytes.{ReadConsumes, IsAtEnd};
+ghost use Rattle.edge_io.specs.Counts.{count_after, CountsNothing, HasCause, Rose};
 ghost use Rattle.edge_io.specs.Held.{WhereTold, IsFront, IsLonger, find_file};
 ghost use Rattle.whole_text.specs.TokenTexts.{words_of};
 ghost use Rattle.run_steps.specs.Cut.{AreWordsOf, HasEnded, IsCut, IsSameBegin};
 
-use edge_io::{Files, ReadAnswer, take_piece};
+use edge_io::{Files, ReadAnswer, ReadFault, take_piece};
 use std::alloc::Global;
 use whole_text::{Lexer, Style, TokenText};
 
 /// How many bytes are taken at once, at most; they stand on the stack.
 const PIECE: usize = 65_536;
+
+/// Takes the next piece of the begun file, of at most 64 KiB, and none only at its end.
+fn take_next<F: Files>(files: &mut F, into: &mut [u8]) -> Result<usize, ReadFault>
+    requires some { 0 < length into.old }
+    requires small { length into.old ≤ 2 ^ 16 }
+    ensures bound { ReadsAtMost result into.new }
+    ensures rest { ReadConsumes (F.rest files.old) (F.rest files.new) result into.new }
+    ensures at_end { result ≡ Ok 0 → IsAtEnd (F.rest files.new) }
+    ensures held { F.held files.new ≡ F.held files.old }
+
+    ensures counted { IfOk result (λ n.
+        (F.counts files.new).taken ≡ count_after (F.counts files.old).taken n) }
+    ensures none_taken { OnErr result
+        ((F.counts files.new).taken ≡ (F.counts files.old).taken) }
+    ensures nothing { CountsNothing
+        (F.counts files.old).empty_reads (F.counts files.new).empty_reads result }
+    ensures cause { HasCause (F.counts files.old).faults (F.counts files.new).faults result }
+
+    ensures begun { (F.counts files.new).begun ≡ (F.counts files.old).begun }
+    ensures mark { (F.counts files.new).faults_at_begin ≡ (F.counts files.old).faults_at_begin }
+    ensures name { (F.counts files.new).name ≡ (F.counts files.old).name }
+{
+    take_piece(files, into)
+}
 
 /// Takes what is left of the begun file, at most `limit` bytes, and feeds a lexer with it.
 fn feed_rest<F: Files>(files: &mut F, lexer: &mut Lexer, limit: usize) -> Result<(), ReadAnswer>
@@ -33,7 +58,7 @@ fn feed_rest<F: Files>(files: &mut F, lexer: &mut Lexer, limit: usize) -> Result
     let mut taken = 0;
     loop {
         let room = PIECE.min(limit + 1 - taken);
-        let Ok(count) = take_piece(files, &mut piece[..room]) else {
+        let Ok(count) = take_next(files, &mut piece[..room]) else {
             return Err(ReadAnswer::ReadFault);
         };
         if count == 0 {

@@ -3,7 +3,7 @@ ghost use Rattle.std.specs.Prelude.{◌≡◌, None, IfOk, OnOk, IfErr};
 ghost use Rattle.problem_form.specs.Limits.{limit_fault};
 ghost use Rattle.command_words.specs.Commands.{HasFewClauses};
 ghost use Rattle.command_words.specs.Names.{model_files};
-ghost use Rattle.source_texts.specs.Sources.{KeepsSoft};
+ghost use Rattle.source_texts.specs.Sources.{AreEnoughIn, KeepsSoft};
 ghost use Rattle.run_steps.specs.Steps.{planning};
 ghost use Rattle.run_steps.specs.Statuses.{IsRefusal};
 ghost use Rattle.run_steps.specs.Causes.{AreRead, AreRefused, MeetsHeld, named_in, spelled};
@@ -69,6 +69,7 @@ pub fn take_plan<F: Files>(
     ensures within { IfOk result (λ plan.
         limit_fault plan.choices.normal plan.read.problem ≡ None) }
     ensures kept { IfOk result (λ plan. KeepsSoft plan.read) }
+    ensures enough { IfOk result (λ plan. AreEnoughIn command.penalty plan.read) }
     ensures passed { OnOk result (AreRead (named_in words.now command)
         (model_files command) (F.counts files.old) (F.counts files.new)) }
     ensures refused { IfErr result (λ status. AreRefused

@@ -2,12 +2,13 @@
 ghost use Rattle.std.specs.Prelude.{◌≡◌, ◌≤◌, None, IfOk};
 ghost use Rattle.problem_form.specs.declared.limits.Normal.{Normal};
 ghost use Rattle.problem_form.specs.Limits.{limit_fault};
+ghost use Rattle.local_penalties.specs.Kept.{IsWithinLimits};
 ghost use Rattle.command_words.specs.Commands.{HasFewClauses};
 ghost use Rattle.command_words.specs.declared.names.Which.{Which};
 ghost use Rattle.command_words.specs.Names.{if_named};
 ghost use Rattle.source_texts.specs.declared.reading.Read.{Read};
-ghost use Rattle.source_texts.specs.Sources.{KeepsSoft};
-ghost use Rattle.run_steps.specs.Steps.{checking, slacked, wanted};
+ghost use Rattle.source_texts.specs.Sources.{AreEnoughIn, KeepsSoft, penalized};
+ghost use Rattle.run_steps.specs.Steps.{checking, prepared};
 ghost use Rattle.run_steps.specs.Cut.{checking_file, reading_file};
 ghost use Rattle.run_steps.specs.Causes.{named_in, spelled};
 ghost use Rattle.run_steps.specs.Takes.{Takes, TakesOne};
@@ -19,6 +20,7 @@ use crate::steps::{read_into, take_words};
 use base::NoMemory;
 use command_words::{Command, Format, Origin, Slack, Which, most_of};
 use edge_io::Files;
+use form_steps::PenaltyScope;
 use problem_form::check_limits;
 use sample_text::sample_text;
 use source_texts::{Read, read_source, read_source_words, style_of};
@@ -34,33 +36,35 @@ fn read_drawn(alloc: Global, number: u64, clauses: u64) -> Result<Read, NoMemory
     ensures kept { IfOk result KeepsSoft }
 {
     let text = sample_text(alloc, number, clauses)?;
-    match read_source(alloc, Format::Wcnf, &text) {
+    match read_source(alloc, Slack::Bits, Format::Wcnf, &text) {
         Ok(read) => Ok(read),
         Err(TextAnswer::NoMemory) => Err(NoMemory),
         Err(TextAnswer::Bad(_)) => unreachable!(),
     }
 }
 
-/// What is read, with clauses in place of its conflicts where they shall not need slack bits.
-fn slacked(alloc: Global, slack: Slack, read: Read) -> Result<Read, NoMemory>
+/// What is read, where its constraints get their slack as a command says, and with the command's
+/// bound.
+fn prepared(alloc: Global, command: Command, read: Read) -> Result<Read, NoMemory>
     requires { KeepsSoft read }
-    ensures value { IfOk result (λ given. given ≡ slacked slack read) }
+    ensures value { IfOk result (λ given. given ≡ prepared command read) }
     ensures kept { IfOk result KeepsSoft }
 {
-    match slack {
-        Slack::Bits => Ok(read),
-        Slack::Pairs => read.without_conflicts(alloc),
-    }
+    let mut read = read.slacked(alloc, command.slack)?;
+    read.cut_off(most_of(command.bound));
+    Ok(read)
 }
 
-/// What is read as a command wants it: with or without conflicts, and with the command's bound.
-fn wanted(alloc: Global, command: Command, read: Read) -> Result<Read, NoMemory>
-    requires { KeepsSoft read }
-    ensures value { IfOk result (λ given. given ≡ wanted command read) }
+/// What is read, with penalties of a scope, which are enough.
+fn penalized(alloc: Global, scope: PenaltyScope, read: Read) -> Result<Read, NoMemory>
+    requires within { IsWithinLimits read.problem }
+    requires kept { KeepsSoft read }
+    ensures value { IfOk result (λ given. given ≡ penalized scope read) }
     ensures kept { IfOk result KeepsSoft }
+    ensures enough { IfOk result (AreEnoughIn scope) }
 {
-    let mut read = slacked(alloc, command.slack, read)?;
-    read.cut_off(most_of(command.bound));
+    let mut read = read;
+    read.penalize(alloc, scope)?;
     Ok(read)
 }
 
@@ -71,26 +75,29 @@ fn take_drawn(alloc: Global, number: u64, clauses: u64, command: Command) -> Res
     ensures within { IfOk result (λ read.
         limit_fault command.choices.normal read.problem ≡ None) }
     ensures kept { IfOk result KeepsSoft }
+    ensures enough { IfOk result (AreEnoughIn command.penalty) }
 {
-    let read = read_drawn(alloc, number, clauses)?;
-    wanted(alloc, command, read)
+    let own = read_drawn(alloc, number, clauses)?;
+    let read = prepared(alloc, command, own)?;
+    penalized(alloc, command.penalty, read)
 }
 
 /// Takes the file of a source, cut into words as it comes, and reads it.
 fn take_read<F: Files>(
     alloc: Global,
     name: &str,
+    slack: Slack,
     format: Format,
     files: &mut F,
 ) -> Result<Read, Status>
     ensures took { TakesOne (F.held files.old) (F.held files.new) Which.Source name.now
-        (λ read. read) result (λ held. reading_file held name.now format)
+        (λ read. read) result (λ held. reading_file held name.now slack format)
         (F.counts files.old) (F.counts files.new) }
     ensures kept { IfOk result KeepsSoft }
 {
     let style = style_of(format);
     let text = take_words(alloc, name, Which::Source, style, files)?;
-    let read = read_source_words(alloc, format, &text);
+    let read = read_source_words(alloc, slack, format, &text);
     drop(text);
     read_into(read, Which::Source)
 }
@@ -109,11 +116,15 @@ fn take_file<F: Files>(
     ensures within { IfOk result (λ read.
         limit_fault command.choices.normal read.problem ≡ None) }
     ensures kept { IfOk result KeepsSoft }
+    ensures enough { IfOk result (AreEnoughIn command.penalty) }
 {
-    let own = take_read(alloc, name, format, files)?;
-    let read = wanted(alloc, command, own)?;
+    let own = take_read(alloc, name, command.slack, format, files)?;
+    let read = prepared(alloc, command, own)?;
     match check_limits(&read.problem, &command.choices) {
-        Ok(()) => Ok(read),
+        Ok(()) => {
+            let given = penalized(alloc, command.penalty, read)?;
+            Ok(given)
+        }
         Err(fault) => Err(Status::Limit(Which::Source, fault.kind, fault.number)),
     }
 }
@@ -131,7 +142,8 @@ impl FromFile for Read {
     ghost steps = { λ context held name. checking_file held name context.0 context.1 };
 
     ghost fits = { λ context read. KeepsSoft read
-        × (limit_fault context.1.choices.normal read.problem ≡ None) };
+        × (limit_fault context.1.choices.normal read.problem ≡ None)
+        × AreEnoughIn context.1.penalty read };
 
     fn take<F: Files>(
         alloc: Global,
@@ -158,6 +170,7 @@ pub fn take_source<F: Files>(
     ensures within { IfOk result (λ read.
         limit_fault command.choices.normal read.problem ≡ None) }
     ensures kept { IfOk result KeepsSoft }
+    ensures enough { IfOk result (AreEnoughIn command.penalty) }
 {
     match command.origin {
         Origin::Drawn(number, clauses) => {

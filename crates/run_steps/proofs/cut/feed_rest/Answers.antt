@@ -7,7 +7,7 @@ feed-requires g c = grind (arith, nat_tests, length-take)
 pub loop-count-preserved : goal.loop-count-preserved
 loop-count-preserved g c =
     let i = c.loop-count.invariant in
-    let taken = c.take_piece in
+    let taken = c.take_next in
     let read = c.in-Ok.ensures in
     let fed = c.in-Ok-feed.ensures in
     record {

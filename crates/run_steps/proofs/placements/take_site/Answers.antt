@@ -1,4 +1,4 @@
-use Rattle.run_steps.proofs.Lemmas.{refl, List, ℕ, map, string_bytes, NamedFiles, Board, Qubits, ChainSource, Site, Steps, ◌>>=◌, gives, chains_step, siting, first_refuses, still_refuses, takes_given, then_takes}
+use Rattle.run_steps.proofs.Lemmas.{refl, ap, List, ℕ, map, string_bytes, NamedFiles, Board, map_in, Qubits, ChainSource, Site, Steps, ◌>>=◌, gives, chains_step, siting, first_refuses, still_refuses, takes_given, takes_same, then_takes}
 use Rattle.run_steps.proofs.placements.take_site.Goals as goal
 
 -- the site of these qubits and chains
@@ -8,7 +8,7 @@ site_of board qubits chain_source = record { qubits = qubits; chain_source = cha
 -- what comes after the qubits
 abbrev after : List (List ℕ) → Board → NamedFiles → Qubits → Steps Site
 after words board held qubits =
-    chains_step words held board.chains >>= λ chain_source. gives (site_of board qubits chain_source)
+    chains_step words held (map_in board.ground) >>= λ chain_source. gives (site_of board qubits chain_source)
 
 pub returns-in_err-qubits : goal.returns-in_err-qubits
 unfolding siting
@@ -18,10 +18,12 @@ pub returns : goal.returns
 unfolding siting
 returns g c =
     then_takes (after (map string_bytes c.args.words.now) c.args.board) c.in_ok-qubits.ensures
-    (takes_given (site_of c.args.board c.in_ok-qubits.qubits) refl c.in_ok-chain_source.ensures)
+    (takes_given (site_of c.args.board c.in_ok-qubits.qubits) refl
+    (takes_same (λ held. ap (chains_step _ held) c.map_at-map.ensures) c.in_ok-chain_source.ensures))
 
 pub returns-in_err-chain_source : goal.returns-in_err-chain_source
 unfolding siting
 returns-in_err-chain_source g c =
-    then_takes _ c.in_ok-qubits.ensures
-    (still_refuses _ c.from_residual-in_err-chain_source.ensures.1 c.in_err-chain_source.ensures)
+    then_takes (after (map string_bytes c.args.words.now) c.args.board) c.in_ok-qubits.ensures
+    (still_refuses _ c.from_residual-in_err-chain_source.ensures.1
+    (takes_same (λ held. ap (chains_step _ held) c.map_at-map.ensures) c.in_err-chain_source.ensures))

@@ -1,0 +1,21 @@
+use Rattle.model_pipeline.specs.declared.site.Qubits.TheVariants.{Working}
+use Rattle.run_steps.proofs.Lemmas.{gives, working_step, refl, ◌∙◌, still_refuses, takes_given, takes_none, takes_same}
+use Rattle.run_steps.proofs.placements.take_working.Goals as goal
+
+pub returns-in-None : goal.returns-in-None
+unfolding working_step
+returns-in-None g c = takes_none (rw (c.requires, c.in-None.is) refl) (λ held. rw c.in-None.is refl)
+
+pub take_named-requires : goal.take_named-requires
+take_named-requires g c = c.requires ∙ c.in-Some.is
+
+pub returns-in_ok-working-in-Some : goal.returns-in_ok-working-in-Some
+unfolding working_step
+returns-in_ok-working-in-Some g c =
+    takes_same (λ held. rw c.in-Some.is refl) (takes_given Working refl c.in_ok-working-in-Some.ensures.took)
+
+pub returns-in_err-working-in-Some : goal.returns-in_err-working-in-Some
+unfolding working_step
+returns-in_err-working-in-Some g c =
+    takes_same (λ held. rw c.in-Some.is refl)
+    (still_refuses (λ held w. gives (Working w)) c.from_residual.ensures.1 c.in_err-working-in-Some.ensures.took)
