@@ -1,16 +1,16 @@
 -- What is asked of the model of a command's plan answers the command.
-use Rattle.program_run.proofs.Common.{nat_tests, ◌≡◌, ℕ, ℤ, pos, ◌*ℤ◌, ◌≤ℤ◌, Bool, List, length, take, Ok, Some, None, refl, sym, ap, ◌∙◌, subst, arith, ints, by_lt_z, Option, NamedFiles, UnitChoice, IsOf, Source, energy, times-lt, Relaxes, Written, IsWellFormed, form_of, decoding_of, Demand, Faithful, HasChains, IsLeastState, least_states_tell, length-read_off, Choices, FitsFields, model_text, IsTextOf, texts_tell_models, decoding_text, extension_text, proof_text, Format, Ask, WordAt, ChainStrength, most_of, text_at, Command, Read, CostsAs, StandsFor, bounded, carried, names_of, names_read, problem_stands, problem_costs, ising_of, ExtendsTo, IsLeastTo, IsMadeOf, Placement, Plan, ties_of, demand_of, form_in, StandsOn, Last, Nothing, Bits, InOrder, Several, bits_step, gives, checking, placing, planning, last_step, format_in, IsSmall, bounded_cost, judgement_by, read_cost, IsExtendedBy, IsModelled, IsModelText, IsOfModel, IsSolvedBy, IsTold, IsMadeText, EveryStateStands, judgement_of, Extends, IsAnswer, IsAskedOf, IsDecoded, IsExtended, IsLeastAsked, IsLeastExtension, IsLeastWhereWhole, IsModelFor, IsProved, IsSolved, TellsSource, bits_were, bound, Model, Summary, Size, Solve, Decode, Evaluate, Extend, Prove, Choi, Cut, Global, ◌>>=◌}
+use Rattle.program_run.proofs.Common.{nat_tests, ◌≡◌, ℕ, ℤ, pos, ◌*ℤ◌, ◌≤ℤ◌, Bool, List, length, take, Ok, Some, None, refl, sym, ap, ◌∙◌, subst, arith, ints, by_lt_z, Option, NamedFiles, UnitChoice, IsOf, Source, energy, times-lt, Relaxes, Written, IsWellFormed, form_of, decoding_of, Demand, Faithful, HasChains, IsLeastState, least_states_tell, length-read_off, Choices, FitsFields, model_text, IsTextOf, texts_tell_models, decoding_text, extension_text, proof_text, Format, Ask, WordAt, ChainStrength, most_of, text_at, Command, PenaltyScope, Read, AreEnoughIn, CostsAs, KeepsSoft, StandsFor, bounded, carried, names_of, names_read, problem_stands, problem_costs, ising_of, ExtendsTo, IsLeastTo, IsMadeOf, Placement, Plan, ties_of, demand_of, form_in, StandsOn, Last, Nothing, Bits, InOrder, Several, bits_step, gives, checking, placing, planning, last_step, format_in, IsSmall, bounded_cost, judgement_by, said_cost, IsExtendedBy, IsModelled, IsModelText, IsOfModel, IsSolvedBy, IsTold, IsMadeText, EveryStateStands, EveryStateStays, judgement_of, Extends, IsAnswer, IsAskedOf, IsDecoded, IsExtended, IsLeastAsked, IsLeastExtension, IsLeastWhereWhole, IsModelFor, IsProved, IsSolved, TellsSource, bits_were, bound, Model, Summary, Size, Solve, Decode, Evaluate, Extend, Prove, Choi, Cut, Global, Local, ◌>>=◌}
 use Rattle.problem_form.specs.Problems as problems
 use Rattle.command_words.specs.declared.commands.Format.TheVariants as formats
 use Rattle.model_pipeline.specs.Models as models
 use Rattle.run_steps.specs.declared.placements.Placement.TheVariants.{Nodes, Qubits}
 use Rattle.program_run.proofs.Scored.{alike_where_wide, scanned_widths, scored_alike}
-use Rattle.program_run.proofs.SmallCosts.{cost_is_small}
+use Rattle.program_run.proofs.SmallCosts.{said_is_small}
 use Rattle.program_run.proofs.Wanted.{HasSoft, costs_wanted, soft_read, soft_wanted, stands_wanted, wanted_names}
 use Rattle.program_run.proofs.Taken.{source_is_taken}
 use Rattle.program_run.proofs.Widths.{has_few_nodes}
 use Rattle.program_run.proofs.Asked.{IsProvedState, stated_width, proved_is, proved_least}
-use Rattle.program_run.proofs.Stood.{alike, model_stands}
+use Rattle.program_run.proofs.Stood.{alike, model_stands, state_stays}
 
 -- ---- what a plan is of
 
@@ -32,12 +32,13 @@ planned_is words held command plan e = grind (arith, nat_tests, bound)
 
 -- ---- the model stands for the source
 
-stands_on : (base : Placement) (choices : Choices) (unit : UnitChoice) (s : Source) (r : Read)
-    (m : Written) → StandsFor s r → StandsOn base choices unit r.variables r.problem m
-    → IsModelFor base unit (length (ising_of choices r.problem).fields) s m
-stands_on (Nodes target) choices unit s r m stands made =
+stands_on : (base : Placement) (choices : Choices) (command : Command) (s : Source) (r : Read)
+    (m : Written) → StandsFor command.penalty s r
+    → StandsOn base choices command.unit r.variables r.problem m
+    → IsModelFor base command (length (ising_of choices r.problem).fields) s m
+stands_on (Nodes target) choices command s r m stands made =
     let nodes = length (ising_of choices r.problem).fields in
-    model_stands unit s r m stands (Nodes target) nodes (record {
+    model_stands command s r m stands (Nodes target) nodes (record {
       fits = made.fits;
       bounded = made.bounded;
       well_formed = made.well_formed;
@@ -45,11 +46,11 @@ stands_on (Nodes target) choices unit s r m stands made =
       scale = made.scale;
       threshold = made.threshold;
       unit = made.unit;
-      stands = made.relaxes Global stands.penalties;
+      stands = made.relaxes command.penalty stands.penalties;
     }) made.kind refl (grind (arith, nat_tests))
-stands_on (Qubits site) choices unit s r m stands made =
+stands_on (Qubits site) choices command s r m stands made =
     let nodes = length (ising_of choices r.problem).fields in
-    model_stands unit s r m stands (Qubits site) nodes (record {
+    model_stands command s r m stands (Qubits site) nodes (record {
       fits = made.fits;
       bounded = made.bounded;
       well_formed = made.well_formed;
@@ -57,9 +58,22 @@ stands_on (Qubits site) choices unit s r m stands made =
       scale = made.scale;
       threshold = made.threshold;
       unit = made.unit;
-      stands = made.stands Global stands.penalties;
+      stands = made.stands command.penalty stands.penalties;
     }) made.kind refl
-    (subst (λ k. HasChains k (demand_of unit (Qubits site) nodes) m) (sym made.kind) made.embedded)
+    (subst (λ k. HasChains k (demand_of command.unit (Qubits site) nodes) m) (sym made.kind)
+    made.embedded)
+
+stays_on : (base : Placement) (choices : Choices) (command : Command) (s : Source) (r : Read)
+    (m : Written) → StandsFor command.penalty (bounded (most_of command.bound) s) r
+    → CostsAs (most_of command.bound) s r → (format : Format) → HasSoft format r.soft
+    → StandsOn base choices command.unit r.variables r.problem m
+    → EveryStateStays (ties_of base) format (bounded (most_of command.bound) s) m
+stays_on (Nodes target) choices command s r m stands costs format soft made =
+    state_stays command.penalty (most_of command.bound) s r m stands costs made.variables Choi format soft
+    (made.relaxes command.penalty stands.penalties) made.stays
+stays_on (Qubits site) choices command s r m stands costs format soft made =
+    state_stays command.penalty (most_of command.bound) s r m stands costs made.variables site.ties format
+    soft (made.stands command.penalty stands.penalties) made.stays
 
 -- ---- what is told of it
 
@@ -86,12 +100,17 @@ least_where_whole s m x state relaxes extends v whole other w decodes =
     unscaled-le m.unit (energy (form_of m) state) (energy (form_of m) other) relaxes.unit
     (subst (λ e. e ≤ℤ (m.unit *ℤ energy (form_of m) other)) (sym (extends.scaled v whole)) lies)
 
-module _ (plan : Plan) (s : Source) (m : Written) (names : Option (List (List ℕ)))
-    (made : IsModelled plan m) (most : Option ℤ) (has : plan.read.problem.most ≡ most)
-    (stands : StandsFor (bounded most s) plan.read) (costs : CostsAs s plan.read)
-    (format : Format) (soft : HasSoft format plan.read.soft)
-    (named : names ≡ plan.read.names)
-    (its : IsModelFor plan.base plan.unit (length (form_in plan).fields) (bounded most s) m) where
+module _ (command : Command) (plan : Plan) (s : Source) (m : Written)
+    (names : Option (List (List ℕ))) (made : IsModelled plan m)
+    (stands : StandsFor command.penalty (bounded (most_of command.bound) s) plan.read)
+    (costs : CostsAs (most_of command.bound) s plan.read)
+    (soft : HasSoft (format_in command.origin) plan.read.soft) (named : names ≡ plan.read.names)
+    (its : IsModelFor plan.base command (length (form_in plan).fields)
+    (bounded (most_of command.bound) s) m) where
+  -- the most that an assignment may cost
+  abbrev most : Option ℤ
+  most = most_of command.bound
+
   own : m.variables ≡ s.form.bits
   own = its.faithful.stated.variables
 
@@ -101,16 +120,16 @@ module _ (plan : Plan) (s : Source) (m : Written) (names : Option (List (List �
 
   -- and costs what the source says
   decoded_cost : (y : List Bool) → length y ≡ m.nodes
-      → read_cost plan.read ((decoding_of m).decoded y) ≡ s.form.cost ((decoding_of m).decoded y)
+      → said_cost plan.read ((decoding_of m).decoded y) ≡ s.form.cost ((decoding_of m).decoded y)
   decoded_cost y w = costs.same ((decoding_of m).decoded y) (decoded_width y w)
 
   -- and with the bound what the bounded source says
   decoded_bounded : (y : List Bool) → length y ≡ m.nodes
       → bounded_cost plan.read ((decoding_of m).decoded y)
       ≡ (bounded most s).form.cost ((decoding_of m).decoded y)
-  decoded_bounded y w = grind (arith, nat_tests, decoded_cost)
+  decoded_bounded y w = costs.told ((decoding_of m).decoded y) (decoded_width y w)
 
-  solved : (order : Option (List ℕ)) (text : List ℕ) → IsSolvedBy order plan.read m text
+  solved : (order : List ℕ) (text : List ℕ) → IsSolvedBy order plan.read m text
       → IsSolved order s most names m text
   solved order text told = grind (arith, nat_tests, tells_source, decoded_bounded)
 
@@ -121,7 +140,7 @@ module _ (plan : Plan) (s : Source) (m : Written) (names : Option (List (List �
   proved bits text is told =
       let x = (decoding_of m).decoded bits in
       let value = energy (form_of m) bits in
-      let demand = demand_of plan.unit plan.base (length (form_in plan).fields) in
+      let demand = demand_of command.unit plan.base (length (form_in plan).fields) in
       let least = proved_least m bits is in
       record {
         least = least;
@@ -133,7 +152,7 @@ module _ (plan : Plan) (s : Source) (m : Written) (names : Option (List (List �
 
   decoded : (bits : List Bool) (text : List ℕ) → length bits ≡ m.nodes
       → text ≡ decoding_text ((decoding_of m).decoded bits) plan.read.names
-      (read_cost plan.read ((decoding_of m).decoded bits)) (energy (form_of m) bits)
+      (said_cost plan.read ((decoding_of m).decoded bits)) (energy (form_of m) bits)
       → IsDecoded s names m bits text
   decoded bits text w told = grind (arith, nat_tests, decoded_cost)
 
@@ -142,7 +161,8 @@ module _ (plan : Plan) (s : Source) (m : Written) (names : Option (List (List �
   -- the first bits of what a state decodes to with all variables of the problem
   first_bits : (y : List Bool) → length y ≡ m.nodes → (decoding_of m).decoded y
       ≡ take s.form.bits ((models.decoding_to plan.read.problem.variables m).decoded y)
-  first_bits y w = alike plan.unit (bounded most s) plan.read m stands (own ∙ sym stands.variables) y w
+  first_bits y w =
+      alike command.penalty (bounded most s) plan.read m stands (own ∙ sym stands.variables) y w
 
   source_extends : (x state : List Bool) → IsOf s.form x
       → ExtendsTo plan.read.problem.variables (problems.form_of plan.read.problem) m
@@ -151,7 +171,7 @@ module _ (plan : Plan) (s : Source) (m : Written) (names : Option (List (List �
     width = extends.width;
     decodes = first_bits state extends.width ∙ ap (take s.form.bits) extends.decodes
         ∙ costs.begins x w;
-    scaled = λ v whole. extends.scaled v (grind (arith, nat_tests));
+    scaled = λ v whole. extends.scaled v (costs.carries x w ∙ whole);
   }
 
   -- without soft constraints the problem has the source's variables
@@ -160,19 +180,20 @@ module _ (plan : Plan) (s : Source) (m : Written) (names : Option (List (List �
       → IsLeastExtension m x state
   plain_least x state w none least other wide decodes = grind (arith, nat_tests)
 
-  least_by : (ties : ChainStrength) (f : Format) (x state : List Bool) → IsOf s.form x
-      → HasSoft f plan.read.soft → EveryStateStands ties (bounded most s) m
+  least_by : (ties : ChainStrength) (scope : PenaltyScope) (f : Format) (x state : List Bool)
+      → IsOf s.form x → HasSoft f plan.read.soft → EveryStateStands ties scope (bounded most s) m
       → Extends (bounded most s) m x state
       → (ties ≡ Choi → IsLeastTo plan.read.problem.variables m (carried plan.read.soft x) state)
-      → IsLeastAsked ties f (bounded most s) m x state
-  least_by Choi formats.Wbo x state w is every extends least =
+      → IsLeastAsked ties scope f (bounded most s) m x state
+  least_by Cut scope f x state w is every extends least = tt
+  least_by Choi Local formats.Wbo x state w is every extends least = tt
+  least_by Choi Global formats.Wbo x state w is every extends least =
       least_where_whole (bounded most s) m x state every extends
-  least_by Cut f x state w is every extends least = tt
-  least_by Choi f x state w is every extends least = plain_least x state w is (least refl)
+  least_by Choi scope f x state w is every extends least = plain_least x state w is (least refl)
 
   -- the texts that the plan's own steps make
   abbrev ByPlan : List Bool → List ℕ → Type 0
-  ByPlan x text = IsExtended format s most plan m x text
+  ByPlan x text = IsExtended command s plan m x text
 
   extended : (x : List Bool) (text : List ℕ) → IsOf s.form x
       → IsExtendedBy plan.choices plan.read m x text → ByPlan x text
@@ -182,7 +203,8 @@ module _ (plan : Plan) (s : Source) (m : Written) (names : Option (List (List �
         extension = record {
           state = told.state;
           extends = extends;
-          least = least_by (ties_of plan.base) format x told.state w soft its.every extends
+          least = least_by (ties_of plan.base) command.penalty (format_in command.origin) x told.state w
+              soft its.every extends
               (λ choi. told.least plan.read.variables
               (subst (λ ties. IsMadeOf ties plan.read.variables plan.choices plan.read.problem m) choi
               made.made));
@@ -221,8 +243,7 @@ module _ (plan : Plan) (s : Source) (m : Written) (names : Option (List (List �
   solved_asked : (order : Option WordAt) (last : Last) (text : List ℕ)
       → IsTold (Solve order) plan.read plan.choices m last text
       → IsAskedOf (Solve order) s most names ByPlan m last text
-  solved_asked order Nothing text told = solved None text told
-  solved_asked order (InOrder nodes) text told = solved (Some nodes) text told
+  solved_asked order (InOrder nodes) text told = solved nodes text told
   solved_asked order last text told = absurd told
 
   -- the states that are read have the model's width
@@ -256,27 +277,31 @@ module _ (plan : Plan) (s : Source) (m : Written) (names : Option (List (List �
 
 pub made_answers : (words : List (List ℕ)) (held : NamedFiles) (command : Command) (plan : Plan)
     (text : List ℕ) → (planning words held command).end ≡ Some (Ok plan)
+    → KeepsSoft plan.read → AreEnoughIn command.penalty plan.read
     → IsMadeText command.ask plan (last_step words held command.ask plan.read.variables) text
     → IsAnswer words held command text
-made_answers words held command plan text e made =
+made_answers words held command plan text e kept enough made =
     let planned = planned_is words held command plan e in
     let taken = source_is_taken words held command plan.read planned.checked in
     let format = format_in command.origin in
     let most = most_of command.bound in
-    let s = problem_stands format taken.text taken.own taken.read in
+    let slack = command.slack in
+    let s = problem_stands slack format taken.text taken.own taken.read in
     let m = made.model in
-    let costs = subst (CostsAs s.0) taken.given (costs_wanted s.0 command taken.own
-    (λ bound. problem_costs format taken.text taken.own s.0 bound taken.read s.1)) in
-    let own_stands = subst (StandsFor (bounded most s.0)) taken.given
-    (stands_wanted s.0 command taken.own s.2) in
+    let costs = subst (CostsAs most s.0) taken.given (costs_wanted s.0 command taken.own
+    (λ bound. problem_costs slack format taken.text taken.own s.0 bound taken.read s.1)) in
+    let own_stands = subst (StandsFor command.penalty (bounded most s.0)) taken.given
+    (stands_wanted s.0 command taken.own s.2
+    (subst (AreEnoughIn command.penalty) (sym taken.given) enough)) in
     let named : names_of format taken.text ≡ plan.read.names =
-    names_read format taken.text taken.own taken.read ∙ sym (wanted_names command taken.own)
+    names_read slack format taken.text taken.own taken.read ∙ sym (wanted_names command taken.own)
     ∙ ap (λ (r : Read). r.names) taken.given in
-    let has : plan.read.problem.most ≡ most = sym (ap (λ (r : Read). r.problem.most) taken.given) in
     let soft = soft_wanted format command taken.own plan.read taken.given
-    (soft_read format taken.text taken.own taken.read) in
+    (soft_read slack format taken.text taken.own taken.read) in
+    let stands_there = subst (λ u. StandsOn plan.base plan.choices u plan.read.variables plan.read.problem m)
+    planned.unit made.made.stands in
     let stands =
-    stands_on plan.base plan.choices plan.unit (bounded most s.0) plan.read m own_stands made.made.stands in
+    stands_on plan.base plan.choices command (bounded most s.0) plan.read m own_stands stands_there in
     record {
       source = s.0;
       from = record { text = taken.text; found = taken.found; says = s.1 };
@@ -284,16 +309,16 @@ made_answers words held command plan text e made =
       planned = e;
       model = m;
       by = made.made.by;
-      stands = subst (λ u. IsModelFor plan.base u (length (form_in plan).fields) (bounded most s.0) m) planned.unit
-          stands;
+      stands = stands;
+      stays = stays_on plan.base plan.choices command s.0 plan.read m own_stands costs format soft stands_there;
       small = λ x wide. subst IsSmall (costs.same x wide)
-          (cost_is_small command.choices.normal plan.read.problem (carried plan.read.soft x) taken.within);
+          (said_is_small command.choices.normal plan.read x kept taken.within);
       few = has_few_nodes plan m made.made.can_stand made.made.by made.made.stands;
       asked = record {
         last = made.last;
         read = subst (λ n. (last_step words held command.ask n m).end ≡ Some (Ok made.last))
             own_stands.variables made.read;
-        said = asked_of plan s.0 m (names_of format taken.text) made.made most has own_stands costs
-            format soft named stands words held command.ask made.last text made.read made.told;
+        said = asked_of command plan s.0 m (names_of format taken.text) made.made own_stands costs
+            soft named stands words held command.ask made.last text made.read made.told;
       };
     }

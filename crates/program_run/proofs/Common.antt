@@ -1,11 +1,13 @@
 -- What the proofs of this crate stand on, of std and of the crates below.
 pub use Rattle.std.proofs.Common.{◌≡◌, ℕ, ℤ, pos, ◌*ℤ◌, ◌≤ℤ◌, Bool, List, length, get_or, take, Ok, Some, None, refl, sym, ap, ◌∙◌, subst, arith, Option, ◌≤◌, IfOk, Err, Result, [], ◌∷◌, reverse, ◌^◌, zero, suc, ◌+◌, ◌<◌, true, false, ◌++◌, length-append, append_assoc, append-nil, slice_index_or, Bor, IsOk, OnOk, OnErr, not, ◌||◌, cond, map, find, ◌-◌, ◌+ℤ◌, ◌≢◌, string_bytes, rules, of_z, to_z, decimal}
-pub use Rattle.wbo_reader.proofs.Common.{rewritten_relaxes, WboContent}
+pub use Rattle.wbo_reader.proofs.Common.{rewritten_by, WboContent, extended}
 pub use Rattle.model_pipeline.proofs.Common.{ints, to_z-of_z, Form, IsOf, energy, times-lt, Decoding, Written, weight_total, read_off, IsLeast, ising_of, site_chains, IsingContent, IfFault, CanStandBy, IsFaultBy, graph_in, fabric_in, chains_of, CanStandAt, upper, limit_fault, auxiliary_bits, Embedding, ising_figures, decoding_to, form_model, qubit_model, le-ltb, AllByRecursion, length-map, take-take, take-map, if◌then◌else◌, nat_lt, All, total_by, StandsAtLeast, StandsBy, length-map-range_with_len, QuadContent, length-fields, IfOk-weaker, w128, nat_tests}
-pub use Rattle.form_steps.specs.Relations.{Relaxes}
+pub use Rattle.form_steps.specs.Relations.{Relaxes, RelaxesBy, StaysAbove}
 pub use Rattle.run_steps.proofs.Common.{NamedFiles, text_at, if_named, last_files, model_files, CertificateContent, proof_fault, AreFilesOf, AreRead, weight, eqb-true, ended, IfErr}
 pub use Rattle.model_pipeline.proofs.faithful.Common.{by_lt_z, Source, first_decoded, IsWellFormed, form_of, decoding_of, IsLeastState, HasCost, IsFeasible, length-take-le}
-pub use Rattle.elimination_order.proofs.Common.{IsFirstLeastBy, list_any, ⊤, width, IsWithinWidth, IsFirstWider, first_wide, IsFirstLeast}
+pub use Rattle.elimination_order.proofs.Usual.{first_from_last}
+pub use Rattle.elimination_order.proofs.UsualWidths.{usual_widths}
+pub use Rattle.elimination_order.proofs.Common.{IsFirstLeastBy, list_any, ⊤, IsWithinWidth, IsFirstWider, first_wide, IsFirstLeast, from_last}
 pub use Rattle.model_text.proofs.Common.{FitsFields, Taken, joined_bytes, Takes, TakesFront, codes, signed_decimal}
 pub use Rattle.model_pipeline.specs.faithful.Faithful.{Demand, Faithful, HasChains, HasUnit, scale_of}
 pub use Rattle.model_pipeline.proofs.faithful.Told.{least_states_tell, length-read_off, below, above}
@@ -15,16 +17,16 @@ pub use Rattle.model_text.specs.Told.{IsTextOf}
 pub use Rattle.model_text.proofs.ModelRows.{texts_tell_models}
 pub use Rattle.answer_text.specs.Answers.{decoding_text, extension_text, proof_text, optimum_rows}
 pub use Rattle.command_words.specs.Bounds.{most_of}
-pub use Rattle.source_texts.specs.Sources.{CostsAs, StandsFor, bounded, carried, names_of, form_said, problem_of, source_of, StandsBounded, bounded_read}
+pub use Rattle.source_texts.specs.Sources.{AreEnoughIn, CostsAs, IsRewrittenFrom, KeepsSoft, StandsFor, bounded, cost_by, penalized, said_cost, carried, names_of, form_said, problem_of, source_of, StandsBounded, bounded_read}
 pub use Rattle.source_texts.proofs.Standing.{names_read, problem_stands, problem_costs}
 pub use Rattle.model_pipeline.specs.Extensions.{ExtendsTo, IsLeastTo, IsMadeOf, form_nodes, IsMade}
 pub use Rattle.run_steps.specs.Placements.{ties_of, demand_of}
 pub use Rattle.run_steps.specs.Plans.{form_in, StandsOn, CanStand, IsModelBy, Stands, IsModelOn, PlansMakeOneModel, CanStandOn}
-pub use Rattle.run_steps.specs.Steps.{Last, Nothing, Bits, InOrder, Several, bits_step, gives, placing, last_step, format_in, ends, stating, certifying, proof_end, Steps, Refuses, solving, states_end, taking, ordered, wide_below, width_end, text_end, limited, wanted, slacked, ◌>>=◌}
+pub use Rattle.run_steps.specs.Steps.{Last, Nothing, Bits, InOrder, Several, bits_step, gives, placing, last_step, format_in, ends, stating, certifying, proof_end, Steps, Refuses, solving, states_end, taking, ordered, width_end, text_end, limited, wanted, ◌>>=◌, prepared}
 unfoldable pub use Rattle.run_steps.specs.Steps.{checking, planning, certified, proving, scanning, sourcing, reading_source}
 pub use Rattle.state_scores.specs.Scores.{IsSmall, Judgement, best_of, IsEvaluation, has_better, is_better, score_of}
-pub use Rattle.program_run.specs.Made.{bounded_cost, judgement_by, read_cost, IsExtendedBy, IsModelled, IsModelText, IsOfModel, IsSolvedBy, IsTold, IsMadeText, EndsOf, keeping_for, IsWithin}
-pub use Rattle.program_run.specs.Answers.{EveryStateStands, judgement_of, IsFirstBy, Extends, IsAnswer, IsAskedOf, IsDecoded, IsExtended, IsLeastAsked, IsLeastExtension, IsLeastWhereWhole, IsModelFor, IsProved, IsSolved, TellsSource, DeliversAnswer, IsExtension, IsSaidTo, IsScored, IsTextIn}
+pub use Rattle.program_run.specs.Made.{bounded_cost, judgement_by, IsExtendedBy, IsModelled, IsModelText, IsOfModel, IsSolvedBy, IsTold, IsMadeText, EndsOf, keeping_for, IsWithin}
+pub use Rattle.program_run.specs.Answers.{EveryStateStands, judgement_of, Extends, IsAnswer, IsAskedOf, IsDecoded, IsExtended, IsLeastAsked, IsLeastExtension, IsLeastWhereWhole, IsModelFor, IsProved, IsSolved, TellsSource, DeliversAnswer, IsExtension, IsSaidTo, IsScored, IsTextIn, EveryStateStays}
 pub use Rattle.run_steps.proofs.Stepping.{bits_were, bound, refuses_on}
 pub use Rattle.posiform_check.specs.declared.faults.ProofFault.{ProofFault}
 pub use Rattle.posiform_check.proofs.FirstFaults.{first_faults_tell}
@@ -52,11 +54,13 @@ pub use Rattle.program_run.specs.Widths.{TheFirstWideNodeIsNamed}
 unfoldable pub use Rattle.model_text.specs.Summary.{summary_text}
 pub use Rattle.answer_text.specs.Sizes.{size_text}
 pub use Rattle.form_steps.specs.Stated.{DecodesAlike}
-pub use Rattle.form_steps.proofs.Alike.{relaxes_alike}
+pub use Rattle.form_steps.proofs.Alike.{by_alike, stays_above_alike}
 pub use Rattle.model_pipeline.proofs.faithful.LeastStates.{relaxed_stands, standing_is_faithful}
 pub use Rattle.model_pipeline.proofs.faithful.LongerSources.{rewritten_stands}
 pub use Rattle.program_run.specs.Thresholds.{RowsGoByTheThreshold}
-pub use Rattle.source_texts.proofs.Cleared.{cleared_costs, cleared_stands}
+pub use Rattle.source_texts.proofs.Penalized.{penalized_costs, penalized_stands}
+pub use Rattle.source_texts.proofs.Readings.{stays_stood_for}
+pub use Rattle.source_texts.proofs.Slacked.{slacked_costs, slacked_stands}
 pub use Rattle.model_pipeline.proofs.FewNodes.{nodes_are_few}
 pub use Rattle.run_steps.proofs.FilesRead.{made_refused, made_then, read_wanting, faults_counted}
 pub use Rattle.run_steps.proofs.Holding.{may_first, may_next}
@@ -87,8 +91,11 @@ pub use Rattle.base.specs.declared.costs.Cost.{Cost}
 pub use Rattle.command_words.specs.declared.commands.Request.{Request}
 pub use Rattle.command_words.specs.declared.commands.Origin.{Origin}
 pub use Rattle.command_words.specs.declared.commands.Slack.{Slack}
+pub use Rattle.model_pipeline.specs.QubitStanding.{StaysBy}
+pub use Rattle.std.proofs.Common.{inl, inr}
+pub use Rattle.form_steps.specs.declared.scope.PenaltyScope.{PenaltyScope}
 pub use Rattle.command_words.specs.declared.commands.ChainStrength.TheVariants.{Choi, Cut}
-pub use Rattle.form_steps.specs.declared.scope.PenaltyScope.TheVariants.{Global}
+pub use Rattle.form_steps.specs.declared.scope.PenaltyScope.TheVariants.{Global, Local}
 pub use Rattle.command_words.specs.declared.commands.Ask.TheVariants.{Decode, Evaluate, Extend, Model, Prove, Size, Solve, Summary}
 pub use Rattle.run_steps.specs.declared.status.Status.TheVariants.{Done, NoState, NotEmbedded, ReadFault, TooWide, WriteFault}
 pub use Rattle.base.specs.declared.costs.Cost.TheVariants.{Infinite, Whole}

@@ -1,5 +1,5 @@
 -- The states of a file, where it has some or none, and the order of one.
-use Rattle.program_run.proofs.Common.{nat_tests, arith, ◌≡◌, ℕ, Bool, List, [], ◌∷◌, reverse, Ok, Err, Some, None, refl, sym, subst, Form, Written, IsFirstLeastBy, IsFirstBy, EndsOf, Counts, NamedFiles, Which, Ask, WordAt, Command, if_named, last_files, text_at, StateLine, states_of, Judgement, best_of, Plan, Status, AreFilesOf, AreRead, Last, Several, Steps, Refuses, ends, last_step, scanning, solving, states_end, taking, refuses_on, Order, State, NoState, ended, IfErr, IsUnsolved, Result}
+use Rattle.program_run.proofs.Common.{nat_tests, arith, ◌≡◌, ℕ, Bool, List, [], ◌∷◌, reverse, Ok, Err, Some, None, refl, sym, subst, Form, Written, IsFirstLeastBy, EndsOf, Counts, NamedFiles, Which, Ask, WordAt, Command, if_named, last_files, text_at, StateLine, states_of, Judgement, best_of, Plan, Status, AreFilesOf, AreRead, Last, Several, Steps, Refuses, ends, last_step, scanning, solving, states_end, taking, refuses_on, Order, State, NoState, ended, IfErr, IsUnsolved, Result}
 use Rattle.command_words.specs.declared.commands.Ask.TheVariants as asks
 use Rattle.command_words.specs.declared.names.Which.TheVariants.{Order, State}
 use Rattle.run_steps.specs.declared.status.Status.TheVariants.{NoState}
@@ -84,5 +84,5 @@ none_read name command at width a b is read =
 -- ---- a first least state
 
 pub first_in : (g : Form) (given order : List ℕ) (state seen : List Bool) → given ≡ order
-    → seen ≡ state → IsFirstLeastBy (reverse given) g state → IsFirstBy (Some order) g seen
+    → seen ≡ state → IsFirstLeastBy (reverse given) g state → IsFirstLeastBy (reverse order) g seen
 first_in g given order state seen same is first = grind (arith, nat_tests)

@@ -1,13 +1,13 @@
 -- What answers a command is what it asks for, however it was made.
-use Rattle.program_run.proofs.Common.{nat_tests, arith, ◌≡◌, ℕ, ℤ, Bool, List, length, Ok, Option, Result, Source, Written, NamedFiles, Taken, Format, Ask, Command, Request, most_of, form_said, names_of, source_of, Status, ties_of, form_in, OnWriting, Last, format_in, DeliversAnswer, IsAnswer, IsAskedOf, IsExtended, IsExtension, IsSaidTo, DeliversHeadline, IsAskedAt, IsHeadline}
+use Rattle.program_run.proofs.Common.{nat_tests, arith, ◌≡◌, ℕ, ℤ, Bool, List, length, Ok, Option, Result, Source, Written, NamedFiles, Taken, Format, Slack, Ask, Command, Request, most_of, form_said, names_of, source_of, Status, ties_of, form_in, OnWriting, Last, format_in, DeliversAnswer, IsAnswer, IsAskedOf, IsExtended, IsExtension, IsSaidTo, DeliversHeadline, IsAskedAt, IsHeadline}
 use Rattle.program_run.proofs.Answering.{planned_is}
 
 -- ---- the source
 
 -- a text that says a source says its form
-form_of_source : (format : Format) (text : List ℕ) (s : Source) → source_of format text ≡ Ok s
-    → form_said format text ≡ Ok s.form
-form_of_source format text s e = grind (arith, nat_tests)
+form_of_source : (slack : Slack) (format : Format) (text : List ℕ) (s : Source)
+    → source_of slack format text ≡ Ok s → form_said format text ≡ Ok s.form
+form_of_source slack format text s e = grind (arith, nat_tests)
 
 -- ---- what is asked
 
@@ -32,7 +32,7 @@ headline_of words held command text answer =
       written = answer.from.text;
       found = answer.from.found;
       source = s;
-      says = form_of_source format answer.from.text s answer.from.says;
+      says = form_of_source command.slack format answer.from.text s answer.from.says;
       small = answer.small;
       base = answer.plan.base;
       placed = (planned_is words held command answer.plan answer.planned).placed;
@@ -43,8 +43,8 @@ headline_of words held command text answer =
         last = answer.asked.last;
         read = answer.asked.read;
         said = asked_so s most (names_of format answer.from.text) m
-            (IsExtended format s most answer.plan m)
-            (IsExtension (ties_of answer.plan.base) format s most m)
+            (IsExtended command s answer.plan m)
+            (IsExtension (ties_of answer.plan.base) command s m)
             (λ x t is. is.extension) command.ask answer.asked.last text answer.asked.said;
       };
     }

@@ -1,45 +1,21 @@
 -- A model that is solved, or too wide.
-use Rattle.program_run.proofs.Common.{nat_tests, ◌≡◌, ◌<◌, ◌≤◌, ℕ, zero, suc, Bool, true, false, List, [], Ok, Err, Some, None, refl, ap, arith, nat_lt, le-ltb, Written, width, IsWithinWidth, IsFirstWider, Status, SolveAnswer, Plan, IsUnsolved, IsModelled, EndsOf, unsolved, NamedFiles, WordAt, text_at, first_wide, refuses_on, Steps, Last, Nothing, InOrder, Refuses, ends, ordered, wide_below, width_end, TheFirstWideNodeIsNamed, TooWide, AreFilesOf, AreRead, Counts, Which, read_wanting}
+use Rattle.program_run.proofs.Common.{nat_tests, ◌≡◌, ℕ, List, [], Ok, Err, Some, None, ap, arith, Written, IsWithinWidth, IsFirstWider, Status, SolveAnswer, Plan, IsUnsolved, IsModelled, EndsOf, unsolved, NamedFiles, WordAt, text_at, first_wide, from_last, usual_widths, refuses_on, Steps, Last, InOrder, Refuses, ends, ordered, width_end, TheFirstWideNodeIsNamed, TooWide, AreFilesOf, AreRead, Counts, Which, read_wanting}
 use Rattle.run_steps.specs.declared.status.Status.TheVariants.{TooWide}
 use Rattle.basic_solve.specs.declared.answer.SolveAnswer.TheVariants as solving
 use Rattle.run_steps.specs.Steps.{solving as solving_steps}
 
--- no node below this one is too wide
-narrow_below : (m : Written) (n : ℕ) → ((v : ℕ) → v < n → width m v ≤ 16) → wide_below m n ≡ None
-narrow_below m zero narrow = refl
-narrow_below m (suc v) narrow =
-    rw (le-ltb 16 (width m v) (narrow v (omega arith)))
-    (narrow_below m v (λ u less. narrow u (omega (arith, less))))
-
--- the nodes from one on are not too wide, but for that one
-wider_step : (m : Written) (v w n : ℕ) (b : Bool) → nat_lt v n ≡ b → v < suc n → width m v ≡ w
-    → 16 < w → ((u : ℕ) → v < u → u < suc n → width m u ≤ 16)
-    → (v < n → wide_below m n ≡ Some (v, w)) → wide_below m (suc n) ≡ Some (v, w)
-wider_step m v w n true e less has wide first rest =
-    let below : v < n = grind (arith, e) in
-    rw (le-ltb 16 (width m n) (first n below (omega arith))) (rest below)
-wider_step m v w n false e less has wide first rest = grind (arith, nat_tests)
-
-wider_below : (m : Written) (v w n : ℕ) → v < n → width m v ≡ w → 16 < w
-    → ((u : ℕ) → v < u → u < n → width m u ≤ 16) → wide_below m n ≡ Some (v, w)
-wider_below m v w zero less has wide first = absurd (omega (arith, less))
-wider_below m v w (suc n) less has wide first =
-    wider_step m v w n (nat_lt v n) refl less has wide first
-    (λ below. wider_below m v w n below has wide (λ u more few. first u more (omega (arith, few))))
-
 pub first_wide_node : TheFirstWideNodeIsNamed
-first_wide_node = record {
-  none = λ m narrow. narrow_below m m.nodes narrow;
-  first = λ m v w wide. wider_below m v w m.nodes wide.node wide.has wide.wide wide.first;
-}
+first_wide_node = record { none = usual_widths.none 16; first = usual_widths.some 16 }
 
 pub narrow_ends : (m : Written) → IsWithinWidth 16 m
-    → (solving_steps [] [] None m).end ≡ Some (Ok Nothing)
-narrow_ends m narrow = ap (λ wide. Some (width_end Nothing wide)) (first_wide_node.none m narrow)
+    → (solving_steps [] [] None m).end ≡ Some (Ok (InOrder (from_last m.nodes)))
+narrow_ends m narrow =
+    ap (λ wide. Some (width_end (from_last m.nodes) wide)) (first_wide_node.none m narrow)
 
 wide_ends : (m : Written) (v w : ℕ) → IsFirstWider 16 m v w
     → (solving_steps [] [] None m).end ≡ Some (Err (TooWide v w))
-wide_ends m v w wide = ap (λ node. Some (width_end Nothing node)) (first_wide_node.first m v w wide)
+wide_ends m v w wide =
+    ap (λ node. Some (width_end (from_last m.nodes) node)) (first_wide_node.first m v w wide)
 
 -- a model that is not solved ends the plan
 pub unsolved_ends : (plan : Plan) (m : Written) (answer : SolveAnswer) (steps : Written → Steps Last)
@@ -60,7 +36,7 @@ unsolved_usually plan m answer made wide =
 
 module _ (words : List (List ℕ)) (held : NamedFiles) (at : WordAt) (m : Written) where
   abbrev rest : List ℕ → Steps Last
-  rest order = ends (width_end (InOrder order) (first_wide 16 m [] order))
+  rest order = ends (width_end order (first_wide 16 m [] order))
 
   pub order_refuses : (status : Status) → Refuses status (ordered held (text_at words at) m.nodes)
       → Refuses status (solving_steps words held (Some at) m)

@@ -26,7 +26,7 @@ model_text_some last m text is =
     grind (arith, nat_tests, same_some, model_some, summary_some, size_some)
 
 -- what is asked of a model is told in some rows
-pub solved_some : (order : Option (List ℕ)) (read : Read) (m : Written) (text : List ℕ)
+pub solved_some : (order : List ℕ) (read : Read) (m : Written) (text : List ℕ)
     → IsSolvedBy order read m text → text ≢ []
 solved_some order read m text is = same_some text _ is.said (grind (arith, nat_tests, ints))
 

@@ -1,7 +1,9 @@
 -- A model of the problem that a source is read into stands for the source.
-use Rattle.program_run.proofs.Common.{nat_tests, ◌≡◌, ◌≤◌, ℕ, ℤ, ◌+ℤ◌, ◌*ℤ◌, Bool, List, take, refl, sym, ap, ◌∙◌, subst, arith, take-take, take-map, Kind, Form, Source, Figures, Decoding, Relaxes, first_decoded, rewritten_relaxes, Written, IsWellFormed, form_of, decoding_of, read_off, IsBounded, HasUnit, HasChains, scale_of, DecodesAlike, relaxes_alike, StandsAtLeast, IsLeast, relaxed_stands, standing_is_faithful, rewritten_stands, UnitChoice, FitsFields, upper, Read, StandsFor, ChainStrength, decoding_to, StandsBy, Placement, ties_of, demand_of, EveryStateStands, IsModelFor, Choi, Cut, Global}
+use Rattle.program_run.proofs.Common.{nat_tests, ◌≡◌, ◌≤◌, ℕ, ℤ, Option, ◌+ℤ◌, ◌*ℤ◌, Bool, List, take, None, refl, sym, ap, ◌∙◌, subst, arith, take-take, take-map, Kind, Form, IsOf, Source, Figures, Decoding, RelaxesBy, StaysAbove, first_decoded, rewritten_by, Written, IsWellFormed, form_of, decoding_of, read_off, IsBounded, HasUnit, HasChains, scale_of, DecodesAlike, by_alike, stays_above_alike, StandsAtLeast, IsLeast, relaxed_stands, standing_is_faithful, rewritten_stands, UnitChoice, FitsFields, upper, Read, CostsAs, StandsFor, bounded, stays_stood_for, ChainStrength, Format, Command, PenaltyScope, decoding_to, StandsBy, StaysBy, Placement, ties_of, demand_of, EveryStateStands, EveryStateStays, IsModelFor, Choi, Cut, Global, Local}
 use Rattle.run_steps.specs.Placements.{kind_of}
 use Rattle.problem_form.specs.Problems as problems
+use Rattle.command_words.specs.declared.commands.Format.TheVariants.{Wbo}
+use Rattle.program_run.proofs.Wanted.{HasSoft}
 
 -- the first variables of what a state is read as are what it is read as for them
 take-read_off : (kind : Kind) (a b : ℕ) (chains : List (List ℕ)) (y : List Bool) → a ≤ b
@@ -23,7 +25,8 @@ stands_alike f g d d' u n alike p = record {
 }
 
 -- what a model of a problem has, wherever it stands
-pub record IsMade (r : Read) (choice : UnitChoice) (ties : ChainStrength) (m : Written) : Type 0 where
+pub record IsMade (scope : PenaltyScope) (r : Read) (choice : UnitChoice) (ties : ChainStrength)
+    (m : Written) : Type 0 where
   pub fits : FitsFields m
   pub bounded : IsBounded m
   pub well_formed : IsWellFormed m
@@ -31,10 +34,22 @@ pub record IsMade (r : Read) (choice : UnitChoice) (ties : ChainStrength) (m : W
   pub scale : m.figures.scale ≡ scale_of m.kind
   pub threshold : m.figures.threshold ≡ m.figures.scale *ℤ upper r.problem +ℤ m.figures.offset
   pub unit : HasUnit choice m
-  pub stands : StandsBy ties Global (problems.form_of r.problem) (form_of m)
+  pub stands : StandsBy ties scope (problems.form_of r.problem) (form_of m)
       (decoding_to r.problem.variables m) m.unit m.figures
 
-module _ (unit : UnitChoice) (s : Source) (r : Read) (m : Written) (stands : StandsFor s r)
+every_by : (ties : ChainStrength) (scope : PenaltyScope) (s : Source) (m : Written)
+    → (ties ≡ Choi → RelaxesBy scope s.form (form_of m) (decoding_of m) m.unit m.figures)
+    → EveryStateStands ties scope s m
+every_by Choi Global s m relaxed = relaxed refl
+every_by Choi Local s m relaxed = relaxed refl
+every_by Cut scope s m relaxed = tt
+
+relaxes_width : (scope : PenaltyScope) (f g : Form) (d : Decoding) (u : ℤ) (n : Figures)
+    → RelaxesBy scope f g d u n → (y : List Bool) → IsOf g y → IsOf f (d.decoded y)
+relaxes_width Global f g d u n relaxes y w = relaxes.width y w
+relaxes_width Local f g d u n relaxes y w = relaxes.width y w
+
+module _ (scope : PenaltyScope) (s : Source) (r : Read) (m : Written) (stands : StandsFor scope s r)
     (variables : m.variables ≡ r.variables) where
   bits : m.variables ≡ s.form.bits
   bits = variables ∙ stands.variables
@@ -43,14 +58,15 @@ module _ (unit : UnitChoice) (s : Source) (r : Read) (m : Written) (stands : Sta
       (decoding_of m)
   alike y w = grind (arith, nat_tests, bits, take-read_off)
 
-  source_relaxed : Relaxes (problems.form_of r.problem) (form_of m)
+  source_relaxed : RelaxesBy scope (problems.form_of r.problem) (form_of m)
       (decoding_to r.problem.variables m) m.unit m.figures
-      → Relaxes s.form (form_of m) (decoding_of m) m.unit m.figures
+      → RelaxesBy scope s.form (form_of m) (decoding_of m) m.unit m.figures
   source_relaxed relaxes =
-      relaxes_alike s.form s.form (form_of m)
+      by_alike scope s.form s.form (form_of m)
       (first_decoded s.form.bits (decoding_to r.problem.variables m)) (decoding_of m)
       m.unit m.figures (record { width = refl; costs = λ x. refl }) alike
-      (rewritten_relaxes stands.rewrites relaxes)
+      (rewritten_by scope s.form (problems.form_of r.problem) (form_of m)
+      (decoding_to r.problem.variables m) m.unit m.figures stands.rewrites relaxes)
 
   source_stands : StandsAtLeast (problems.form_of r.problem) (form_of m)
       (decoding_to r.problem.variables m) m.unit m.figures
@@ -63,33 +79,64 @@ module _ (unit : UnitChoice) (s : Source) (r : Read) (m : Written) (stands : Sta
 
   -- as its ties allow
   every : (ties : ChainStrength)
-      → StandsBy ties Global (problems.form_of r.problem) (form_of m) (decoding_to r.problem.variables m)
-      m.unit m.figures → EveryStateStands ties s m
-  every ties relaxes = grind (arith, nat_tests, source_relaxed)
+      → StandsBy ties scope (problems.form_of r.problem) (form_of m) (decoding_to r.problem.variables m)
+      m.unit m.figures → EveryStateStands ties scope s m
+  every Choi relaxes = every_by Choi scope s m (λ choi. source_relaxed relaxes)
+  every Cut standing = tt
 
   at_least : (ties : ChainStrength)
-      → StandsBy ties Global (problems.form_of r.problem) (form_of m) (decoding_to r.problem.variables m)
+      → StandsBy ties scope (problems.form_of r.problem) (form_of m) (decoding_to r.problem.variables m)
       m.unit m.figures → StandsAtLeast s.form (form_of m) (decoding_of m) m.unit m.figures
   at_least Choi relaxes =
-      relaxed_stands Global s.form (form_of m) (decoding_of m) m.unit m.figures (source_relaxed relaxes)
+      relaxed_stands scope s.form (form_of m) (decoding_of m) m.unit m.figures (source_relaxed relaxes)
   at_least Cut standing = source_stands standing
 
 -- what is made stands for the source, where it has the chains that are asked for
-pub model_stands : (unit : UnitChoice) (s : Source) (r : Read) (m : Written) → StandsFor s r
-    → (base : Placement) (nodes : ℕ) → IsMade r unit (ties_of base) m → m.kind ≡ kind_of base
-    → (demand_of unit base nodes).unit ≡ unit → HasChains m.kind (demand_of unit base nodes) m
-    → IsModelFor base unit nodes s m
-model_stands unit s r m stands base nodes made kind same chains = record {
-  kind = kind;
-  fits = made.fits;
-  bounded = made.bounded;
-  every = every unit s r m stands made.variables (ties_of base) made.stands;
-  faithful = standing_is_faithful s (demand_of unit base nodes) m made.well_formed (record {
-    variables = bits unit s r m stands made.variables;
-    scale = made.scale;
-    threshold = made.threshold
-        ∙ ap (λ upper. m.figures.scale *ℤ upper +ℤ m.figures.offset) stands.upper;
-    unit = subst (λ u. HasUnit u m) (sym same) made.unit;
-    chains = chains;
-  }) (at_least unit s r m stands made.variables (ties_of base) made.stands);
-}
+pub model_stands : (command : Command) (s : Source) (r : Read) (m : Written)
+    → StandsFor command.penalty s r → (base : Placement) (nodes : ℕ)
+    → IsMade command.penalty r command.unit (ties_of base) m → m.kind ≡ kind_of base
+    → (demand_of command.unit base nodes).unit ≡ command.unit
+    → HasChains m.kind (demand_of command.unit base nodes) m → IsModelFor base command nodes s m
+model_stands command s r m stands base nodes made kind same chains =
+    let scope = command.penalty in
+    record {
+      kind = kind;
+      fits = made.fits;
+      bounded = made.bounded;
+      every = every scope s r m stands made.variables (ties_of base) made.stands;
+      faithful = standing_is_faithful s (demand_of command.unit base nodes) m made.well_formed (record {
+        variables = bits scope s r m stands made.variables;
+        scale = made.scale;
+        threshold = made.threshold
+            ∙ ap (λ upper. m.figures.scale *ℤ upper +ℤ m.figures.offset) stands.upper;
+        unit = subst (λ u. HasUnit u m) (sym same) made.unit;
+        chains = chains;
+      }) (at_least scope s r m stands made.variables (ties_of base) made.stands);
+    }
+
+-- ---- what no state lies below
+
+module _ (scope : PenaltyScope) (most : Option ℤ) (s : Source) (r : Read) (m : Written)
+    (stands : StandsFor scope (bounded most s) r) (costs : CostsAs most s r)
+    (variables : m.variables ≡ r.variables) where
+  plain_stays : r.soft ≡ None → RelaxesBy scope (problems.form_of r.problem) (form_of m)
+      (decoding_to r.problem.variables m) m.unit m.figures
+      → StaysAbove (problems.form_of r.problem) (form_of m) (decoding_to r.problem.variables m) m.unit
+      m.figures → StaysAbove (bounded most s).form (form_of m) (decoding_of m) m.unit m.figures
+  plain_stays none relaxes stays =
+      let f = (bounded most s).form in
+      let d = decoding_to r.problem.variables m in
+      stays_above_alike f f (form_of m) (first_decoded s.form.bits d) (decoding_of m) m.unit m.figures
+      (record { width = refl; costs = λ x. refl }) (alike scope (bounded most s) r m stands variables)
+      (stays_stood_for most s r costs none (form_of m) d m.unit m.figures
+      (relaxes_width scope (problems.form_of r.problem) (form_of m) d m.unit m.figures relaxes) stays)
+
+  -- as its ties and its format allow
+  pub state_stays : (ties : ChainStrength) (format : Format) → HasSoft format r.soft
+      → StandsBy ties scope (problems.form_of r.problem) (form_of m) (decoding_to r.problem.variables m)
+      m.unit m.figures
+      → StaysBy ties (problems.form_of r.problem) (form_of m) (decoding_to r.problem.variables m)
+      m.unit m.figures → EveryStateStays ties format (bounded most s) m
+  state_stays Cut format soft stand stay = tt
+  state_stays Choi Wbo soft stand stay = tt
+  state_stays Choi format soft stand stay = plain_stays soft stand stay

@@ -13,7 +13,7 @@ pub record IsTaken (words : List (List ℕ)) (held : NamedFiles) (command : Comm
   pub text : List ℕ
   pub found : IsTextIn words held command.origin text
   pub own : Read
-  pub read : problem_of (format_in command.origin) text ≡ Ok own
+  pub read : problem_of command.slack (format_in command.origin) text ≡ Ok own
   pub given : wanted command own ≡ made
   pub within : limit_fault command.choices.normal made.problem ≡ None
 
@@ -22,8 +22,9 @@ pub source_is_taken : (words : List (List ℕ)) (held : NamedFiles) (command : C
 unfolding checking reading_source
 source_is_taken words held command read e =
     let origin = command.origin in
-    let checked = bound (reading_source words held origin) (λ r. ends (limited command r)) read e in
+    let slack = command.slack in
+    let checked = bound (reading_source words held slack origin) (λ r. ends (limited command r)) read e in
     let within : limited command checked.0 ≡ Ok read = let two = checked.2 in cc in
     let taken = bound (sourcing words held origin)
-    (λ text. ends (text_end Source (problem_of (format_in origin) text))) checked.0 checked.1 in
+    (λ text. ends (text_end Source (problem_of slack (format_in origin) text))) checked.0 checked.1 in
     grind (arith, nat_tests, sourced_is_held)

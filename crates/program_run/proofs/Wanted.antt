@@ -1,32 +1,29 @@
 -- What a command wants of what was read stands for the source and costs as it does.
-use Rattle.program_run.proofs.Common.{nat_tests, arith, ⊤, ◌≡◌, ℕ, ℤ, List, None, Ok, Option, Source, WboContent, Format, Slack, Command, most_of, Read, CostsAs, StandsBounded, StandsFor, bounded, bounded_read, problem_of, cleared_costs, cleared_stands, slacked, wanted}
+use Rattle.program_run.proofs.Common.{nat_tests, arith, ⊤, ◌≡◌, ℕ, ℤ, List, None, Ok, Option, refl, subst, ◌∙◌, ap, sym, Source, WboContent, Format, Slack, Command, PenaltyScope, most_of, Read, AreEnoughIn, CostsAs, StandsBounded, StandsFor, bounded, bounded_read, penalized, problem_of, penalized_costs, penalized_stands, slacked_costs, slacked_stands, prepared, wanted, Global, Local}
 use Rattle.command_words.specs.declared.commands.Format.TheVariants.{Wbo}
-use Rattle.command_words.specs.declared.commands.Slack.TheVariants.{Bits, Pairs}
-
-slacked_stands : (s : Source) (slack : Slack) (own : Read) → StandsBounded s own
-    → StandsBounded s (slacked slack own)
-slacked_stands s slack own stands = grind (arith, nat_tests, cleared_stands s own stands)
-
-slacked_costs : (s : Source) (slack : Slack) (own : Read) (most : Option ℤ)
-    → CostsAs s (bounded_read most own) → CostsAs s (bounded_read most (slacked slack own))
-slacked_costs s Bits own most costs = costs
-slacked_costs s Pairs own most costs = cleared_costs s (bounded_read most own) costs
-
-slacked_names : (slack : Slack) (own : Read) → (slacked slack own).names ≡ own.names
-slacked_names slack own = grind (arith, nat_tests)
 
 pub stands_wanted : (s : Source) (command : Command) (own : Read) → StandsBounded s own
-    → StandsFor (bounded (most_of command.bound) s) (wanted command own)
-stands_wanted s command own stands =
-    slacked_stands s command.slack own stands (most_of command.bound)
+    → AreEnoughIn command.penalty (wanted command own)
+    → StandsFor command.penalty (bounded (most_of command.bound) s) (wanted command own)
+stands_wanted s command own stands enough =
+    let most = most_of command.bound in
+    penalized_stands command.penalty (bounded most s) (prepared command own)
+    (slacked_stands command.slack s own stands most) enough
 
 pub costs_wanted : (s : Source) (command : Command) (own : Read)
-    → ((most : Option ℤ) → CostsAs s (bounded_read most own)) → CostsAs s (wanted command own)
+    → ((most : Option ℤ) → CostsAs most s (bounded_read most own))
+    → CostsAs (most_of command.bound) s (wanted command own)
 costs_wanted s command own costs =
-    slacked_costs s command.slack own (most_of command.bound) (costs (most_of command.bound))
+    let most = most_of command.bound in
+    penalized_costs command.penalty most s (prepared command own)
+    (slacked_costs command.slack most s own (costs most))
+
+penalized_names : (scope : PenaltyScope) (r : Read) → (penalized scope r).names ≡ r.names
+penalized_names Global r = refl
+penalized_names Local r = refl
 
 pub wanted_names : (command : Command) (own : Read) → (wanted command own).names ≡ own.names
-wanted_names command own = slacked_names command.slack own
+wanted_names command own = penalized_names command.penalty (prepared command own)
 
 -- ---- soft constraints
 
@@ -35,10 +32,16 @@ abbrev pub HasSoft : Format → Option WboContent → Type 0
 HasSoft Wbo soft = ⊤
 HasSoft format soft = soft ≡ None
 
-pub soft_read : (format : Format) (text : List ℕ) (r : Read) → problem_of format text ≡ Ok r
-    → HasSoft format r.soft
-soft_read format text r e = grind (arith, nat_tests)
+pub soft_read : (slack : Slack) (format : Format) (text : List ℕ) (r : Read)
+    → problem_of slack format text ≡ Ok r → HasSoft format r.soft
+soft_read slack format text r e = grind (arith, nat_tests)
+
+penalized_soft : (scope : PenaltyScope) (r : Read) → (penalized scope r).soft ≡ r.soft
+penalized_soft Global r = refl
+penalized_soft Local r = refl
 
 pub soft_wanted : (format : Format) (command : Command) (own made : Read)
     → wanted command own ≡ made → HasSoft format own.soft → HasSoft format made.soft
-soft_wanted format command own made given has = grind (arith, nat_tests)
+soft_wanted format command own made given has =
+    subst (HasSoft format)
+    (sym (penalized_soft command.penalty (prepared command own)) ∙ ap (λ (r : Read). r.soft) given) has

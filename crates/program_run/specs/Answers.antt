@@ -1,12 +1,13 @@
 -- What a command answers of the held files, and how the answer is delivered.
-use Rattle.std.specs.Prelude.{◌≡◌, ◌≢◌, ℕ, ◌+◌, ◌≤◌, ℤ, ◌+ℤ◌, ◌*ℤ◌, ◌≤ℤ◌, ◌<ℤ◌, Bool, List, [], length, map, reverse, Ok, Err, Some, None, Result, ⊤}
+use Rattle.std.specs.Prelude.{◌≡◌, ◌≢◌, ℕ, ◌+◌, ◌≤◌, ℤ, ◌+ℤ◌, ◌*ℤ◌, ◌≤ℤ◌, ◌<ℤ◌, Bool, List, [], length, map, reverse, Ok, Err, Some, Result, ⊤}
 use Rattle.std.specs.declared.option.Option.{Option}
 use Rattle.edge_io.specs.Held.{NamedFiles, find_file}
 use Rattle.edge_io.specs.Sinks.{Taken, Takes, TakesFront}
-use Rattle.base.specs.declared.unit.UnitChoice.{UnitChoice}
-use Rattle.base.specs.Costs.{Form, IsOf, Source, energy}
+use Rattle.base.specs.Costs.{IsOf, Source, energy}
 use Rattle.base.specs.declared.costs.Cost.TheVariants.{Whole}
-use Rattle.form_steps.specs.Relations.{Relaxes}
+use Rattle.form_steps.specs.declared.scope.PenaltyScope.{PenaltyScope}
+use Rattle.form_steps.specs.declared.scope.PenaltyScope.TheVariants.{Global, Local}
+use Rattle.form_steps.specs.Relations.{Relaxes, RelaxesAtLeast, StaysAbove}
 use Rattle.bits_model.specs.Output.{Written, form_of, decoding_of}
 use Rattle.model_pipeline.specs.faithful.Bounds.{IsBounded}
 use Rattle.model_pipeline.specs.faithful.Faithful.{Faithful}
@@ -38,7 +39,6 @@ use Rattle.answer_text.specs.Sizes.{size_text}
 use Rattle.state_file.specs.States.{StateLine}
 use Rattle.state_scores.specs.Scores.{IsSmall, Judgement, best_of, score_of}
 use Rattle.state_scores.specs.Texts.{evaluation_text}
-use Rattle.basic_solve.specs.FirstLeast.{IsFirstLeast}
 use Rattle.elimination_order.specs.Renumbered.{IsFirstLeastBy}
 use Rattle.model_pipeline.specs.faithful.Told.{TellsOptimum, whole_energy}
 use Rattle.model_pipeline.specs.Extensions.{form_nodes_by, extension_of, state_by}
@@ -46,7 +46,7 @@ use Rattle.run_steps.specs.declared.placements.Placement.{Placement}
 use Rattle.run_steps.specs.declared.plans.Plan.{Plan}
 use Rattle.run_steps.specs.Placements.{kind_of, ties_of, demand_of}
 use Rattle.run_steps.specs.Plans.{form_in, IsModelBy}
-use Rattle.run_steps.specs.Steps.{Last, Nothing, Bits, InOrder, Several, format_in, planning, last_step}
+use Rattle.run_steps.specs.Steps.{Last, Bits, InOrder, Several, format_in, planning, last_step}
 use Rattle.program_run.specs.declared.answer.Answer.{Answer}
 use Rattle.program_run.specs.declared.answer.Answer.TheVariants.{Model, Scores, Text}
 use Rattle.run_steps.specs.declared.status.Status.{Status}
@@ -63,29 +63,40 @@ IsTextIn words held (File format at) text = find_file held (text_at words at) �
 IsTextIn words held (Drawn number clauses) text = text ≡ sample_text number clauses
 
 -- the source's text says this source
-pub record IsSaidBy (words : List (List ℕ)) (held : NamedFiles) (origin : Origin) (source : Source)
+pub record IsSaidBy (words : List (List ℕ)) (held : NamedFiles) (command : Command) (source : Source)
     : Type 0 where
   pub text : List ℕ
-  pub found : IsTextIn words held origin text
-  pub says : source_of (format_in origin) text ≡ Ok source
+  pub found : IsTextIn words held command.origin text
+  pub says : source_of command.slack (format_in command.origin) text ≡ Ok source
 
--- every state of a model stands for the source, unless its ties are only as strong as least states
--- ask
-abbrev pub EveryStateStands : ChainStrength → Source → Written → Type 0
-EveryStateStands Choi source model =
-    Relaxes source.form (form_of model) (decoding_of model) model.unit model.figures
-EveryStateStands Cut source model = ⊤
+-- every state of a model stands for the source or, with a penalty for each part, does so at least,
+-- unless its ties are only as strong as least states ask
+abbrev pub EveryStateStands : ChainStrength → PenaltyScope → Source → Written → Type 0
+EveryStateStands Choi Global source m =
+    Relaxes source.form (form_of m) (decoding_of m) m.unit m.figures
+EveryStateStands Choi Local source m =
+    RelaxesAtLeast source.form (form_of m) (decoding_of m) m.unit m.figures
+EveryStateStands Cut scope source m = ⊤
 
--- a model that stands there with so many nodes, every state of which stands for the source as its
--- ties allow, and whose least states are the least assignments of the source; its energies are below
--- 2 ^ 121 in size, and all numbers that are written below 2 ^ 124
-pub record IsModelFor (base : Placement) (unit : UnitChoice) (nodes : ℕ) (source : Source)
+-- no state of a model lies below the whole cost that it decodes to; it may where soft constraints are
+-- rewritten, with a penalty for each part, and where ties are only as strong as least states ask
+abbrev pub EveryStateStays : ChainStrength → Format → Source → Written → Type 0
+EveryStateStays Cut format source m = ⊤
+EveryStateStays Choi Wbo source m = ⊤
+EveryStateStays Choi format source m =
+    StaysAbove source.form (form_of m) (decoding_of m) m.unit m.figures
+
+-- a model that stands there with so many nodes, as a command asks, every state of which stands for the
+-- source as its ties and the scope of its penalties allow, and whose least states are the least
+-- assignments of the source; its energies are below 2 ^ 121 in size, and all numbers that are written
+-- below 2 ^ 124
+pub record IsModelFor (base : Placement) (command : Command) (nodes : ℕ) (source : Source)
     (model : Written) : Type 0 where
   pub kind : model.kind ≡ kind_of base
   pub fits : FitsFields model
   pub bounded : IsBounded model
-  pub every : EveryStateStands (ties_of base) source model
-  pub faithful : Faithful source (demand_of unit base nodes) model
+  pub every : EveryStateStands (ties_of base) command.penalty source model
+  pub faithful : Faithful source (demand_of command.unit base nodes) model
 
 -- ---- what is said of it
 
@@ -116,25 +127,29 @@ IsLeastWhereWhole source model x state =
     (v : ℤ) → source.form.cost x ≡ Whole v → IsLeastExtension model x state
 
 -- the state is a least one that decodes to the assignment: always, with soft constraints where the
--- cost is whole, and not promised where ties are only as strong as least states ask
-abbrev pub IsLeastAsked : ChainStrength → Format → Source → Written → List Bool → List Bool → Type 0
-IsLeastAsked Cut format source model x state = ⊤
-IsLeastAsked Choi Wbo source model x state = IsLeastWhereWhole source model x state
-IsLeastAsked Choi format source model x state = IsLeastExtension model x state
+-- cost is whole, and not promised with these and penalties for each part, nor where ties are only as
+-- strong as least states ask
+abbrev pub IsLeastAsked : ChainStrength → PenaltyScope → Format → Source → Written
+    → List Bool → List Bool → Type 0
+IsLeastAsked Cut scope format source model x state = ⊤
+IsLeastAsked Choi Local Wbo source model x state = ⊤
+IsLeastAsked Choi scope Wbo source model x state = IsLeastWhereWhole source model x state
+IsLeastAsked Choi scope format source model x state = IsLeastExtension model x state
 
 -- the text is a state of the model that extends an assignment of the source, with what the assignment
 -- costs the source, and the energy of the state; the state extends it where the bounded cost is whole
-pub record IsExtension (ties : ChainStrength) (format : Format) (source : Source) (most : Option ℤ)
-    (model : Written) (x : List Bool) (text : List ℕ) : Type 0 where
+pub record IsExtension (ties : ChainStrength) (command : Command) (source : Source) (model : Written)
+    (x : List Bool) (text : List ℕ) : Type 0 where
   pub state : List Bool
-  pub extends : Extends (bounded most source) model x state
-  pub least : IsLeastAsked ties format (bounded most source) model x state
+  pub extends : Extends (bounded (most_of command.bound) source) model x state
+  pub least : IsLeastAsked ties command.penalty (format_in command.origin)
+      (bounded (most_of command.bound) source) model x state
   pub said : text ≡ extension_text state (source.form.cost x) (energy (form_of model) state)
 
 -- and the state is the one that the steps of the plan make of the assignment
-pub record IsExtended (format : Format) (source : Source) (most : Option ℤ) (plan : Plan)
-    (model : Written) (x : List Bool) (text : List ℕ) : Type 0 where
-  pub extension : IsExtension (ties_of plan.base) format source most model x text
+pub record IsExtended (command : Command) (source : Source) (plan : Plan) (model : Written)
+    (x : List Bool) (text : List ℕ) : Type 0 where
+  pub extension : IsExtension (ties_of plan.base) command source model x text
   pub exact : extension.state ≡ state_by model.kind model
       (extension_of plan.choices plan.read.problem (carried plan.read.soft x))
 
@@ -146,18 +161,13 @@ pub record TellsSource (source : Source) (model : Written) (state : List Bool) :
   pub infeasible : model.figures.threshold <ℤ whole_energy model state
       → ¬ (IsFeasible source.form)
 
--- the state is the first least one, where states are compared from node 0 on or, with an order, from
--- its last node on
-abbrev pub IsFirstBy : Option (List ℕ) → Form → List Bool → Type 0
-IsFirstBy None g y = IsFirstLeast g y
-IsFirstBy (Some order) g y = IsFirstLeastBy (reverse order) g y
-
--- the text is the first least state of the model, its energy, and what it decodes to with what that
+-- the text is the first least state of the model, where states are compared from the node on that is
+-- eliminated last in this order, its energy, and what it decodes to with what that
 -- costs the bounded source, of which the state tells
-pub record IsSolved (order : Option (List ℕ)) (source : Source) (most : Option ℤ)
+pub record IsSolved (order : List ℕ) (source : Source) (most : Option ℤ)
     (names : Option (List (List ℕ))) (model : Written) (text : List ℕ) : Type 0 where
   pub state : List Bool
-  pub first : IsFirstBy order (form_of model) state
+  pub first : IsFirstLeastBy (reverse order) (form_of model) state
   pub tells : TellsSource (bounded most source) model state
   pub said : text ≡ solution_text state (energy (form_of model) state)
       ((decoding_of model).decoded state) names
@@ -199,10 +209,8 @@ abbrev pub IsAskedOf : Ask → Source → Option ℤ → Option (List (List ℕ)
 IsAskedOf asks.Model source most names P model last text = IsTextOf model text
 IsAskedOf asks.Summary source most names P model last text = text ≡ summary_text model
 IsAskedOf asks.Size source most names P model last text = text ≡ size_text model
-IsAskedOf (asks.Solve at) source most names P model Nothing text =
-    IsSolved None source most names model text
 IsAskedOf (asks.Solve at) source most names P model (InOrder order) text =
-    IsSolved (Some order) source most names model text
+    IsSolved order source most names model text
 IsAskedOf (asks.Decode at) source most names P model (Bits bits) text =
     IsDecoded source names model bits text
 IsAskedOf (asks.Evaluate at) source most names P model (Several states) text =
@@ -226,23 +234,26 @@ pub record IsAsked (words : List (List ℕ)) (held : NamedFiles) (command : Comm
 
 -- the text answers the command: it is what is asked of the model that the command's plan makes of
 -- its source, with what is read once the model stands; the model stands for the source whose
--- assignments may cost at most the command's bound, whole costs of the source are below 2 ^ 64 in size,
--- and the model's nodes are at most the problem's variables and the auxiliary bits
+-- assignments may cost at most the command's bound, its states lie at or above whole costs where that
+-- is promised, whole costs of the source are below 2 ^ 64 in size, and the model's nodes are at most the
+-- problem's variables and the auxiliary bits
 pub record IsAnswer (words : List (List ℕ)) (held : NamedFiles) (command : Command) (text : List ℕ)
     : Type 0 where
   pub source : Source
-  pub from : IsSaidBy words held command.origin source
+  pub from : IsSaidBy words held command source
   pub plan : Plan
   pub planned : (planning words held command).end ≡ Some (Ok plan)
   pub model : Written
   pub by : IsModelBy plan model
-  pub stands : IsModelFor plan.base command.unit (length (form_in plan).fields)
+  pub stands : IsModelFor plan.base command (length (form_in plan).fields)
+      (bounded (most_of command.bound) source) model
+  pub stays : EveryStateStays (ties_of plan.base) (format_in command.origin)
       (bounded (most_of command.bound) source) model
   pub small : (x : List Bool) → IsOf source.form x → IsSmall (source.form.cost x)
   pub few : form_nodes_by model.kind model
       ≤ plan.read.problem.variables + auxiliary_bits plan.choices.normal plan.read.problem
   pub asked : IsAsked words held command
-      (IsExtended (format_in command.origin) source (most_of command.bound) plan model)
+      (IsExtended command source plan model)
       from.text source model text
 
 -- the text is what is asked for: what a notice says, or one of which P holds for a command

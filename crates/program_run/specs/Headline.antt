@@ -30,7 +30,7 @@ pub record IsHeadline (words : List (List ℕ)) (held : NamedFiles) (command : C
   pub placed : (placing words held command.target).end ≡ Some (Ok base)
   pub nodes : ℕ
   pub model : Written
-  pub stands : IsModelFor base command.unit nodes (bounded (most_of command.bound) source) model
+  pub stands : IsModelFor base command nodes (bounded (most_of command.bound) source) model
   pub asked : P written source base model text
 
 -- the text is what a command asks of a model that stands there, for a source of this text
@@ -38,8 +38,7 @@ abbrev pub IsAskedAt : List (List ℕ) → NamedFiles → Command → List ℕ �
     → List ℕ → Type 0
 IsAskedAt words held command written source base model text =
     IsAsked words held command
-    (IsExtension (ties_of base) (format_in command.origin) source (most_of command.bound) model)
-    written source model text
+    (IsExtension (ties_of base) command source model) written source model text
 
 -- the text is what the words ask for
 abbrev pub IsHeadlined : List (List ℕ) → NamedFiles → List ℕ → Type 0

@@ -1,5 +1,5 @@
 -- What is answered once the model of a plan is made, in terms of the problem that was read.
-use Rattle.std.specs.Prelude.{◌≡◌, ◌<◌, ◌^◌, ℕ, ℤ, pos, Bool, List, [], length, Ok, Option, Some, None, Contains, ⊤}
+use Rattle.std.specs.Prelude.{◌≡◌, ◌<◌, ◌^◌, ℕ, ℤ, pos, Bool, List, [], length, reverse, Ok, Some, None, Contains, ⊤}
 use Rattle.std.specs.List.{slice_index_or}
 use Rattle.base.specs.declared.costs.Cost.{Cost}
 use Rattle.base.specs.Costs.{energy}
@@ -7,7 +7,7 @@ use Rattle.bits_model.specs.declared.output.Kind.TheVariants.{Qubo}
 use Rattle.bits_model.specs.Output.{Written, form_of, decoding_of}
 use Rattle.problem_form.specs.declared.limits.Choices.{Choices}
 use Rattle.problem_form.specs.declared.limits.Normal.{Normal}
-use Rattle.problem_form.specs.Problems.{ProblemContent, cut_off, own_cost}
+use Rattle.problem_form.specs.Problems.{ProblemContent, cut_off}
 use Rattle.problem_form.specs.Problems as problems
 use Rattle.problem_form.specs.Limits.{limit_fault}
 use Rattle.batch_costs.specs.Assigned.{IsPlain}
@@ -22,7 +22,7 @@ use Rattle.command_words.specs.declared.commands.ChainStrength.TheVariants.{Choi
 use Rattle.command_words.specs.declared.commands.Ask.{Ask}
 use Rattle.command_words.specs.declared.commands.Ask.TheVariants.{Model, Summary, Size, Solve, Decode, Evaluate, Extend, Prove}
 use Rattle.source_texts.specs.declared.reading.Read.{Read}
-use Rattle.source_texts.specs.Sources.{KeepsSoft, carried}
+use Rattle.source_texts.specs.Sources.{KeepsSoft, carried, said_cost}
 use Rattle.state_scores.specs.Scores.{Judgement}
 use Rattle.run_steps.specs.declared.plans.Plan.{Plan}
 use Rattle.run_steps.specs.declared.status.Status.{Status}
@@ -31,7 +31,8 @@ use Rattle.run_steps.specs.Placements.{ties_of}
 use Rattle.run_steps.specs.Plans.{CanStand, IsModelBy, Stands}
 use Rattle.run_steps.specs.Steps.{Steps, Last, Nothing, Bits, InOrder, Several, last_step}
 use Rattle.program_run.specs.Outcome.{OfModel, IsEndOf}
-use Rattle.program_run.specs.Answers.{IsFirstBy, IsScored}
+use Rattle.elimination_order.specs.Renumbered.{IsFirstLeastBy}
+use Rattle.program_run.specs.Answers.{IsScored}
 use Rattle.edge_io.specs.Held.{NamedFiles}
 
 -- the model is that of the plan, which can stand, and stands for its problem, of which it was made
@@ -41,14 +42,9 @@ pub record IsModelled (plan : Plan) (m : Written) : Type 0 where
   pub stands : Stands plan m
   pub made : IsMadeOf (ties_of plan.base) plan.read.variables plan.choices plan.read.problem m
 
--- what an assignment of the source costs, in terms of the problem that it was read into, whatever the
--- most is that it may cost
-abbrev pub read_cost : Read → List Bool → Cost
-read_cost read x = own_cost read.problem (carried read.soft x)
-
--- the same, and infinite above that most
+-- what an assignment of the source costs, and infinite above the most that it may cost
 abbrev pub bounded_cost : Read → List Bool → Cost
-bounded_cost read x = cut_off read.problem.most (read_cost read x)
+bounded_cost read x = cut_off read.problem.most (said_cost read x)
 
 -- the text is a state of the model that extends an assignment of the problem, with this cost, and the
 -- energy of the state; where ties are those that no state should break, it is a least such state
@@ -63,14 +59,13 @@ pub record IsStateText (choices : Choices) (p : ProblemContent) (m : Written) (x
 -- the text is a state of the model that extends an assignment of the source, with its cost
 abbrev pub IsExtendedBy : Choices → Read → Written → List Bool → List ℕ → Type 0
 IsExtendedBy choices read m x text =
-    IsStateText choices read.problem m (carried read.soft x) (read_cost read x) text
+    IsStateText choices read.problem m (carried read.soft x) (said_cost read x) text
 
 -- the text is the first least state of the model, its energy, and what it decodes to with what that
 -- costs the problem, infinite above its most
-pub record IsSolvedBy (order : Option (List ℕ)) (read : Read) (m : Written) (text : List ℕ)
-    : Type 0 where
+pub record IsSolvedBy (order : List ℕ) (read : Read) (m : Written) (text : List ℕ) : Type 0 where
   pub state : List Bool
-  pub first : IsFirstBy order (form_of m) state
+  pub first : IsFirstLeastBy (reverse order) (form_of m) state
   pub said : text ≡ solution_text state (energy (form_of m) state)
       ((decoding_of m).decoded state) read.names
       (bounded_cost read ((decoding_of m).decoded state))
@@ -80,7 +75,7 @@ pub record IsSolvedBy (order : Option (List ℕ)) (read : Read) (m : Written) (t
 abbrev pub state_text : Read → Written → List Bool → List ℕ
 state_text read m bits =
     decoding_text ((decoding_of m).decoded bits) read.names
-    (read_cost read ((decoding_of m).decoded bits)) (energy (form_of m) bits)
+    (said_cost read ((decoding_of m).decoded bits)) (energy (form_of m) bits)
 
 -- what is written for a state that is proved to be least: the same, with the energy first, and with a
 -- cost that is infinite above the most
@@ -93,7 +88,7 @@ least_text read m bits =
 abbrev pub judgement_by : Read → Written → Judgement
 judgement_by read m = record {
   width = m.nodes;
-  cost = λ y. read_cost read ((decoding_of m).decoded y);
+  cost = λ y. said_cost read ((decoding_of m).decoded y);
   energy = energy (form_of m);
 }
 
@@ -148,8 +143,7 @@ IsModelText ask m text = ⊥
 
 -- the text is what is asked of the model, with what is read last
 abbrev pub IsTold : Ask → Read → Choices → Written → Last → List ℕ → Type 0
-IsTold (Solve at) read choices m Nothing text = IsSolvedBy None read m text
-IsTold (Solve at) read choices m (InOrder order) text = IsSolvedBy (Some order) read m text
+IsTold (Solve at) read choices m (InOrder order) text = IsSolvedBy order read m text
 IsTold (Decode at) read choices m (Bits bits) text = text ≡ state_text read m bits
 IsTold (Evaluate at) read choices m (Several states) text =
     IsScored (judgement_by read m) read.names m states text

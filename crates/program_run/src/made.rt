@@ -1,14 +1,15 @@
 //! The answer of a command from the plan of its model: the model alone, or a state of it.
-ghost use Rattle.std.specs.Prelude.{◌≡◌, ◌≢◌, ℕ, List, [], Option, None, Some, length, IfOk, IfErr, OnOk};
+ghost use Rattle.std.specs.Prelude.{◌≡◌, ◌≢◌, ℕ, List, [], None, Some, length, reverse, IfOk, IfErr, OnOk};
 ghost use Rattle.problem_form.specs.Limits.{limit_fault};
 ghost use Rattle.bits_model.specs.Output.{form_of};
 ghost use Rattle.command_words.specs.Names.{last_files};
+ghost use Rattle.elimination_order.specs.Renumbered.{IsFirstLeastBy};
 ghost use Rattle.model_pipeline.specs.Extensions.{IsMade, IsMadeOf};
 ghost use Rattle.model_pipeline.specs.Kept.{Keeps};
 ghost use Rattle.source_texts.specs.Sources.{KeepsSoft};
 ghost use Rattle.run_steps.specs.Placements.{ties_of};
 ghost use Rattle.run_steps.specs.Steps.{Bits, asked_width, bits_at, last_step, solving};
-ghost use Rattle.program_run.specs.Answers.{text_of, IsFirstBy};
+ghost use Rattle.program_run.specs.Answers.{text_of};
 ghost use Rattle.program_run.specs.Made.{EndsOf, IsMadeText, IsModelled, IsSolvedBy, IsTold, IsMadeTextOf, keeping_for};
 ghost use Rattle.program_run.specs.Unembedded.{IsUnembedded, unsolved};
 ghost use Rattle.run_steps.specs.Statuses.{ended, IsRefusal, IsUnsolved};
@@ -118,8 +119,8 @@ fn solved_text(
     requires width { length state.now ≡ model.now.nodes }
     requires variables { model.now.variables ≡ read.now.variables }
     requires kept { KeepsSoft read.now }
-    ensures { IfOk result (λ text. (order : Option (List ℕ))
-        → IsFirstBy order (form_of model.now) state.now
+    ensures { IfOk result (λ text. (order : List ℕ)
+        → IsFirstLeastBy (reverse order) (form_of model.now) state.now
         → IsSolvedBy order read.now model.now text.items) }
 {
     let x = decoded(alloc, model, state)?;

@@ -31,6 +31,7 @@ returns-clause-answer g c =
     let made = model_files command in
     let last = last_files command in
     IfOk-weaker c.answer_by.result _ _ (λ answer its held may. made_answers _ _ _ _ _
-    (c.in_ok-plan.ensures.step held (may_first told made last held may)) (its held
+    (c.in_ok-plan.ensures.step held (may_first told made last held may)) c.in_ok-plan.ensures.kept
+    c.in_ok-plan.ensures.enough (its held
     (may_next told (g.F.Files.held c.take_plan.new.files) made last held c.in_ok-plan.ensures.held
     may))) c.answer_by.ensures.answer

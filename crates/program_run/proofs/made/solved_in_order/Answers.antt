@@ -33,7 +33,7 @@ returns-clause-answer g c = λ held may.
           c.in-Ok.ensures.narrow));
       told = subst (λ ask. IsTold ask plan.read plan.choices m (InOrder order) c.in_ok-text.text.items)
           (sym c.requires.asked)
-          (c.in_ok-text.ensures (Some order)
+          (c.in_ok-text.ensures order
           (first_in (form_of m) c.deref.result.now order c.in-Ok.state.items
           c.deref-2.result.now c.deref.ensures.value c.deref-2.ensures.value
           c.in-Ok.ensures.state));
@@ -49,8 +49,8 @@ returns-clause-step g c = λ held may.
 
 pub returns-clause-some : goal.returns-clause-some
 returns-clause-some g c =
-    solved_some (Some c.in_ok-order.order.items) c.args.plan.now.read c.args.model.now _
-    (c.in_ok-text.ensures (Some c.in_ok-order.order.items)
+    solved_some c.in_ok-order.order.items c.args.plan.now.read c.args.model.now _
+    (c.in_ok-text.ensures c.in_ok-order.order.items
     (first_in (form_of c.args.model.now) c.deref.result.now c.in_ok-order.order.items
     c.in-Ok.state.items c.deref-2.result.now c.deref.ensures.value
     c.deref-2.ensures.value c.in-Ok.ensures.state))
