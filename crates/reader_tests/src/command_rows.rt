@@ -2,9 +2,10 @@
 use base::UnitChoice;
 use chimera_graph::Chimera;
 use command_words::{
-    Ask, Board, ChainStrength, Chaining, Command, Format, NodeModel, Notice, Origin, Request,
-    Slack, Target, Which, WordAt, name_of, notice_text, request,
+    Ask, Board, ChainStrength, Chaining, Command, Format, Ground, NodeModel, Notice, Origin,
+    Request, Slack, Target, Which, WordAt, name_of, notice_text, request,
 };
+use form_steps::PenaltyScope;
 use problem_form::{Choices, High, Normal};
 use std::alloc::{AllocError, Global};
 
@@ -23,7 +24,7 @@ fn owned(alloc: Global, words: &[&str]) -> Result<Vec<String>, AllocError> {
 }
 
 /// What the words ask for.
-fn asked(alloc: Global, words: &[&str]) -> Result<Result<Request, usize>, AllocError> {
+pub(crate) fn asked(alloc: Global, words: &[&str]) -> Result<Result<Request, usize>, AllocError> {
     let words = owned(alloc, words)?;
     Ok(request(&words))
 }
@@ -40,6 +41,7 @@ fn plain(ask: Ask) -> Command {
         unit: UnitChoice::One,
         bound: None,
         slack: Slack::Bits,
+        penalty: PenaltyScope::Global,
         ask,
     }
 }
@@ -56,6 +58,7 @@ fn compile_in(format: Format, target: Target, normal: Normal, unit: UnitChoice) 
         unit,
         bound: None,
         slack: Slack::Bits,
+        penalty: PenaltyScope::Global,
         ask: Ask::Model,
     }
 }
@@ -268,12 +271,12 @@ fn are_compiled_on(
     let Some(graph) = Chimera::new(2, 3, 4) else {
         return Ok(false);
     };
-    let target = Target::Chimera(Board {
+    let ground = Ground::Chimera {
         graph,
         dead,
         chains,
-        ties,
-    });
+    };
+    let target = Target::Qubits(Board { ground, ties });
     are_compiled(alloc, words, format, target, Normal::Literal, unit)
 }
 
@@ -377,10 +380,14 @@ const KEYS: &[(&[&str], usize)] = &[
     (&["slack"], 5),
     (&["slack=none"], 5),
     (&["slack=pairs", "unit=one", "slack=bits"], 7),
+    (&["slack=clause"], 5),
+    (&["penalty=part"], 5),
+    (&["penalty=local", "penalty=local"], 6),
     (&["order=NAME"], 5),
     (&["unit=one", "order="], 6),
     (&["dead=list"], 5),
     (&["chain=cut"], 5),
+    (&["graph=NAME"], 5),
 ];
 
 #[test]
@@ -488,140 +495,6 @@ fn the_help_fits_a_screen_and_the_version_a_line(rt: HostRuntime) {
     assert!(rt; lines_and_columns(notice_text(Notice::Version)).0 == 1);
 }
 
-/// Whether the words have these conditions, or this position.
-fn are_slack(
-    alloc: Global,
-    words: &[&str],
-    wanted: Result<Slack, usize>,
-) -> Result<bool, AllocError> {
-    Ok(match (asked(alloc, words)?, wanted) {
-        (Ok(Request::Command(command)), Ok(slack)) => command.slack == slack,
-        (Err(position), Err(wanted)) => position == wanted,
-        _ => false,
-    })
-}
-
-const SLACKS: &[(&[&str], Result<Slack, usize>)] = &[
-    (&["compile", "opb", "qubo", "FILE"], Ok(Slack::Bits)),
-    (
-        &["compile", "opb", "qubo", "FILE", "slack=bits"],
-        Ok(Slack::Bits),
-    ),
-    (
-        &["solve", "wbo", "ising", "FILE", "unit=one", "slack=pairs"],
-        Ok(Slack::Pairs),
-    ),
-    (
-        &["sample", "1", "2", "qubo", "slack=pairs"],
-        Ok(Slack::Pairs),
-    ),
-    (&["sample", "1", "2", "qubo"], Ok(Slack::Bits)),
-    (
-        &[
-            "prove",
-            "opb",
-            "chimera",
-            "FILE",
-            "STATE",
-            "PROOF",
-            "rows=1",
-            "slack=pairs",
-            "cols=1",
-            "shore=4",
-            "embed=clique",
-        ],
-        Ok(Slack::Pairs),
-    ),
-    (&["compile", "opb", "qubo", "FILE", "slack=pair"], Err(5)),
-    (&["compile", "opb", "qubo", "FILE", "slack="], Err(5)),
-    (&["sample", "1", "2", "qubo", "slack=Bits"], Err(5)),
-    (
-        &["size", "opb", "qubo", "FILE", "slack=bits", "slack=pairs"],
-        Err(6),
-    ),
-];
-
-#[test]
-fn slack_bits_and_pairs(rt: HostRuntime) {
-    for (words, wanted) in SLACKS {
-        assert!(rt;
-            are_slack(rt.alloc(), words, *wanted) == Ok(true),
-            "{words:?}"
-        );
-    }
-}
-
-/// Whether the words ask for a solution by this order, or have this position.
-fn are_ordered(
-    alloc: Global,
-    words: &[&str],
-    wanted: Result<Option<WordAt>, usize>,
-) -> Result<bool, AllocError> {
-    Ok(match (asked(alloc, words)?, wanted) {
-        (Ok(Request::Command(command)), Ok(order)) => command.ask == Ask::Solve(order),
-        (Err(position), Err(wanted)) => position == wanted,
-        _ => false,
-    })
-}
-
-const ORDERS: &[(&[&str], Result<Option<WordAt>, usize>)] = &[
-    (&["solve", "poly", "qubo", "FILE"], Ok(None)),
-    (
-        &["solve", "poly", "qubo", "FILE", "order=NAME"],
-        Ok(Some(WordAt::Value(4))),
-    ),
-    (
-        &["solve", "poly", "ising", "FILE", "high=monomial", "order="],
-        Ok(Some(WordAt::Value(5))),
-    ),
-    (
-        &[
-            "solve",
-            "wcnf",
-            "chimera",
-            "FILE",
-            "rows=1",
-            "cols=1",
-            "order=a=b",
-            "shore=4",
-            "embed=clique",
-        ],
-        Ok(Some(WordAt::Value(6))),
-    ),
-    (&["solve", "poly", "qubo", "FILE", "order"], Err(5)),
-    (
-        &["solve", "poly", "qubo", "FILE", "order=a", "order=a"],
-        Err(6),
-    ),
-    // with other verbs
-    (&["compile", "poly", "qubo", "FILE", "order=a"], Err(5)),
-    (&["size", "poly", "qubo", "FILE", "order=a"], Err(5)),
-    (
-        &["decode", "poly", "qubo", "FILE", "STATE", "order=a"],
-        Err(6),
-    ),
-    (
-        &["evaluate", "poly", "qubo", "FILE", "S", "order=a"],
-        Err(6),
-    ),
-    (&["extend", "poly", "qubo", "FILE", "S", "order=a"], Err(6)),
-    (
-        &["prove", "poly", "qubo", "FILE", "S", "P", "order=a"],
-        Err(7),
-    ),
-    (&["sample", "1", "2", "qubo", "unit=one", "order=a"], Err(6)),
-];
-
-#[test]
-fn an_order_stands_with_solve_alone(rt: HostRuntime) {
-    for (words, wanted) in ORDERS {
-        assert!(rt;
-            are_ordered(rt.alloc(), words, *wanted) == Ok(true),
-            "{words:?}"
-        );
-    }
-}
-
 /// Whether this is the name of a file of the command.
 fn is_named(
     alloc: Global,
@@ -668,7 +541,19 @@ const NAMES: &[(&[&str], Ask, Which, &str)] = &[
     (
         &["compile", "wcnf", "qubo", "FILE"],
         Ask::Model,
+        Which::Graph,
+        "",
+    ),
+    (
+        &["compile", "wcnf", "qubo", "FILE"],
+        Ask::Model,
         Which::Dead,
+        "",
+    ),
+    (
+        &["compile", "wcnf", "qubo", "FILE"],
+        Ask::Model,
+        Which::Graph,
         "",
     ),
     (

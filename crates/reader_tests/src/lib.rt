@@ -7,10 +7,14 @@
 #[cfg(test)]
 mod added_costs;
 #[cfg(test)]
+mod bounded_tops;
+#[cfg(test)]
 mod command_rows;
 #[cfg(test)]
 mod conflicts;
 mod judged_lines;
+#[cfg(test)]
+mod key_rows;
 #[cfg(test)]
 mod memory_ends;
 #[cfg(test)]

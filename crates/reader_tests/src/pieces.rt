@@ -2,7 +2,7 @@
 ghost use Rattle.std.specs.Prelude.{◌<◌, ◌≤◌, ◌^◌, length};
 
 use base::{Cost, Costed, NoMemory};
-use command_words::Format;
+use command_words::{Format, Slack};
 use edge_io::{CallList, LineBuffer, MemorySink, WriteFault};
 use source_texts::{Read, read_source_words, style_of};
 use std::alloc::Global;
@@ -152,7 +152,7 @@ fn read_words(alloc: Global, format: Format, text: &TokenText) -> Result<Read, T
     if text.bytes.as_slice().len() > 1 << 24 {
         return Err(TextAnswer::NoMemory);
     }
-    read_source_words(alloc, format, text)
+    read_source_words(alloc, Slack::Bits, format, text)
 }
 
 /// A text of entries that is cut at two places, by its reader of words.

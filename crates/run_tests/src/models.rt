@@ -219,4 +219,25 @@ impl Model<'_> {
         }
         costs.len() as u64 == 1_u64.wrapping_shl(self.variables)
     }
+    /// Whether the assignments of this cost are those that states of this energy decode to.
+    fn least_are(&self, costs: &[i64], least: i64, energy: i64) -> bool {
+        for (assignment, cost) in costs.iter().enumerate() {
+            if (*cost == least) != (self.least(assignment as u64) == energy) {
+                return false;
+            }
+        }
+        true
+    }
+
+    /// Whether the least energy stands for the least cost, and least states decode to exactly the
+    /// assignments of least cost.
+    pub(crate) fn keeps_least(&self, costs: &[i64]) -> bool {
+        let energy = self.least_of_all();
+        let mut least = INFINITE;
+        for cost in costs {
+            least = least.min(*cost);
+        }
+        self.stands_for(energy, least)
+            && (least == INFINITE || self.least_are(costs, least, energy))
+    }
 }

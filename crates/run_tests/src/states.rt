@@ -30,26 +30,48 @@ const CLAUSES: &str = "\
     1 -1 2 -3 0\n1 -1 -2 3 0\n1 -1 -2 -3 0\n|\
     999 999 999 999 999 999 999 999";
 
+/// What is kept of costs: each, or the least ones.
+#[derive(Clone, Copy)]
+enum Kept {
+    Each,
+    Least,
+}
+
 /// Whether the model of a text keeps the costs of its assignments.
-fn keeps(alloc: Global, words: &[&str], text: &str, costs: &[i64]) -> Result<bool, Fail> {
+fn keeps(
+    alloc: Global,
+    kept: Kept,
+    words: &[&str],
+    text: &str,
+    costs: &[i64],
+) -> Result<bool, Fail> {
     let numbers = compiled(alloc, words, text)?;
-    Ok(model_in(Target::Qubo, &numbers).is_some_and(|model| model.keeps(costs, INFINITE)))
+    let model = model_in(Target::Qubo, &numbers);
+    Ok(match kept {
+        Kept::Each => model.is_some_and(|model| model.keeps(costs, INFINITE)),
+        Kept::Least => model.is_some_and(|model| model.keeps_least(costs)),
+    })
 }
 
 /// The same of the text and the costs of a source.
-fn keeps_source(alloc: Global, words: &[&str], source: &[u8]) -> Result<bool, Fail> {
+fn keeps_source(alloc: Global, kept: Kept, words: &[&str], source: &[u8]) -> Result<bool, Fail> {
     let Some((text, costs)) = parted(source) else {
         return Ok(false);
     };
     let costs = numbers(alloc, costs)?;
-    keeps(alloc, words, text, &costs)
+    keeps(alloc, kept, words, text, &costs)
 }
 
 /// The number of the first source whose model does not.
-fn first_other(alloc: Global, words: &[&str], sources: &str) -> Result<Option<usize>, Fail> {
+fn first_other(
+    alloc: Global,
+    kept: Kept,
+    words: &[&str],
+    sources: &str,
+) -> Result<Option<usize>, Fail> {
     let sources = sources.as_bytes().split(|byte| *byte == b'@');
     for (index, source) in sources.enumerate() {
-        if !keeps_source(alloc, words, source)? {
+        if !keeps_source(alloc, kept, words, source)? {
             return Ok(Some(index));
         }
     }
@@ -59,7 +81,7 @@ fn first_other(alloc: Global, words: &[&str], sources: &str) -> Result<Option<us
 #[test]
 fn each_least_energy_of_clauses_stands_for_its_cost(rt: HostRuntime) -> Result<(), Fail> {
     let words = ["compile", "wcnf", "qubo", "a"];
-    let other = first_other(rt.alloc(), &words, CLAUSES)?;
+    let other = first_other(rt.alloc(), Kept::Each, &words, CLAUSES)?;
     assert!(rt; other.is_none(), "{other:?}");
     Ok(())
 }
@@ -69,7 +91,7 @@ fn each_least_energy_of_products_stands_for_its_cost(rt: HostRuntime) -> Result<
     for normal in ["normal=literal", "normal=multilinear"] {
         for high in ["high=monomial", "high=rosenberg"] {
             let words = ["compile", "poly", "qubo", "a", normal, high];
-            let other = first_other(rt.alloc(), &words, POLYNOMIALS)?;
+            let other = first_other(rt.alloc(), Kept::Each, &words, POLYNOMIALS)?;
             assert!(rt; other.is_none(), "{normal} {high} {other:?}");
         }
     }
@@ -80,8 +102,35 @@ fn each_least_energy_of_products_stands_for_its_cost(rt: HostRuntime) -> Result<
 fn each_least_energy_of_soft_constraints_stands_for_its_cost(rt: HostRuntime) -> Result<(), Fail> {
     for unit in ["unit=one", "unit=reduce"] {
         let words = ["compile", "wbo", "qubo", "a", unit];
-        let other = first_other(rt.alloc(), &words, SOFT)?;
+        let other = first_other(rt.alloc(), Kept::Each, &words, SOFT)?;
         assert!(rt; other.is_none(), "{unit} {other:?}");
+    }
+    Ok(())
+}
+
+#[test]
+fn each_least_energy_stands_for_its_cost_where_clauses_replace_constraints(
+    rt: HostRuntime,
+) -> Result<(), Fail> {
+    for slack in ["slack=pairs", "slack=clauses"] {
+        let words = ["compile", "wbo", "qubo", "a", slack];
+        let other = first_other(rt.alloc(), Kept::Each, &words, SOFT)?;
+        assert!(rt; other.is_none(), "{slack} {other:?}");
+    }
+    Ok(())
+}
+
+#[test]
+fn least_states_stand_for_least_costs_where_parts_have_penalties(
+    rt: HostRuntime,
+) -> Result<(), Fail> {
+    let words = ["compile", "wcnf", "qubo", "a", "penalty=local"];
+    let other = first_other(rt.alloc(), Kept::Least, &words, CLAUSES)?;
+    assert!(rt; other.is_none(), "wcnf {other:?}");
+    for slack in ["slack=bits", "slack=pairs", "slack=clauses"] {
+        let words = ["compile", "wbo", "qubo", "a", "penalty=local", slack];
+        let other = first_other(rt.alloc(), Kept::Least, &words, SOFT)?;
+        assert!(rt; other.is_none(), "{slack} {other:?}");
     }
     Ok(())
 }

@@ -4,7 +4,7 @@ ghost use Rattle.std.specs.Prelude.{◌≤◌};
 use crate::runs::CLASH;
 use base::{NoMemory, UnitChoice};
 use bits_model::{Kind, OutputModel};
-use command_words::{Format, NodeModel};
+use command_words::{Format, NodeModel, Slack};
 use ising_file::ising_text;
 use model_pipeline::{Keeping, model_of};
 use problem_form::{Choices, High, Normal, Problem, check_limits};
@@ -37,7 +37,7 @@ fn model_of_text(alloc: Global, text: &str, target: NodeModel) -> Option<OutputM
     if text.len() > 100 {
         return None;
     }
-    let read = read_source(alloc, Format::Wcnf, text.as_bytes()).ok()?;
+    let read = read_source(alloc, Slack::Bits, Format::Wcnf, text.as_bytes()).ok()?;
     model_of_problem(alloc, &read.problem, read.variables, target)
 }
 
