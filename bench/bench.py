@@ -5,33 +5,39 @@
     bench.py compare OTHER [KIND ..]    beside another program, which takes the same words
     bench.py further                    what these leave out, beside the plain program of plain/
     bench.py prove [OTHER]              `prove` of a QUBO of a million entries, by 16 MiB of a certificate
+    bench.py graphs                     the target `graph` on a Pegasus, a Zephyr and 2^20 qubits
+    bench.py keys [KIND ..]             files of 16 MiB with `slack=clauses penalty=local` and without
+    bench.py samples                    what an annealer finds with these two keys and without
     bench.py floor                      what a byte takes here that is read and cut into numbers, and
                                         one that is formatted and written, by floor.rs
 
     --program FILE    without it, the program that rt ci leaves in its crate
     --runs N          how often each is run; 3 if not given
+    --sweeps N        of the annealer of `samples`; 1000 if not given
 
 Without a KIND all of `run` are taken: those of generate.py that have steps here. `seconds` are those
 of the processor (user and system), which a busy machine spoils less than the clock; both are the
 least of the runs. MB are 10^6 bytes: `MB/s` of the file by the seconds, `out MB` of what is written,
 `peak MB` by GNU time (where there is none, never below that of this Python). `time x` and `peak x`
 are the growth from the row above, or beside another program the ratio to it; the two are run in
-turn, and `same` says whether both wrote the same bytes. `further`, `floor` need rustc.
+turn, and `same` says whether both wrote the same bytes. `further`, `floor` need rustc, `keys` perf or
+valgrind. `local` is the peak with `penalty=local`, `may add` the most that it may be above the other.
+`graphs` and `keys` exit with 1 where a figure is above the most that it may be.
 """
 import argparse
-import filecmp
 import os
 import random
 import subprocess
 import sys
 import tempfile
-import time
 
+from chips import measure_chips
 from generate import KINDS
+from sampled import KEYS, measure_samples
+from timing import instructions, peak, peaks_and_same, run, seconds_in_turn
 
 BENCH = os.path.dirname(os.path.abspath(__file__))
 PROGRAM = os.path.join(BENCH, '..', 'crates', 'compile_program', 'out', 'compile_program')
-GNU_TIME = '/usr/bin/time'
 BYTES = (16_777, 167_772, 1_677_721, 16_777_216)
 SIZES = {
     'unit': BYTES, 'pair': BYTES, 'three': BYTES, 'mixed': (400, 4_000, 40_000),
@@ -62,39 +68,22 @@ FURTHER = (
     ('band', 0, 'solve qubo qubo band.qubo order=band.order'),
     ('evaluate', 0, 'evaluate qubo qubo sparse.qubo states'),
 )
+# Files for `keys`, most of them of 16 MiB, by what generate.py makes: a kind and a size.
+KEYS_FILES = {
+    'clauses': 'three 16777216', 'pairs': 'pair 16777216', 'long': 'forty 10485',
+    'hub': 'hub 16777216', 'covers': 'covers 16777216', 'knapsacks': 'sacks 16777216',
+    'equations': 'equations 16777216', 'implications': 'implications 16777216',
+}
+MOST_RATIO = 1.2
+KEYS_ROW = '{:<12} {:>9} {:>12} {:>12} {:>7} {:>8} {:>8} {:>8}'
+KEYS_HEADING = KEYS_ROW.format('file', 'bytes', '10^6 instr.', 'with keys', 'ratio', 'peak MB',
+                               'local', 'may add')
 RUN_ROW = '{:<9} {:>9} {:>9} {:>9} {:>7} {:>8} {:>9} {:>7} {:>7}'
 PAIR_ROW = '{:<9} {:>9} {:>9} {:>9} {:>7} {:>9} {:>9} {:>7} {:>5}'
 PAIR_HEADING = PAIR_ROW.format(
     'kind', 'bytes', 'seconds', 'other', 'time x', 'peak MB', 'other MB', 'peak x', 'same')
 
-# ---- one run
-
-
-def run(words, out=subprocess.DEVNULL, wanted=0):
-    """Seconds of the processor and by the clock, and peak memory in KiB, of one run.
-
-    Where another status than 0 is wanted, the error line goes where the output goes.
-    """
-    begun = time.perf_counter()
-    try:
-        process = subprocess.Popen(words, stdout=out, stderr=subprocess.STDOUT if wanted else None)
-    except OSError as error:
-        sys.exit(f'cannot run {words[0]}: {error.strerror}')
-    _, status, usage = os.wait4(process.pid, 0)
-    clock = time.perf_counter() - begun
-    process.returncode = os.waitstatus_to_exitcode(status)
-    if process.returncode != wanted:
-        sys.exit(f'status {process.returncode}: {" ".join(words)}')
-    return usage.ru_utime + usage.ru_stime, clock, usage.ru_maxrss
-
-
-def peak(words, out, wanted=0):
-    """Peak memory in MB."""
-    if not os.access(GNU_TIME, os.X_OK):
-        return run(words, out, wanted)[2] * 1024 / 1e6
-    with tempfile.NamedTemporaryFile('r') as told:
-        run([GNU_TIME, '-q', '-f', '%M', '-o', told.name] + words, out, wanted)
-        return int(told.read()) * 1024 / 1e6
+# ---- files
 
 
 def made(folder, name, kind, size):
@@ -147,22 +136,6 @@ def measure(given, folder):
         above = kind, seconds, memory
 
 
-def seconds_in_turn(programs, words, wanted, runs):
-    """The least seconds of each program."""
-    least = [float('inf')] * len(programs)
-    for _ in range(runs):
-        for i, program in enumerate(programs):
-            least[i] = min(least[i], run([program] + words, wanted=wanted)[0])
-    return [max(seconds, 1e-4) for seconds in least]
-
-
-def peaks_and_same(programs, words, wanted):
-    """The peak of each program in MB, and whether both wrote the same bytes."""
-    with tempfile.NamedTemporaryFile() as one, tempfile.NamedTemporaryFile() as two:
-        peaks = [peak([program] + words, out, wanted) for program, out in zip(programs, (one, two))]
-        return peaks, filecmp.cmp(one.name, two.name, shallow=False)
-
-
 def compare_row(given, other, name, wanted, words):
     """Prints the row of a command, whose fourth word is the file."""
     programs = [given.program, other]
@@ -193,6 +166,47 @@ def further(given, folder):
     print(PAIR_HEADING, flush=True)
     for name, wanted, words in FURTHER:
         compare_row(given, plain, name, wanted, words.split())
+
+
+# ---- graphs, keys and samples
+
+
+def graphs(given, folder):
+    """Rows of forms on graphs of annealers."""
+    return measure_chips(given, folder)
+
+
+def memory_for_penalties(path):
+    """The most MB that may be taken more, while penalties are found: 24 bytes a literal, 32 a part."""
+    with open(path, 'rb') as file:
+        text = file.read()
+    literals, parts = text.count(b'x'), text.count(b'=')
+    if text.startswith(b'p wcnf'):
+        literals, parts = len(text.split()) - 2 * text.count(b'\n'), text.count(b'\n1000000 ')
+    return (24 * literals + 32 * parts) / 1e6
+
+
+def keys(given, folder):
+    """A row for each file: what a penalty for each part takes, and clauses in place of slack bits."""
+    print(KEYS_HEADING, flush=True)
+    well = True
+    for name in given.kinds or KEYS_FILES:
+        kind, size = KEYS_FILES[name].split()
+        path = made(folder, name, kind, size)
+        words = [given.program, 'compile', KINDS[kind][0], 'qubo', path]
+        counts = [instructions(words + list(more)) for more in ((), KEYS)]
+        peaks = [peak(words + list(more), subprocess.DEVNULL) for more in ((), KEYS[1:])]
+        ratio, most = counts[1] / counts[0], memory_for_penalties(path)
+        print(KEYS_ROW.format(name, os.path.getsize(path), *(f'{each / 1e6:.0f}' for each in counts),
+                              f'{ratio:.2f}', *(f'{each:.1f}' for each in peaks), f'{most:.1f}'),
+              flush=True)
+        well = well and ratio <= MOST_RATIO and peaks[1] - peaks[0] <= most
+    return well
+
+
+def samples(given, folder):
+    """Rows of problems."""
+    return measure_samples(given, folder)
 
 
 # ---- certificates
@@ -296,15 +310,17 @@ def arguments():
     parser = argparse.ArgumentParser(description='see the head of this file')
     parser.add_argument('--program', default=PROGRAM)
     parser.add_argument('--runs', type=int, default=3)
+    parser.add_argument('--sweeps', type=int)
     commands = parser.add_subparsers(required=True)
     for call, takes in ((measure, 'kinds'), (compare, 'other kinds'), (further, ''), (prove, 'other?'),
-                        (floor, '')):
+                        (floor, ''), (graphs, ''), (keys, 'kinds'), (samples, '')):
         command = commands.add_parser('run' if call is measure else call.__name__)
         command.set_defaults(call=call, other=None)
         if 'other' in takes:
             command.add_argument('other', nargs='?' if '?' in takes else None)
         if 'kinds' in takes:
-            command.add_argument('kinds', nargs='*', metavar='KIND', choices=[[], *SIZES])
+            kinds = KEYS_FILES if call is keys else SIZES
+            command.add_argument('kinds', nargs='*', metavar='KIND', choices=[[], *kinds])
     return parser.parse_args()
 
 
@@ -316,7 +332,8 @@ def main():
         given.other = executable(given.other)
     print('cores:', os.cpu_count())
     with tempfile.TemporaryDirectory() as folder:
-        given.call(given, folder)
+        well = given.call(given, folder)
+    sys.exit(well is False)
 
 
 if __name__ == '__main__':

@@ -31,6 +31,7 @@ knapsacks and conflicts:
     covers      at least one of three variables               bytes; at most 15,900,000 are written
     equations   four of eight variables                       bytes; at most 15,000,000 are written
     sacks       knapsacks of 14 items, at most half of them   bytes; at most 5,000,000 are written
+    implications    one variable with another, in 12 layers   bytes; at most 15,900,000 are written
     sack        one knapsack                                  items, of which at most 4,080 are taken
     conflicts   at most one of 1,000 variables                constraints, at most 2,140
 
@@ -180,6 +181,7 @@ def write_clauses(kind, source, given):
 
 MOST_ITEMS = 4080    # with its slack bits the square of a knapsack has 2^24 pairs at most
 MOST_CONFLICTS = 2140    # in 2^24 bytes
+LAYERS = 12
 
 
 def terms(weights, variables):
@@ -210,12 +212,21 @@ def knapsack_of_14(source, variables):
     return knapsack(source, source.sample(range(variables), 14))
 
 
+def implication(source, variables):
+    """From a layer to the next."""
+    width = variables // LAYERS
+    first = source.randrange(LAYERS - 1) * width
+    pair = first + source.randrange(width), first + width + source.randrange(width)
+    return f'{terms((-1, 1), pair)} >= 0 ;\n'
+
+
 # Of each kind: a constraint, the most variables, the sign of the objective's weights, and the most
 # bytes, since more would pass the limit on pairs.
 CONSTRAINTS = {
     'covers': (cover, 60_000, 1, 15_900_000),
     'equations': (equation, 60_000, 1, 15_000_000),
     'sacks': (knapsack_of_14, 20_000, -1, 5_000_000),
+    'implications': (implication, 60_000, 1, 15_900_000),
 }
 
 

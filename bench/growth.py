@@ -16,6 +16,8 @@ GROWTH = re.compile(r'::with_capacity\(|\.reserve\w*\(|\.to_vec\(|::from_str\(|\
                     r'\.extend\w*\(|\.clone\(|::with_room\(|\.copied\(alloc|::from_array\(|\.insert\(|'
                     r'\.repeat\(alloc|\.resize\(|\bformat!\(in|Box::new\(')
 READ = re.compile(r'\?|\.(?:is_err|is_ok|map|map_err|ok|and_then|err|unwrap)\(')
+PASSED = re.compile(r'\b(?:if|while) let Ok\([^=]*=([^{]*)\{|'
+                    r'\bmatch ([^{;]*)\{(?:[^{}]|\{\})*?\b(?:Err\(_\)|_) => (?:\{\}|\(\))')
 STATEMENT = re.compile(r'(?:^|[;{}])\s*((?:let\s+(?:mut\s+)?(\w+)\s*(?::[^=;]*)?=\s*)?[^;{}]*);', re.S)
 
 
@@ -28,7 +30,10 @@ def code_of(text):
 
 
 def unread(code):
-    """The statements that grow something and leave its answer."""
+    """The statements that grow something and leave its answer, or go on where it is a refusal."""
+    for found in PASSED.finditer(code):
+        if GROWTH.search(found.group(1) or found.group(2)):
+            yield code.count('\n', 0, found.start()) + 1, ' '.join(found.group(0).split())
     for found in STATEMENT.finditer(code):
         statement, name = found.group(1), found.group(2)
         if not GROWTH.search(statement) or READ.search(statement) or statement.startswith('return'):

@@ -24,7 +24,8 @@ import tempfile
 
 CRATE = os.path.join(os.path.dirname(os.path.abspath(__file__)), '..', 'crates', 'worked_examples')
 CASES = ['hard_and_soft_unit', 'one_chain_of_two', 'knapsack_of_twenty_items', 'decode_knapsack',
-         'solve_feasible', 'extend_chain', 'sample_one_clause']
+         'solve_feasible', 'extend_chain', 'sample_one_clause', 'graph_of_one_coupler',
+         'facilities_by_rounds', 'two_units_with_top_as_a_bound']
 WANT = 'status 9\nout of memory\n'
 ROW = '{:<26} {:>6} {:>8} {:>6} {:>8}'
 

@@ -8,15 +8,26 @@ from itertools import product
 from readings import Tokens, lines_of, value_of
 from translation import add, complements, multiplied_out
 
-MOST_NODES, MOST_LITERALS, MOST_PRODUCTS = 12, 8, 2 ** 24
+MOST_BUSY, MOST_NODES, MOST_LITERALS, MOST_PRODUCTS = 12, 2 ** 12, 8, 2 ** 24
 LITERAL = re.compile(rb'(~?)([0-9]+)')
 
 
-def first_least(made):
-    """The first least state, states being compared from node 0 on; none of a model too large."""
-    if made.nodes > MOST_NODES:
+def first_least(made, order=None):
+    """The first least state, states being compared from node 0 on, or from the last of an order.
+
+    None of a model too large. A node without a weight has the bit 0.
+    """
+    nodes = range(made.nodes) if order is None else reversed(order)
+    busy = [node for node in nodes if node in made.linear]
+    if len(busy) > MOST_BUSY or made.nodes > MOST_NODES:
         return None
-    return min(product((0, 1), repeat=made.nodes), key=made.energy)
+
+    def state(bits):
+        found = [0] * made.nodes
+        for node, bit in zip(busy, bits):
+            found[node] = bit
+        return found
+    return min(map(state, product((0, 1), repeat=len(busy))), key=made.energy)
 
 
 def read_order(made, text):
@@ -48,29 +59,16 @@ def first_wide(made, order):
     return None
 
 
-def first_least_by(made, order):
-    """The first least state, states being compared from the last node of an order on."""
-    if made.nodes > MOST_NODES:
-        return None
-
-    def by_order(bits):
-        state = [0] * made.nodes
-        for node, bit in zip(reversed(order), bits):
-            state[node] = bit
-        return state
-    return min(map(by_order, product((0, 1), repeat=made.nodes)), key=made.energy)
-
-
 def over_bits(made):
     """The energy as a sum of products of nodes: of spins, each is 2x - 1."""
     table = {}
     if made.target == 'qubo':
-        weighed = [((node,), weight) for node, weight in enumerate(made.linear)]
+        weighed = [((node,), weight) for node, weight in made.linear.items()]
         weighed += list(made.couplers.items())
         for nodes, weight in weighed:
             add(table, tuple((node, False) for node in nodes), weight)
         return table
-    for node, weight in enumerate(made.linear):
+    for node, weight in made.linear.items():
         add(table, ((node, False),), 2 * weight)
         add(table, (), -weight)
     for (i, j), weight in made.couplers.items():

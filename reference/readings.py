@@ -303,8 +303,11 @@ def read_wbo(text):
     return rewritten(Wbo(sums.variables, top, rows))
 
 
-def rewritten(wbo):
-    """The problem of a WBO file: a bit for each soft constraint, and last what TOP says."""
+def rewritten(wbo, within=False):
+    """The problem of a WBO file: a bit for each soft constraint.
+
+    What TOP says is the last constraint, or where that is asked for the most that counts.
+    """
     problem = Problem(wbo.variables)
     problem.source = wbo
     for weight, constraint in wbo.rows:
@@ -320,7 +323,10 @@ def rewritten(wbo):
             problem.constraints.append(loosened(turned, -constraint.bound, bit))
     if wbo.top is not None and sum(weight for weight, _ in problem.objective) >= wbo.top:
         terms = [(-weight, bit) for weight, bit in problem.objective]
-        problem.constraints.append(Constraint(terms, 1 - wbo.top, False))
+        if within:
+            problem.most = wbo.top - 1
+        else:
+            problem.constraints.append(Constraint(terms, 1 - wbo.top, False))
     return problem
 
 

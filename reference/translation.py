@@ -1,19 +1,22 @@
 """Makes the model of a problem and writes its text: a second program beside the layers.
 
 It is written from docs/METHODS.md, REFERENCE.md and FORMATS.md, with the sums of a step in one
-dictionary, and takes no step of the program. Models on a graph are none of its subject.
+dictionary, and takes no step of the program. Chains of qubits are put in by chains.py.
 
     made = Model(problem, {'normal': 'literal', 'high': 'monomial', 'unit': 'one'}, 'qubo')
     made.text(), made.energy(bits), made.extended(bits)      # or Model raises Limit
 """
-from itertools import combinations
+from itertools import combinations, repeat
 from math import gcd
 
 from conflicts import without_conflicts
+from local_penalties import own_penalties
+from readings import rewritten
 
 MOST = {'variables': 2 ** 20, 'degree': 1024, 'negations': 8, 'pairs': 2 ** 24,
         'weight': 2 ** 64 - 1}
-USUAL = {'normal': 'literal', 'high': 'monomial', 'unit': 'one', 'slack': 'bits', 'bound': None}
+USUAL = {'normal': 'literal', 'high': 'monomial', 'unit': 'one', 'slack': 'bits', 'bound': None,
+         'penalty': 'global'}
 
 
 class Limit(Exception):
@@ -131,16 +134,25 @@ def union(left, right):
     return None if len({variable for variable, _ in both}) < len(both) else both
 
 
-def penalties(problem):
+def lifts(problem, scope):
+    """The penalties of the hard clauses and then of the constraints, one by one."""
+    most = penalty(problem)
+    if scope == 'local':
+        return iter([most if own is None else own for own in own_penalties(problem, most)])
+    return repeat(most)
+
+
+def penalties(problem, scope):
     """The table of a problem, how many nodes it has, and its slack bits by constraint."""
-    lift, nodes, table, slacks = penalty(problem), problem.variables, {}, []
+    lift_of, nodes, table, slacks = lifts(problem, scope), problem.variables, {}, []
     add(table, (), problem.constant)
     for coefficient, literals in problem.objective:
         add(table, literals, coefficient)
     for weight, literals in problem.clauses:
         broken = tuple((variable, not negated) for variable, negated in literals)
-        add(table, broken, lift if weight is None else weight)
+        add(table, broken, next(lift_of) if weight is None else weight)
     for constraint in problem.constraints:
+        lift = next(lift_of)
         weights = slack_weights(constraint)
         terms = (constraint.terms + [(-constraint.bound, ())]
                  + [(-weight, ((nodes + i, False),)) for i, weight in enumerate(weights)])
@@ -217,18 +229,29 @@ def by_pairs(table, nodes):
 
 # ---- the model
 
+def compiled(problem, slack, bound):
+    """The problem that is compiled: behind the replacement of constraints, and with its bound."""
+    if slack == 'clauses' and problem.source:
+        source, problem = problem.source, rewritten(problem.source, within=True)
+        problem.source = source
+    if slack != 'bits':
+        problem = without_conflicts(problem, covers=slack == 'clauses')
+    bounds = [most for most in (problem.most, bound) if most is not None]
+    problem.most = min(bounds, default=None)
+    return problem
+
+
 class Model:
     """The model of a problem on nodes: its figures, weights and text."""
 
     def __init__(self, problem, keys, target):
         keys = {**USUAL, **keys}
         multilinear = keys['normal'] == 'multilinear'
-        if keys['slack'] == 'pairs':
-            problem = without_conflicts(problem)
-        problem.most = None if keys['bound'] is None else int(keys['bound'])
+        bound = None if keys['bound'] is None else int(keys['bound'])
+        problem = compiled(problem, keys['slack'], bound)
         check_limits(problem, multilinear)
         self.problem, self.target = problem, target
-        table, self.first, self.slacks = penalties(problem)
+        table, self.first, self.slacks = penalties(problem, keys['penalty'])
         if multilinear:
             table = multiplied_out(table)
         self.high = keys['high']
@@ -236,12 +259,15 @@ class Model:
         self.more = lower(table, self.first)
         self.nodes = self.first + len(self.more)
         self.source = problem.source or problem
-        self.figure(multiplied_out(table), keys['unit'] == 'reduce')
+        self.figure(multiplied_out(table))
+        self.unit = 1
+        if keys['unit'] == 'reduce':
+            self.reduce()
 
-    def figure(self, table, reduced):
+    def figure(self, table):
         """The weights and the figures, of a table of at most two variables a term."""
         constant = table.pop((), 0)
-        linear, self.couplers = [0] * self.nodes, {}
+        linear, self.couplers = dict.fromkeys(range(self.nodes), 0), {}
         for literals, coefficient in table.items():
             nodes = tuple(variable for variable, _ in literals)
             if len(nodes) == 1:
@@ -251,44 +277,56 @@ class Model:
         self.scale = 1
         if self.target == 'ising':
             self.scale = 4
-            constant = 4 * constant + 2 * sum(linear) + sum(self.couplers.values())
-            linear = [2 * weight for weight in linear]
+            constant = 4 * constant + 2 * sum(linear.values()) + sum(self.couplers.values())
+            linear = {node: 2 * weight for node, weight in linear.items()}
             for (i, j), weight in self.couplers.items():
                 linear[i] += weight
                 linear[j] += weight
         self.linear = linear
         self.offset, self.threshold = -constant, self.scale * upper(self.problem) - constant
-        self.unit = (gcd(*self.linear, *self.couplers.values()) or 1) if reduced else 1
-        self.linear = [weight // self.unit for weight in self.linear]
+
+    def reduce(self):
+        """Divides the weights by their greatest common divisor."""
+        self.unit = gcd(*self.linear.values(), *self.couplers.values()) or 1
+        self.linear = {node: weight // self.unit for node, weight in self.linear.items()}
         self.couplers = {pair: weight // self.unit for pair, weight in self.couplers.items()}
+
+    def chain_rows(self):
+        """The rows of the graph and its chains."""
+        return []
 
     def text(self):
         """The text of the model."""
         kind = 'qubo 0' if self.target == 'qubo' else 'ising'
         rows = [f'c scale {self.scale}', f'c offset {self.offset}',
                 f'c threshold {self.threshold}', f'c unit {self.unit}',
-                f'c variables {self.source.variables}',
-                f'p {kind} {self.nodes} {self.nodes} {len(self.couplers)}']
-        rows += [f'{node} {node} {weight}' for node, weight in enumerate(self.linear)]
+                f'c variables {self.source.variables}', *self.chain_rows(),
+                f'p {kind} {self.nodes} {len(self.linear)} {len(self.couplers)}']
+        rows += [f'{node} {node} {weight}' for node, weight in sorted(self.linear.items())]
         rows += [f'{i} {j} {weight}' for (i, j), weight in sorted(self.couplers.items())]
         return '\n'.join(rows) + '\n'
 
     def summary(self):
         """The six numbers of a sample."""
-        return (f'nodes {self.nodes}\ncouplers {len(self.couplers)}\nscale {self.scale}\n'
+        return (f'nodes {len(self.linear)}\ncouplers {len(self.couplers)}\nscale {self.scale}\n'
                 f'offset {self.offset}\nthreshold {self.threshold}\nunit {self.unit}\n')
 
     def size(self):
         """The nine numbers of a size."""
-        sizes = [abs(weight) for weight in [*self.linear, *self.couplers.values()] if weight]
+        weights = [*self.linear.values(), *self.couplers.values()]
+        sizes = [abs(weight) for weight in weights if weight]
         return (f'{self.summary()}variables {self.source.variables}\n'
                 f'least {min(sizes, default=0)}\ngreatest {max(sizes, default=0)}\n')
 
     def energy(self, bits):
         """The energy of a state."""
         values = [2 * bit - 1 for bit in bits] if self.target == 'ising' else bits
-        return (sum(weight * value for weight, value in zip(self.linear, values))
+        return (sum(weight * values[node] for node, weight in self.linear.items())
                 + sum(weight * values[i] * values[j] for (i, j), weight in self.couplers.items()))
+
+    def read_off(self, bits):
+        """The assignment that a state decodes to."""
+        return bits[:self.source.variables]
 
     def extended(self, bits):
         """The state of an assignment of the source."""
