@@ -14,29 +14,82 @@ from typing import Any, List, Sequence, Tuple
 
 import numpy as np
 
-from .annealing import State, by_colour, chain_classes, colours, heats_of, log_table
+from .annealing import State, chain_classes, heats_of, log_table
 from .models import Model
 from .progress import Progress
 
 Array = Any
-FEW, DENSE, ROW = 64, 4, 2000
+FEW, DENSE, ROW, SINGLE = 64, 4, 2000, 16
+ROUNDS, TABLE = 256, 2 ** 24
+
+
+def _array(numbers: Sequence[int]) -> Array:
+    return np.fromiter(numbers, np.int64, len(numbers))
+
+
+def _sorting(ends: Array) -> Array:
+    """The order in which nodes ascend, and equal ones stay: by 16 digits of two after 16 others."""
+    order = np.argsort((ends & 0xffff).astype(np.uint16), kind='stable')
+    if ends.max(initial=0) < 2 ** 16:
+        return order
+    return order[np.argsort((ends[order] >> 16).astype(np.uint16), kind='stable')]
+
+
+class Rows:
+    """Lists of numbers one after the other, so many of each node."""
+
+    def __init__(self, items: Array, counts: Array) -> None:
+        self.items, self.counts = items, counts
+        self.starts = np.cumsum(counts) - counts
+
+    def of(self, nodes: Array) -> Tuple[Array, Array]:
+        """The numbers of some nodes, and to which of these each belongs."""
+        sizes = self.counts[nodes]
+        ends = np.cumsum(sizes)
+        at = np.arange(sizes.sum()) + np.repeat(self.starts[nodes] - (ends - sizes), sizes)
+        return self.items[at], np.repeat(np.arange(len(nodes)), sizes)
+
+
+def colours(lesser: Rows, greater: Rows) -> Array:
+    """The colours that `annealing.colours` gives. Nodes of which all lesser neighbours have theirs
+    get them at once; what many rounds leave is taken one by one."""
+    waiting = lesser.counts.copy()
+    found, ready = np.full(len(waiting), -1), np.flatnonzero(waiting == 0)
+    for _ in range(ROUNDS):
+        if len(ready) == 0:
+            return found
+        width = int(found.max()) + 2
+        for part in np.array_split(ready, 1 + len(ready) * width // TABLE):
+            near, owner = lesser.of(part)
+            taken = np.zeros((len(part), width), bool)
+            taken[owner, found[near]] = True
+            found[part] = taken.argmin(axis=1)
+        passed = np.bincount(greater.of(ready)[0], minlength=len(waiting))
+        waiting -= passed
+        ready = np.flatnonzero((waiting == 0) & (passed > 0))
+    every, starts = found.tolist(), lesser.starts.tolist() + [len(lesser.items)]
+    items = lesser.items.tolist()
+    for node in np.flatnonzero(found < 0).tolist():
+        near, colour = set(map(every.__getitem__, items[starts[node]:starts[node + 1]])), 0
+        while colour in near:
+            colour += 1
+        every[node] = colour
+    return np.array(every)
 
 
 class Couplers:
     """The couplers of each place in the order of a sweep: those of place p stand from `starts[p]`
     to `starts[p + 1]`. Of a dense model there is a row of all weights for each place too."""
 
-    def __init__(self, model: Model, couplings: Sequence[int]) -> None:
-        self.heads, self.tails = np.array(model.heads, np.int64), np.array(model.tails, np.int64)
-        weights, nodes = np.array(couplings, np.int64), model.nodes
-        by_tail = np.argsort(self.tails.astype(np.uint16) if nodes <= 2 ** 16 else self.tails,
-                             kind='stable')
+    def __init__(self, model: Model, weights: Array) -> None:
+        self.heads, self.tails, nodes = _array(model.heads), _array(model.tails), model.nodes
+        by_tail = _sorting(self.tails)
         down, up = (np.bincount(ends, minlength=nodes) for ends in (self.tails, self.heads))
         lesser = self.heads[by_tail]
-        near, ends = lesser.tolist(), np.cumsum(down).tolist()
-        colour = colours(near[a:b] for a, b in zip([0, *ends], ends))
-        self.classes = by_colour(model.used(), colour)
-        self.order = np.array([node for found in self.classes for node in found], np.int64)
+        used = np.array(model.used(), np.int64)
+        colour = colours(Rows(lesser, down), Rows(self.tails, up))[used]
+        self.order = used[np.argsort(colour, kind='stable')]
+        self.sizes: List[int] = [size for size in np.bincount(colour).tolist() if size]
         self.place = np.zeros(nodes, np.int64)
         self.place[self.order] = np.arange(len(self.order))
         self.starts = np.concatenate(([0], np.cumsum((down + up)[self.order])))
@@ -69,6 +122,13 @@ class Couplers:
             part = slice(self.starts[at], self.starts[at + 1])
             field[self.near[part]] += self.weights[part] * step
 
+    def push_all(self, field: Array, places: Array, steps: Array) -> None:
+        """The same of many bits."""
+        near = Rows(np.arange(len(self.near)), np.diff(self.starts))
+        at, owner = near.of(places)
+        field += np.bincount(self.near[at], self.weights[at] * steps[owner],
+                             len(field)).astype(np.int64)
+
     def sums(self, values: Array, lo: int, hi: int) -> Array:
         """For each of some places the sum of its weights times the values of the others."""
         starts = self.starts[lo:hi + 1]
@@ -83,7 +143,7 @@ class Chains:
     inside of them, each once."""
 
     def __init__(self, couplers: Couplers, chains: Sequence[Sequence[int]],
-                 couplings: Sequence[int]) -> None:
+                 couplings: Array) -> None:
         place = couplers.place
         sizes = np.array(list(map(len, chains)))
         self.places = place[[qubit for qubits in chains for qubit in qubits]]
@@ -94,7 +154,7 @@ class Chains:
         left, right = place[couplers.heads], place[couplers.tails]
         inside = (owner[left] == owner[right]) & (owner[left] >= 0)
         self.left, self.right, self.of = left[inside], right[inside], owner[left[inside]]
-        self.ties = np.array(couplings, np.int64)[inside]
+        self.ties = couplings[inside]
 
     def rises(self, turn: Array, field: Array) -> Array:
         """What the energy rises by where each chain turns."""
@@ -109,14 +169,14 @@ class ArrayWalk:
     one colour, or of many with few places each. In a stale block the field is to be summed anew."""
 
     def __init__(self, model: Model) -> None:
-        _, single, couplings = model.over_bits()
-        self.nodes = model.nodes
+        _, single, listed = model.over_bits()
+        couplings, self.nodes = _array(listed), model.nodes
         self.couplers = Couplers(model, couplings)
         self.order = self.couplers.order
-        self.single = np.array(single, np.int64)[self.order]
+        self.single = _array(single)[self.order]
         everywhere = np.ones(len(self.order), np.int8)
         self.base = 2 * self.single + self.couplers.sums(everywhere, 0, len(self.order))
-        self.blocks = _blocks(list(map(len, self.couplers.classes)))
+        self.blocks = _blocks(self.couplers.sizes)
         self.chains = [Chains(self.couplers, found, couplings) for found in chain_classes(model)]
         self.draws = len(self.order) + sum(len(found.begins) for found in self.chains)
         sizes = np.abs(np.concatenate((self.single, self.couplers.weights)))

@@ -10,9 +10,11 @@ from .decoding import Decoded, Decoding, Told, decoded, rank
 from .elimination import certificate, elimination_order
 from .errors import PbisingError, TextError, UsageError
 from .graphs import chain_map
-from .keys import FILES, fault
+from .hardware import hardware, listed, whole_map
+from .keys import FILES, ON_QUBITS, fault
 from .models import Model, Size, parse
 from .program import FileWord, Word, run
+from .repair import repaired
 from .samples import Naming, Sample, states_of, written
 from .sources import Source, bits_of, source_of
 from .texts import PathName, called, read_bytes, text_of
@@ -20,6 +22,7 @@ from .texts import PathName, called, read_bytes, text_of
 MOST_BYTES = 2 ** 24
 WANTED = {'map=': 'the number of the next node, and its qubits,',
           'dead=': 'a qubit, or two qubits that are joined,',
+          'graph=': 'a qubit from 0 to 2^20 - 1, or two that are coupled,',
           'order=': 'each node of the model once',
           '': 'a whole number, and then literals of nodes as 5 and ~5,'}
 
@@ -54,6 +57,10 @@ class Request:
     target: str
     keys: Dict[str, Word]
 
+    def values(self) -> Dict[str, str]:
+        """What stands behind the = of each key."""
+        return _values(self.keys)
+
     def run(self, command: str, *files: FileWord, **keys: Any) -> bytes:
         """The output of a command of the program for this model."""
         source = self.source
@@ -84,7 +91,7 @@ class CompiledModel(Model):
         """What the variables are called."""
         return self.source.names(self.variables)
 
-    def decode(self, samples: Any) -> Decoding:
+    def decode(self, samples: Any, repair: bool = False) -> Decoding:
         """What samples mean.
 
         They are a dict, a list or an array of bits or spins, many of these, a dimod sample set, or
@@ -93,6 +100,10 @@ class CompiledModel(Model):
         program's `evaluate` tells; what is broken the package counts once it is asked for. A
         program without `evaluate` confirms the best sample by its `decode`; the package counts
         the others.
+
+        With `repair` a broken sample becomes an assignment of finite cost, below the energy that
+        the sample has, where what it breaks has a penalty of its own by `penalty=local`. (With
+        `chain=cut` a sample with broken chains may lie below all costs.)
         """
         labels = self.labels() if self.chains is None else self.names()
         naming = Naming({label: node for node, label in enumerate(labels)}, self.variables,
@@ -103,6 +114,8 @@ class CompiledModel(Model):
         if told is None:
             best = min(found, key=rank)
             _confirm(best, *self._decoded(best.state))
+        if repair:
+            found = repaired(self, self.source, self.request.values(), found)
         by = 'package' if told is None else 'program'
         return Decoding(found, len(self.chains or ()), by, self)
 
@@ -212,8 +225,10 @@ def compile(source: Union[Source, PathName], format: Optional[str] = None, targe
 
     The source is the name of a file, or a text (a str with a line feed in it), or what one of the
     writers gives. Without a format it is the ending of the file's name. Keys are those of the
-    program, as `high='rosenberg'` or `rows=2`; one that is None is left out. `map` and `dead` are
-    names of files, or texts, or a dict of chains by nodes and a list of qubits and of pairs.
+    program, as `high='rosenberg'` or `rows=2`; one that is None is left out. `map`, `dead` and
+    `graph` are names of files, or texts, or a dict of chains by nodes, a list of qubits and of
+    pairs, and whatever `hardware` takes. With the target `graph` the chains may also be by labels
+    of nodes, and nodes without couplers need none.
     """
     request = _request(source, format, target, keys)
     model = parse(request.run('compile'))
@@ -233,7 +248,26 @@ def size(source: Union[Source, PathName], format: Optional[str] = None, target: 
 
 def _request(source: Union[Source, PathName], layout: Optional[str], target: str,
              keys: Mapping[str, Any]) -> Request:
-    return Request(source_of(source, layout), target, words_of(keys))
+    request, chains = Request(source_of(source, layout), target, {}), keys.get('map')
+    if target != 'graph' or not isinstance(chains, Mapping):
+        request.keys = words_of(keys)
+        return request
+    request.keys = words_of({**keys, 'map': 'map\n'})
+    wrong = fault('compile', request.source.format, target, request.values())
+    if wrong:
+        raise UsageError(2, f'usage: {wrong}')
+    request.keys['map'] = FileWord('map', chain_map(_whole_map(request, chains)).encode(), 'map=')
+    return request
+
+
+def _whole_map(request: Request, chains: Mapping[Any, Any]) -> Mapping[Any, Any]:
+    """The chains of all nodes, by numbers; the model on nodes is made only where they are not."""
+    keys = {key: word for key, word in request.keys.items() if key not in ON_QUBITS['graph']}
+    nodes, graph = Request(request.source, 'ising', keys), request.keys['graph']
+    if set(chains) == set(range(int(dict(_rows(nodes.run('size')))['nodes']))):
+        return chains
+    model = CompiledModel(**vars(parse(nodes.run('compile'))), request=nodes)
+    return whole_map(chains, model, text_of(graph.data) if isinstance(graph, FileWord) else '')
 
 
 def words_of(keys: Mapping[str, Any]) -> Dict[str, Word]:
@@ -257,13 +291,18 @@ def _file_word(key: str, value: Any) -> FileWord:
     """The word of a key whose value is a file, a text, a dict of chains, or a list of numbers, in
     a list of dead parts also of pairs."""
     before = f'{key}='
+    if key == 'graph' and not isinstance(value, (str, os.PathLike)):
+        return FileWord(key, hardware(value).encode(), before)
     value = value.tolist() if hasattr(value, 'tolist') else value
     if isinstance(value, Mapping):
         return FileWord(key, chain_map(value).encode(), before)
     if isinstance(value, str) and ('\n' in value or not value):
         return FileWord(key, value.encode(), before)
     if isinstance(value, (str, os.PathLike)):
-        return FileWord(called(value), read_bytes(value), before)
+        data = read_bytes(value)
+        if key == 'graph' and data.lstrip()[:1] in (b'{', b'['):
+            data = hardware(listed(text_of(data))).encode()
+        return FileWord(called(value), data, before)
     if not isinstance(value, Iterable) or isinstance(value, bytes):
         raise PbisingError(f'{key}={value!r} is no name of a file, no text and no list')
     lines = [_line_of(key, part) for part in value]

@@ -48,7 +48,8 @@ class Decoded:
     broken, or the weights of broken soft ones reach TOP.
 
     `verdict` and `broken` read the problem and judge the assignment when they are first asked for,
-    once for all samples of one state.
+    once for all samples of one state. Of a repaired sample assignment and cost are those that the
+    walk leads to, and state and energy its own.
     """
 
     state: List[int]
@@ -59,6 +60,8 @@ class Decoded:
     broken_chains: List[int]
     excess: Optional[int]
     judged: Judged = field(compare=False)
+    sampled: Optional[List[int]] = None
+    stuck: List[int] = field(default_factory=list)
 
     def __repr__(self) -> str:
         cost = 'infinite' if self.cost is None else self.cost
@@ -68,6 +71,12 @@ class Decoded:
     def feasible(self) -> bool:
         """Whether the cost is finite."""
         return self.cost is not None
+
+    @property
+    def repaired(self) -> bool:
+        """Whether the sample was broken and is repaired; `sampled` is the assignment that it was,
+        and `stuck` has the lines of what keeps one from that, 0 for TOP."""
+        return self.sampled is not None
 
     @property
     def names(self) -> List[Any]:
@@ -171,7 +180,10 @@ class Decoding(Sequence[Decoded]):
         the first samples as are soon judged."""
         total = sum(one.occurrences for one in self.samples)
         feasible = sum(one.occurrences for one in self.samples if one.feasible)
-        yield f'samples {total}, feasible {feasible}'
+        walked = sum(one.occurrences for one in self.samples if one.repaired)
+        stuck = sum(one.occurrences for one in self.samples if one.stuck)
+        told = f', repaired {walked}, beyond repair {stuck}' if walked or stuck else ''
+        yield f'samples {total}, feasible {feasible}{told}'
         for cost, count in self.costs()[:most]:
             yield f'  cost {"infinite" if cost is None else cost}: {count}'
         yield from self._told_lines(most)
@@ -208,7 +220,7 @@ def decoded(model: Model, source: Source, samples: Iterable[Sample],
     where none are told, by the package's own arithmetic, which is exact.
 
     A state of an excess below 0 is judged at once, as only one with broken chains has that, or one
-    that costs more than `bound=`.
+    that costs more than `bound=`, or with `penalty=local` one of a WBO.
     """
     known: Dict[str, Decoded] = {}
     found = []

@@ -7,7 +7,8 @@ qubits; dead parts are crossed out.
 
 On a Chimera graph side 0 of a cell lies across it, and is joined to the cells above and below; side
 1 stands in it, and is joined to the cells to the left and right. Of a graph that is a list a model
-does not say the joins: the qubits of its chains stand in a circle, one chain after the other.
+does not say the joins: the qubits of its chains stand in a circle, one chain after the other. Where
+these are many, a chain is one dot, with its number, and lines are couplings between chains.
 """
 from __future__ import annotations
 
@@ -21,7 +22,7 @@ from .models import Model
 BLUE, ORANGE = '#0072b2', '#e69f00'
 COLOURS = [BLUE, ORANGE, '#009e73', '#cc79a7', '#d55e00', '#56b4e9', '#8c6d31', '#6a51a3']
 PITCH, RADIUS, MARGIN = 190, 13, 30
-MOST_IN_CIRCLE = 64
+MOST_IN_CIRCLE, MOST_CHAINS = 64, 200
 
 Point = Tuple[float, float]
 
@@ -82,17 +83,24 @@ def _laid_out(model: Model) -> Union[_Cells, _Circle]:
         return _Cells(model.shape)
     if model.chains is None:
         raise PbisingError('this is no model on a graph')
-    circle = _Circle(model)
-    if not drawable(model):
-        raise PbisingError(f'the chains have {len(circle.qubits)} qubits, and a graph that is a '
-                           f'list is drawn with at most {MOST_IN_CIRCLE}')
-    return circle
+    return _Circle(model)
 
 
 def drawable(model: Model) -> bool:
-    """Whether there is a picture of a model on a graph: where the graph is a list, of few qubits.
+    """Whether there is a picture of a model on a graph: where the graph is a list, of few chains.
     """
-    return model.shape is not None or sum(map(len, model.chains or ())) <= MOST_IN_CIRCLE
+    return model.shape is not None or len(model.chains or ()) <= MOST_CHAINS
+
+
+def _by_chains(model: Model, chains: Sequence[Sequence[int]]) -> Model:
+    """A model that has one qubit for each chain, and the couplings between these."""
+    owner = {qubit: node for node, chain in enumerate(chains) for qubit in chain}
+    pairs = {(min(ends), max(ends)) for ends in zip(map(owner.__getitem__, model.heads),
+                                                   map(owner.__getitem__, model.tails))
+             if len(set(ends)) == 2}
+    heads, tails = [i for i, _ in sorted(pairs)], [j for _, j in sorted(pairs)]
+    return Model(model.kind, len(chains), dict.fromkeys(range(len(chains)), 0), heads, tails,
+                 [1] * len(pairs), chains=[[node] for node in range(len(chains))])
 
 
 def _line(a: Point, b: Point, colour: str, width: float) -> str:
@@ -218,5 +226,15 @@ class Picture:
 def draw(model: Model, state: Optional[Sequence[int]] = None,
          dead: Sequence[Sequence[int]] = (), strengths: bool = False) -> Svg:
     """The picture. With `strengths` each tie is as thick as it is strong, and tells it."""
-    lines: List[str] = list(Picture(model, state, dead, strengths).lines())
+    chains = model.chains or ()
+    if not drawable(model):
+        raise PbisingError(f'the model has {len(chains)} chains, and a graph that is a list is '
+                           f'drawn with at most {MOST_CHAINS}')
+    if model.shape is not None or sum(map(len, chains)) <= MOST_IN_CIRCLE:
+        picture = Picture(model, state, dead, strengths)
+    else:
+        bits = model.assignment(state, len(chains)) if state else None
+        picture = Picture(_by_chains(model, chains), bits)
+        picture.broken = set(model.broken_chains(state)) if state else set()
+    lines: List[str] = list(picture.lines())
     return Svg(''.join(f'{line}\n' for line in lines))

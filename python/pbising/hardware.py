@@ -1,14 +1,16 @@
 """Graphs of qubits as lists: the text of a graph, of what a sampler or another tool says of it.
 
-A line of the text is `q` for a qubit, or `a b` for a coupler. Qubits are numbers from 0 to 2^20 - 1.
+A line of the text is `q` for a qubit, or `a b` for a coupler. Qubits are numbers from 0 to
+2^20 - 1.
 """
 from __future__ import annotations
 
 import json
-from typing import Any, Iterable, Iterator, List, Mapping, Set
+from typing import Any, Dict, Iterable, Iterator, List, Mapping, Optional, Set
 
 from .errors import PbisingError
 from .graphs import Join
+from .models import Model
 from .texts import tokens_of, whole
 
 MOST_QUBITS = 2 ** 20
@@ -32,6 +34,43 @@ def hardware(graph: Any) -> str:
             raise PbisingError(f'{_told(part)} is no qubit, and no coupler of two qubits')
     lines = [f'{qubit}' for qubit in sorted(qubits)] + [f'{a} {b}' for a, b in sorted(couplers)]
     return ''.join(f'{line}\n' for line in lines)
+
+
+def whole_map(chains: Mapping[Any, Any], model: Model, graph: str) -> Dict[int, Any]:
+    """The chains of all nodes of a model, of a dict by its nodes or by their labels. A tool that
+    is told of couplers alone has no chains of nodes without: each gets a qubit that is left."""
+    coupled = {*model.heads, *model.tails}
+    numbers = {key: _node_of(key, model.nodes) for key in chains}
+    if None in numbers.values() or not coupled.issubset(numbers.values()):
+        labels = {label: node for node, label in enumerate(model.labels())}
+        others = [key for key in chains if key not in labels]
+        if not others:
+            numbers = {key: labels[key] for key in chains}
+        elif None in numbers.values():
+            told = next((key for key in others if numbers[key] is None), others[0])
+            raise PbisingError(f'the map has a chain of {told!r}, and no node is called so')
+    found = {node: chains[key] for key, node in numbers.items() if node is not None}
+    left = iter(sorted(_qubits_of(graph).difference(*found.values())))
+    for node in sorted(set(range(model.nodes)).difference(found)):
+        qubit = None if node in coupled else next(left, None)
+        if qubit is None:
+            raise PbisingError(f'the map has no chain of node {node}' +
+                               (', which has couplers' if node in coupled else
+                                ', and the graph no qubit left for it'))
+        found[node] = [qubit]
+    return found
+
+
+def _node_of(key: Any, nodes: int) -> Optional[int]:
+    """The number below a bound that a key is, or None; bool is none."""
+    number = key.__index__() if hasattr(key, '__index__') and not isinstance(key, bool) else -1
+    return int(number) if 0 <= number < nodes else None
+
+
+def _qubits_of(text: str) -> Set[int]:
+    """The qubits that the text of a graph names."""
+    numbers = (whole(word) for _, word in tokens_of(text))
+    return {number for number in numbers if number is not None}
 
 
 def listed(text: str) -> Any:
@@ -81,6 +120,7 @@ def _link(link: Any) -> Any:
 
 def _parts(graph: Any) -> Iterator[List[Any]]:
     """The qubits and couplers of a graph, each as a list."""
+    graph = graph.tolist() if hasattr(graph, 'tolist') else graph
     if hasattr(graph, 'nodelist') and hasattr(graph, 'edgelist'):
         parts: Iterable[Any] = [*graph.nodelist, *graph.edgelist]
     elif hasattr(graph, 'nodes') and hasattr(graph, 'edges'):
@@ -95,6 +135,7 @@ def _parts(graph: Any) -> Iterator[List[Any]]:
                                'nodes and edges, and is no dict of neighbours or list of pairs') \
                 from None
     for part in parts:
+        part = part.tolist() if hasattr(part, 'tolist') else part
         yield list(part) if isinstance(part, (list, tuple, set, frozenset)) else [part]
 
 
@@ -119,11 +160,11 @@ def _of_neighbours(graph: Mapping[Any, Any]) -> Iterator[Any]:
 
 def _qubit(qubit: Any, part: List[Any]) -> int:
     """The number of a qubit; bool is none."""
-    number = qubit.__index__() if hasattr(qubit, '__index__') and not isinstance(qubit, bool) else -1
-    if not 0 <= number < MOST_QUBITS:
+    number = _node_of(qubit, MOST_QUBITS)
+    if number is None:
         at = '' if len(part) == 1 else f' of {_told(part)}'
         raise PbisingError(f'{_told(qubit)}{at} is no number of a qubit, from 0 to 2^20 - 1')
-    return int(number)
+    return number
 
 
 def _told(part: Any) -> str:

@@ -11,6 +11,7 @@ from .errors import PbisingError, ProgramError, ProgramMissing, TextError
 from .models import Model
 from .problems import Part, Verdict
 from .program import FileWord, find_program, first_lines
+from .repair import walk_of
 from .samples import written
 from .sources import Source
 from .texts import text_of
@@ -34,7 +35,7 @@ def judge(model: Model, name: str, data: bytes, request: Request,
     energy = model.energy(state)
     verdict = request.source.problem.judge(model.assignment(state))
     lines = [told_model(model), keys, *_of_energy(model, state, energy),
-             *_of_assignment(request.source, model, state, energy, verdict)]
+             *_of_assignment(request, model, state, energy, verdict)]
     return Judgement(lines, verdict.cost is not None and same is not False)
 
 
@@ -108,9 +109,10 @@ def _of_energy(model: Model, state: Sequence[int], energy: int) -> Iterator[str]
                f'{written(state[qubit] for qubit in chain)}')
 
 
-def _of_assignment(source: Source, model: Model, state: Sequence[int], energy: int,
+def _of_assignment(request: Request, model: Model, state: Sequence[int], energy: int,
                    verdict: Verdict) -> Iterator[str]:
     """The assignment, what it breaks and what it costs."""
+    source, local = request.source, request.values().get('penalty') == 'local'
     yield f'assignment {written(model.assignment(state))}'
     hard = [part for part in source.problem.parts if part.weight is None]
     soft = [part for part in source.problem.parts if part.weight is not None]
@@ -121,7 +123,34 @@ def _of_assignment(source: Source, model: Model, state: Sequence[int], energy: i
     if over > 0:
         yield f'the state is {over} above the least of its assignment: `extend` gives that one'
     if over < 0:
-        yield f'the state is {-over} below what its assignment reaches: broken chains of chain=cut'
+        yield (f'the state is {-over} below what its assignment reaches: '
+               + _why_below(request, model.broken_chains(state)))
+    if local and verdict.cost is None and source.has_parts:
+        yield _of_repair(request, model, state)
+
+
+def _why_below(request: Request, broken: List[int]) -> str:
+    """Why a state lies below the least one that its assignment has by what it costs."""
+    if broken:
+        return 'broken chains of chain=cut'
+    if request.source.format == 'wbo' and request.values().get('penalty') == 'local':
+        return 'a soft constraint fails that it does not pay for, as penalty=local allows'
+    return 'the assignment costs more than bound='
+
+
+def _of_repair(request: Request, model: Model, state: Sequence[int]) -> str:
+    """What `penalty=local` promises of a state that breaks something: that some assignment costs
+    less than its energy, or that it lies above the threshold."""
+    walk = walk_of(request.source, request.values())
+    bits = model.assignment(state, walk.problem.variables)
+    stuck = sorted({part.line for part in walk.stuck(bits)})
+    if stuck:
+        told = ', '.join(f'line {line}' if line else 'TOP' for line in stuck[:MOST])
+        return f'no repair: these have no penalty of their own: {told}'
+    found = walk.run(bits)[:model.variables]
+    cost = request.source.problem.cost(found)
+    return ('no repair below TOP' if cost is None
+            else f'repaired, it is {written(found)} of cost {cost}')
 
 
 def _of_parts(kind: str, parts: List[Part], broken: List[Part],

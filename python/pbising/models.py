@@ -1,8 +1,9 @@
 """Models: QUBO files, Ising files, and Ising files on a graph of qubits, whoever wrote them.
 
-The kind is `qubo`, `ising`, or that of the graph: `chimera`, or `graph` where it is a list. A state is a list of bits, one for each node, or for each qubit of the graph. In an Ising model bit
-1 is the spin +1, and bit 0 the spin -1. Energies count in the model's unit. Without figures the
-scale and the unit are 1, the offset is 0, and there is no threshold.
+The kind is `qubo`, `ising`, or that of the graph: `chimera`, or `graph` where it is a list. A state
+is a list of bits, one for each node, or for each qubit of the graph. In an Ising model bit 1 is the
+spin +1, and bit 0 the spin -1. Energies count in the model's unit. Without figures the scale and
+the unit are 1, the offset is 0, and there is no threshold.
 """
 from __future__ import annotations
 
@@ -95,11 +96,13 @@ class Model:
         """The cost that a least state of this energy stands for."""
         return (self.unit * energy - self.offset) // self.scale
 
-    def assignment(self, state: Sequence[int]) -> List[int]:
-        """The bits of the variables: of a chain that of most qubits, on a tie its first one's."""
+    def assignment(self, state: Sequence[int], count: Optional[int] = None) -> List[int]:
+        """The bits of the variables, or of so many nodes: of a chain that of most qubits, on a tie
+        its first one's."""
+        count = self.variables if count is None else count
         if self.chains is None:
-            return list(state[:self.variables])
-        return [_majority([state[q] for q in chain]) for chain in self.chains[:self.variables]]
+            return list(state[:count])
+        return [_majority([state[q] for q in chain]) for chain in self.chains[:count]]
 
     def broken_chains(self, state: Sequence[int]) -> List[int]:
         """The nodes whose chains have qubits of both bits."""

@@ -162,7 +162,8 @@ def _values(one: Decoded) -> str:
 
 def _chains(model: Model, state: Optional[Sequence[int]]) -> List[Svg]:
     """The chains of a model, where a page has room for its graph."""
-    few = model.chains is not None and drawable(model) and model.nodes <= MOST_QUBITS
+    room = model.nodes if model.shape else len(model.used())
+    few = model.chains is not None and drawable(model) and room <= MOST_QUBITS
     return [plot_chains(model, state)] if few else []
 
 

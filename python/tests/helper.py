@@ -11,7 +11,8 @@ from pathlib import Path
 ROOT = Path(__file__).resolve().parents[2]
 sys.path.insert(0, str(ROOT / 'python'))
 
-from pbising import ProgramMissing, find_program  # noqa: E402 (the path comes first)
+import pbising  # noqa: E402 (the path comes first)
+from pbising import ProgramMissing, UsageError, find_program  # noqa: E402
 from pbising.cli import main  # noqa: E402
 
 EXAMPLES = ROOT / 'examples'
@@ -69,6 +70,27 @@ def program():
 
 needs_program = unittest.skipUnless(
     program(), 'compile_program is not found: build it, or set PBISING_PROGRAM')
+
+
+def knows(target='qubo', **keys):
+    """Whether there is a program, and it takes a target and keys."""
+    try:
+        pbising.size('p wcnf 0 0\n', 'wcnf', target, **keys)
+    except (ProgramMissing, UsageError):
+        return False
+    return True
+
+
+def needs_local():
+    """Skips a test where the program has no penalties of parts and no clauses of covers."""
+    return unittest.skipUnless(knows(penalty='local', slack='clauses'),
+                               'compile_program does not know penalty=local and slack=clauses')
+
+
+def needs_graph():
+    """Skips a test where the program has no graphs that are lists."""
+    return unittest.skipUnless(knows('graph', graph='', map=''),
+                               'compile_program does not know the target graph')
 
 
 class Array:

@@ -46,7 +46,7 @@ SLIPS = (
     (('compile', 'a.wcnf', '--bound', '1e3'), "'1e3'.*a whole number.*bound="),
     (('compile', 'a.wcnf', 'bound=none'), "'none'.*a whole number.*bound="),
     (('compile', 'a.wcnf', 'unit=2'), "'2'.*one or reduce for unit="),
-    (('compile', 'a.wcnf', 'slack=pair'), "'pair'.*bits or pairs for slack=.*'pairs'"),
+    (('compile', 'a.wcnf', 'slack=pair'), "'pair'.*bits, pairs or clauses for slack=.*'pairs'"),
     (('compile', 'a.wcnf', 'order=state'), 'order= is a key of `solve`'),
     (('solve', 'a.wcnf', 'order=nowhere'), 'cannot read nowhere'),
     (('compile', 'a.wcnf', 'rows=2'), 'rows= is a key of the target chimera'),
@@ -59,8 +59,14 @@ SLIPS = (
     (('compile', 'a.wcnf', *GRAPH[:2], 'rows=two', 'cols=1', 'shore=1'), "'two'.*for rows="),
     (('compile', 'a.wcnf', *GRAPH[:2], 'rows=999', 'cols=999', 'shore=1', 'embed=clique'),
      'a graph of 1996002 qubits.*at most 1048576'),
-    (('compile', 'a.wcnf', '--target', 'qbuo'), "'qbuo'.*a target, qubo, ising or chimera.*'qubo'"),
-    (('compile', 'a.wcnf', '--target', 'pegasus'), "'pegasus'.*a target, qubo, ising or chimera"),
+    (('compile', 'a.wcnf', '--target', 'qbuo'), "'qbuo'.*a target, qubo, ising, chimera or graph.*'qubo'"),
+    (('compile', 'a.wcnf', '--target', 'pegasus'), "'pegasus'.*a target, qubo, ising, chimera or graph.*'graph'"),
+    (('compile', 'a.wcnf', 'penalty=locl'), "'locl'.*global or local for penalty=.*'local'"),
+    (('compile', 'a.wcnf', 'graph=state'), 'graph= is a key of the target graph, and not of qubo'),
+    (('compile', 'a.wcnf', 'map=state'), 'map= is a key of the target chimera or graph, and not of qubo'),
+    (('compile', 'a.wcnf', '--target', 'graph', 'map=state'), 'graph=FILE and map=FILE: graph= is missing'),
+    (('compile', 'a.wcnf', '--target', 'graph', 'graph=state', 'map=state', 'embed=clique'),
+     'embed= is a key of the target chimera, and not of graph'),
     (('compile', 'a.wcnf', '--format', 'wncf'), "one of wcnf, .*not 'wncf'.*'wcnf'"),
     (('compile', 'qubo', 'wcnf', 'a.wcnf'), "'wcnf'.*--format wcnf --target qubo"),
     (('compile', 'a.wcnf', 'ising'), "'ising'.*--target ising"),
@@ -130,6 +136,8 @@ class Words(unittest.TestCase):
         self.assertIsNone(fault('compile', 'qubo', 'ising', {'bound': '-3', 'high': 'rosenberg'}))
         graph = {'rows': '1', 'cols': '2', 'shore': '4', 'map': 'a', 'dead': 'b', 'chain': 'cut'}
         self.assertIsNone(fault('solve', 'wcnf', 'chimera', {**graph, 'order': 'o'}))
+        self.assertIsNone(fault('size', 'wbo', 'graph', {'graph': 'a', 'map': 'b', 'chain': 'choi',
+                                                         'penalty': 'local', 'slack': 'clauses'}))
 
 
 @needs_program

@@ -58,16 +58,32 @@ class Graphs(unittest.TestCase):
         picture = draw(parse(GRAPH.encode()), [1, 0, 0, 0, 0, 0, 0, 0], strengths=True)
         self.assertIn('node 0, broken', picture)
         self.assertEqual((picture.count('<text'), picture.count('<line')), (4, 1))
-        many = ' '.join(map(str, range(65)))
-        rows = ''.join(f'{qubit} {qubit} 1\n' for qubit in range(65))
-        wide = f'c variables 1\nc graph 65\nc chain 0 {many}\np ising 65 65 0\n{rows}'
-        with self.assertRaisesRegex(PbisingError, '65 qubits, and a graph that is a list is drawn'):
-            draw(parse(wide.encode()))
         status, out, err = command('draw', '-', given=GRAPH.encode())
         self.assertEqual((status, out[:4], err), (0, '<svg', ''))
         status, out, err = command('draw', '-', '--dead', 'list', given=GRAPH.encode())
         self.assertEqual((status, out), (2, ''))
         self.assertIn('dead parts are those of a Chimera graph', err)
+
+
+    def test_a_picture_of_many_qubits_has_a_dot_for_each_chain(self):
+        picture = draw(chained(3, 40), [1] + [0] * 119)
+        self.assertEqual((picture.count('<line'), picture.count('<circle')), (2, 4))
+        self.assertIn('node 0, broken', picture)
+        self.assertNotIn('broken', draw(chained(3, 40)))
+        draw(chained(200, 1))
+        with self.assertRaisesRegex(PbisingError, '201 chains, and a graph that is a list is drawn'):
+            draw(chained(201, 1))
+
+
+def chained(chains, qubits):
+    """A model of chains of so many qubits each on a list, each coupled with the one before."""
+    count = chains * qubits
+    rows = [f'{qubit} {qubit} 1' for qubit in range(count)]
+    rows += [f'{qubit} {qubit + 1} -1' for qubit in range(count - 1)]
+    front = [f'c variables {chains}', f'c graph {count}']
+    front += [f'c chain {node} ' + ' '.join(map(str, range(node * qubits, (node + 1) * qubits)))
+              for node in range(chains)]
+    return parse('\n'.join([*front, f'p ising {count} {count} {count - 1}', *rows]).encode() + b'\n')
 
 
 class Elimination(unittest.TestCase):

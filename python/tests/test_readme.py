@@ -6,16 +6,18 @@ import os
 import re
 import unittest
 
-from helper import ROOT, needs_program
+from helper import ROOT, knows, needs_program
 
 DOCUMENTS = ('python/README.md', 'README.md', 'docs/GUIDE.md')
 BLOCK = re.compile(r'```python\n(.*?)```\n+```output\n(.*?)```', re.DOTALL)
 
 
 def missing(code):
-    """Whether a block imports a module that is not installed."""
+    """Whether a block imports a module that is not installed, or asks the program for a target that
+    it does not know."""
     modules = re.findall(r'^(?:import|from) +(\w+)', code, re.MULTILINE)
-    return any(importlib.util.find_spec(name) is None for name in modules)
+    return (any(importlib.util.find_spec(name) is None for name in modules)
+            or "target='graph'" in code and not knows('graph', graph='', map=''))
 
 
 @needs_program
