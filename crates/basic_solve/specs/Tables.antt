@@ -19,6 +19,10 @@ index_of y (u ∷ us) = cond (bit_at y u) 1 0 + 2 * index_of y us
 abbrev pub number_at : List ℤ → ℕ → ℤ
 number_at values x = slice_index_or values x (pos 0)
 
+-- these are the first numbers of a table, so many
+abbrev pub HasNumbers : List ℤ → ℕ → (ℕ → ℤ) → Type 0
+HasNumbers values count number = (x : ℕ) → x < count → number_at values x ≡ number x
+
 -- the number at a place of a table, with the one that another table has where `places` sends it,
 -- past a start: with places [0, 0, 1, 1] and start 2, place 3 takes the other table's number 3
 abbrev pub sum_at : (values more : List ℤ) → (places : List ℕ) → ℕ → ℕ → ℤ

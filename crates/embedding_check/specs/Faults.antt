@@ -87,6 +87,11 @@ pub record IsUncoupled (joined : Joins) (couplings : List Entry) (map : List (Li
   pub first : (d : Entry) → (slice_index_or couplings k d).first ≡ u
   pub second : (d : Entry) → (slice_index_or couplings k d).second ≡ v
 
+-- the fault names the first number, chain after chain, that is no qubit
+abbrev pub NamesUnknown : (ℕ → Bool) → List (List ℕ) → EmbedFault → Type 0
+NamesUnknown exists map f =
+    (v : ℕ) × (k : ℕ) × IsFirstAt map (Exists exists map) v k × (f ≡ NoSuchQubit v (number_at map v k))
+
 -- the fault names the first qubit, chain after chain, that no walk inside its chain reaches
 abbrev pub NamesUnreached : Joins → List (List ℕ) → EmbedFault → Type 0
 NamesUnreached joined map f =

@@ -30,6 +30,10 @@ qubit_at qs i = slice_index_or qs i 0
 abbrev pub IsDone : Joins → List ℕ → ℕ → Found → ℕ → Type 0
 IsDone joined qs q s i = waits_at s i ≡ true → joined q (qubit_at qs i) ≡ false
 
+-- q is done with all positions whose qubits are of this kind
+abbrev pub AreDone : Joins → List ℕ → ℕ → (ℕ → Type 0) → Found → Type 0
+AreDone joined qs q Kind s = (i : ℕ) → i < length qs → Kind (qubit_at qs i) → IsDone joined qs q s i
+
 -- the qubits ascend, and none is listed twice
 abbrev pub IsRising : List ℕ → Type 0
 IsRising qs = (i j : ℕ) → i < j → j < length qs → qubit_at qs i < qubit_at qs j

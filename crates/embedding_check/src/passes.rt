@@ -13,6 +13,7 @@ ghost use Rattle.embedding_check.specs.Faults.{
   IsNew,
   IsReachedAt,
   AreSearchable,
+  NamesUnknown,
   NamesUnreached,
   number_at,
 };
@@ -54,9 +55,8 @@ pub(crate) fn check_inside<H: Hardware>(hardware: &H, map: &ChainMap) -> Result<
     ensures within { IfOk result (λ _. (u : ℕ) → u < length map.now
         → (j : ℕ) → j < length (chain_of map.now u)
         → Exists (H.exists hardware.now) map.now u j) }
-    ensures fault { IfErr result (λ e. IfFault e (λ f. (v : ℕ) × (k : ℕ)
-        × IsFirstAt map.now (Exists (H.exists hardware.now) map.now) v k
-        × (f ≡ EmbedFault.NoSuchQubit v (number_at map.now v k)))) }
+    ensures fault { IfErr result (λ e.
+        IfFault e (NamesUnknown (H.exists hardware.now) map.now)) }
 {
     for node in 0..map.len() {
         let chain = map.chain(node);

@@ -12,6 +12,7 @@ ghost use Rattle.embedding_check.specs.Reached.{AreFound};
 ghost use Rattle.embedding_check.specs.Search.{
   Found,
   qubit_at,
+  AreDone,
   IsDone,
   IsRising,
   taken,
@@ -187,9 +188,8 @@ impl Search {
         requires rising { IsRising sorted.now }
         ensures takes { OnOk result
             (Takes (H.joined hardware.now) sorted.now qubit self.old self.new) }
-        ensures done { OnOk result ((i : ℕ) → i < length sorted.now
-            → IsOneOf (H.others hardware.now qubit) (H.other hardware.now qubit) (qubit_at sorted.now i)
-            → IsDone (H.joined hardware.now) sorted.now qubit self.new i) }
+        ensures done { OnOk result (AreDone (H.joined hardware.now) sorted.now qubit
+            (IsOneOf (H.others hardware.now qubit) (H.other hardware.now qubit)) self.new) }
     {
         let others = hardware.others(qubit);
         for k in others.start..others.end {

@@ -106,6 +106,10 @@ abbrev pub RelaxesBy : PenaltyScope → (f g : Form) → Decoding → ℤ → Fi
 RelaxesBy Global f g d u n = Relaxes f g d u n
 RelaxesBy Local f g d u n = RelaxesAtLeast f g d u n
 
+-- g relaxes f in each scope that is allowed
+abbrev pub RelaxesIn : (PenaltyScope → Type 0) → (f g : Form) → Decoding → ℤ → Figures → Type 0
+RelaxesIn Allowed f g d u n = (scope : PenaltyScope) → Allowed scope → RelaxesBy scope f g d u n
+
 -- h is g with its constant moved and its energies divided: u times the energy in h is that in g,
 -- and b more
 pub record Reduces (g h : Form) (u b : ℤ) : Type 0 where

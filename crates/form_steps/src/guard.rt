@@ -3,7 +3,7 @@ ghost use Rattle.std.specs.Prelude.{◌≡◌, ◌≤◌, ◌+◌, ◌*◌, ◌^
 ghost use Rattle.base.specs.declared.costs.Figures.{Figures};
 ghost use Rattle.form_steps.specs.declared.scope.PenaltyScope.{PenaltyScope};
 ghost use Rattle.base.specs.Costs.{IsOf, IsNeverInfinite};
-ghost use Rattle.form_steps.specs.Relations.{Decoding, RelaxesBy, StaysAbove, ExtendsLeast, Joins};
+ghost use Rattle.form_steps.specs.Relations.{Decoding, RelaxesBy, RelaxesIn, StaysAbove, ExtendsLeast, Joins};
 
 use base::{Costed, Figures, NoMemory};
 use std::alloc::Global;
@@ -69,8 +69,8 @@ pub trait Guard {
         ensures fits { IfOk result (λ made. fits made.link source.now) }
         ensures figures { IfOk result (λ made. made.figures ≡ figures source.now) }
 
-        ensures relaxes { IfOk result (λ made. (scope : PenaltyScope) → allows scope source.now
-            → RelaxesBy scope (Self.Source.form source.now) (Self.Target.form made.target)
+        ensures relaxes { IfOk result (λ made. RelaxesIn (λ scope. allows scope source.now)
+            (Self.Source.form source.now) (Self.Target.form made.target)
             (decoding made.link) (pos 1) made.figures) }
         ensures stays { IfOk result (λ made. StaysAbove (Self.Source.form source.now)
             (Self.Target.form made.target) (decoding made.link) (pos 1) made.figures) }

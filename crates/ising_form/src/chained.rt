@@ -45,7 +45,8 @@ fn keep_node(numbers: &mut Vec<u32>, fields: &mut Vec<i128>, node: u32) -> Resul
     requires within { node < length fields.old.items }
     ensures numbers { OnOk result (numbers.new.items ≡ numbers.old.items ++ node ∷ []) }
     ensures fields { OnOk result (fields.new.items
-        ≡ slice_set fields.old.items (length numbers.old.items) (slice_index_or fields.old.items node (pos 0))) }
+        ≡ slice_set fields.old.items (length numbers.old.items)
+        (slice_index_or fields.old.items node (pos 0))) }
 {
     fields[numbers.len()] = fields[node as usize];
     numbers.push(node)?;

@@ -3,7 +3,7 @@ use Rattle.std.specs.Prelude.{◌≡◌, ℕ, Bool, true, List, [], ◌∷◌, R
 use Rattle.whole_text.specs.declared.faults.TextKind.TheVariants as kinds
 use Rattle.whole_text.specs.declared.faults.TextFault.{TextFault}
 use Rattle.whole_text.specs.declared.token.Style.TheVariants.{Plain}
-use Rattle.whole_text.specs.Tokens.{Word, tokens_of}
+use Rattle.whole_text.specs.Tokens.{Word, tokens_of, tokens_of_line}
 use Rattle.whole_text.specs.Steps.{◌>>=◌, fault, natural_at}
 use Rattle.whole_text.specs.Rows.{Row, by_line, each}
 use Rattle.part_lists.specs.declared.parts.Part.{Part}
@@ -35,6 +35,10 @@ part_at exists joined r = qubit_at exists r.first >>= λ a. rest_at exists joine
 -- the parts that words name, line by line
 unfoldable pub parts_of_words : (ℕ → Bool) → (ℕ → ℕ → Bool) → List Word → Result (List Part) TextFault
 parts_of_words exists joined ws = each (part_at exists joined) (by_line ws)
+
+-- the parts that a line of a text names, where these qubits exist and these are joined
+abbrev pub parts_of_line : (ℕ → Bool) → (ℕ → ℕ → Bool) → ℕ → List ℕ → Result (List Part) TextFault
+parts_of_line exists joined n line = parts_of_words exists joined (tokens_of_line Plain n line)
 
 -- the parts that a text names, where these qubits exist and these are joined, or its first fault
 unfoldable pub listed_parts : (ℕ → Bool) → (ℕ → ℕ → Bool) → List ℕ → Result (List Part) TextFault

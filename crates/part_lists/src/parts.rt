@@ -3,10 +3,9 @@
 ghost use Rattle.std.specs.Prelude.{◌≡◌, ◌≤◌, true, length, map, take, slice_range, IfOk, IfSome};
 ghost use Rattle.std.specs.List.{position_or_len};
 ghost use Rattle.std.specs.Option.{option_to_list};
-ghost use Rattle.whole_text.specs.declared.token.Style.TheVariants.{Plain};
-ghost use Rattle.whole_text.specs.Tokens.{is_blank, word, words, tokens_of_line};
+ghost use Rattle.whole_text.specs.Tokens.{is_blank, word, words};
 ghost use Rattle.whole_text.specs.Steps.{GivesAlways};
-ghost use Rattle.part_lists.specs.Lists.{qubit_at, joined_at, rest_at, parts_of_words, IsPartOf};
+ghost use Rattle.part_lists.specs.Lists.{qubit_at, joined_at, rest_at, parts_of_line, IsPartOf};
 
 use chain_map::first_number;
 use hardware::{Hardware, is_qubit};
@@ -24,7 +23,8 @@ pub enum Part {
 #[inline(always)]
 fn first_qubit<H: Hardware>(host: &H, bytes: &[u8], line: u64) -> Result<(u32, usize), TextFault>
     ensures value { GivesAlways (λ x. x.0) result
-        (qubit_at (H.exists host.now) (word line (take (position_or_len is_blank bytes.now) bytes.now))) }
+        (qubit_at (H.exists host.now)
+        (word line (take (position_or_len is_blank bytes.now) bytes.now))) }
     ensures len { IfOk result (λ x. x.1 ≡ position_or_len is_blank bytes.now) }
     ensures exists { IfOk result (λ x. H.exists host.now x.0 ≡ true) }
 {
@@ -104,8 +104,10 @@ pub(crate) fn part_of_line<H: Hardware>(
     requires ordered { start ≤ end }
     requires within { end ≤ length text.now }
     ensures read { GivesAlways option_to_list result
-        (parts_of_words (H.exists host.now) (H.joined host.now) (tokens_of_line Plain line (slice_range text.now start end))) }
-    ensures kept { IfOk result (λ part. IfSome part (IsPartOf (H.exists host.now) (H.joined host.now))) }
+        (parts_of_line (H.exists host.now) (H.joined host.now) line
+        (slice_range text.now start end)) }
+    ensures kept { IfOk result (λ part.
+        IfSome part (IsPartOf (H.exists host.now) (H.joined host.now))) }
 {
     let at = start + blank_len(&text[start..end]);
     if at == end || text[at] == b'c' {

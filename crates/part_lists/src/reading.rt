@@ -1,10 +1,8 @@
 //! The text of a list of parts, line by line, so that no list of words is made.
 ghost use Rattle.std.specs.Prelude.{◌≡◌, ◌≤◌, All, length, slice_range, IfOk, OnOk};
-ghost use Rattle.whole_text.specs.declared.token.Style.TheVariants.{Plain};
-ghost use Rattle.whole_text.specs.Tokens.{tokens_of_line};
 ghost use Rattle.whole_text.specs.Steps.{Gives};
 ghost use Rattle.chain_map.specs.Maps.{after_front};
-ghost use Rattle.part_lists.specs.Lists.{parts_of_words, listed_parts, IsPartOf};
+ghost use Rattle.part_lists.specs.Lists.{parts_of_line, listed_parts, IsPartOf};
 
 use crate::parts::{Part, part_of_line};
 use hardware::Hardware;
@@ -24,8 +22,8 @@ fn add_line<H: Hardware>(
     requires ordered { start ≤ end }
     requires within { end ≤ length text.now }
     ensures read { Gives (λ _. parts.new.items) result (after_front parts.old.items
-        (parts_of_words (H.exists host.now) (H.joined host.now)
-        (tokens_of_line Plain line (slice_range text.now start end)))) }
+        (parts_of_line (H.exists host.now) (H.joined host.now) line
+        (slice_range text.now start end))) }
     ensures kept { OnOk result
         (All (IsPartOf (H.exists host.now) (H.joined host.now)) parts.old.items
         → All (IsPartOf (H.exists host.now) (H.joined host.now)) parts.new.items) }

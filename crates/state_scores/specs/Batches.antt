@@ -20,6 +20,11 @@ abbrev pub AreEnergies : Judgement → List (List Bool) → List ℤ → Type 0
 AreEnergies j states energies =
     (k : ℕ) → k < length states → slice_index_or energies k (pos 0) ≡ j.energy (slice_index_or states k [])
 
+-- this holds of each judgement whose costs and energies of these states are these
+abbrev pub WhereJudged : List (List Bool) → List Cost → List ℤ → (Judgement → Type 0) → Type 0
+WhereJudged states costs energies P =
+    (j : Judgement) → AreCosts j states costs → AreEnergies j states energies → P j
+
 -- states with the numbers of their lines were taken off the front of others: at most 64, and none
 -- only where none were left
 pub record AreTaken (width : ℕ) (before after : List StateLine) (lines : List ℕ)

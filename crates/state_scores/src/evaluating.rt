@@ -3,7 +3,7 @@ ghost use Rattle.std.specs.Prelude.{◌≡◌, ◌+◌, ◌^◌, ◌<◌, [], Al
 ghost use Rattle.std.specs.List.{zip};
 ghost use Rattle.state_file.specs.States.{states_of};
 ghost use Rattle.state_scores.specs.Scores.{IsEvaluation, IsSmall, Judgement};
-ghost use Rattle.state_scores.specs.Batches.{AreCosts, AreEnergies, IsEvaluationOf, after_score, after_states, leads, standing};
+ghost use Rattle.state_scores.specs.Batches.{IsEvaluationOf, WhereJudged, after_score, after_states, leads, standing};
 
 use crate::batch::Batch;
 use crate::judging::Judge;
@@ -89,10 +89,9 @@ impl Evaluation {
         requires small { All IsSmall batch.now.costs.items }
         requires lines { All (λ state. state.0 < 2 ^ 32)
             (zip batch.now.lines.items batch.now.states) }
-        ensures taken { OnOk result ((j : Judgement)
-            → AreCosts j batch.now.states batch.now.costs.items
-            → AreEnergies j batch.now.states batch.now.energies.items → standing self.new
-            ≡ after_states j (standing self.old) (zip batch.now.lines.items batch.now.states)) }
+        ensures taken { OnOk result (WhereJudged batch.now.states batch.now.costs.items
+            batch.now.energies.items (λ j. standing self.new ≡ after_states j
+            (standing self.old) (zip batch.now.lines.items batch.now.states))) }
         ensures kept { length self.new.state.items ≡ length self.old.state.items }
     {
         for place in 0..batch.lines.len() {
