@@ -1,6 +1,6 @@
 //! A small buffer before a sink, so that lines are written without a whole text and without a call
 //! for each.
-ghost use Rattle.std.specs.Prelude.{◌≡◌, ◌++◌, ◌+◌, ◌≤◌, [], length, IfOk, OnOk, OnErr};
+ghost use Rattle.std.specs.Prelude.{◌≡◌, ◌++◌, ◌+◌, ◌≤◌, [], length, take, IfOk, OnOk, OnErr};
 ghost use Rattle.edge_io.specs.Counts.{HasCause};
 ghost use Rattle.edge_io.specs.Sinks.{Takes, TakesFront, Passes};
 
@@ -17,27 +17,28 @@ const ROOM: usize = 4096;
 /// Only `new` takes memory.
 #[derive(Drop)]
 pub struct LineBuffer {
-    pending: Vec<u8>,
+    room: Vec<u8>,
+    len: usize,
 }
 
 impl Model for LineBuffer {
-    ghost use Rattle.std.specs.Prelude.{List, ℕ, ◌≤◌, length, vec_capacity};
+    ghost use Rattle.std.specs.Prelude.{List, ℕ, ◌≡◌, ◌≤◌, length, take};
 
     ghost Value = { List ℕ };
 
-    ghost view = { λ buffer. buffer.pending.items };
+    ghost view = { λ buffer. take buffer.len buffer.room.items };
 
-    ghost invariant = { λ buffer. (length buffer.pending.items ≤ 4096) ×
-        (4096 ≤ vec_capacity buffer.pending) };
+    ghost invariant = { λ buffer. (length buffer.room.items ≡ 4096) × (buffer.len ≤ 4096) };
 }
 
 impl LineBuffer {
-    /// An empty buffer, whose whole room is reserved.
+    /// An empty buffer with its whole room.
     pub fn new(alloc: Global) -> Result<LineBuffer, NoMemory>
         ensures { IfOk result (λ buffer. buffer ≡ []) }
     {
-        let pending = Vec::with_capacity(alloc, ROOM)?;
-        Ok(LineBuffer { pending })
+        let mut room = Vec::new(alloc);
+        room.resize(ROOM, 0)?;
+        Ok(LineBuffer { room, len: 0 })
     }
 
     /// Puts a piece behind the pending bytes, and writes a front of them all where the room is
@@ -59,6 +60,31 @@ impl LineBuffer {
         }
     }
 
+    /// Puts the first of these bytes, as `put` does. All are copied, since that takes a few moves
+    /// where their count is a constant, and the others do not count.
+    #[inline(always)]
+    pub fn put_front<S: Sink>(
+        &mut self,
+        sink: &mut S,
+        bytes: &[u8],
+        len: usize,
+    ) -> Result<(), WriteFault>
+        requires { len ≤ length bytes.now }
+        ensures passed { OnOk result
+            (Passes (S.taken sink.old) (S.taken sink.new) self.old self.new (take len bytes.now)) }
+        ensures front { OnErr result
+            (TakesFront (S.taken sink.old) (S.taken sink.new) (self.old ++ take len bytes.now)) }
+        ensures lost { OnErr result (self.new ≡ []) }
+        ensures cause { HasCause (S.faults sink.old) (S.faults sink.new) result }
+    {
+        if bytes.len() <= self.free() {
+            self.append_front(bytes, len);
+            Ok(())
+        } else {
+            self.put_long(sink, &bytes[..len])
+        }
+    }
+
     /// Writes the pending bytes. Whatever the answer, nothing is pending then.
     pub fn flush<S: Sink>(&mut self, sink: &mut S) -> Result<(), WriteFault>
         ensures whole { OnOk result (Takes (S.taken sink.old) (S.taken sink.new) self.old) }
@@ -67,8 +93,8 @@ impl LineBuffer {
         ensures empty { self.new ≡ [] }
         ensures cause { HasCause (S.faults sink.old) (S.faults sink.new) result }
     {
-        let written = write_all(sink, &self.pending);
-        self.pending.clear();
+        let written = write_all(sink, &self.room[..self.len]);
+        self.len = 0;
         written
     }
 
@@ -76,15 +102,28 @@ impl LineBuffer {
     fn free(&self) -> usize
         ensures { result + length self.now ≡ 4096 }
     {
-        ROOM - self.pending.len()
+        ROOM - self.len
     }
 
-    /// Appends to the pending bytes. The room was reserved, so this takes no memory.
+    /// Appends to the pending bytes.
+    #[inline(always)]
     fn append(&mut self, piece: &[u8])
         requires { length self.old + length piece.now ≤ 4096 }
         ensures { self.new ≡ self.old ++ piece.now }
     {
-        self.pending.extend_from_slice(piece).unwrap();
+        self.append_front(piece, piece.len());
+    }
+
+    /// Appends the first of these bytes, for all of which there is room.
+    #[inline(always)]
+    fn append_front(&mut self, bytes: &[u8], len: usize)
+        requires within { len ≤ length bytes.now }
+        requires room { length self.old + length bytes.now ≤ 4096 }
+        ensures { self.new ≡ self.old ++ take len bytes.now }
+    {
+        let start = self.len;
+        self.room[start..start + bytes.len()].copy_from_slice(bytes);
+        self.len = start + len;
     }
 
     /// Puts a piece in parts, each of which fills the room and is written.

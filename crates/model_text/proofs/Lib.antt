@@ -5,5 +5,6 @@ pub mod ModelRows
 pub mod QubitNumbers
 pub mod EntryLists
 pub mod Puts
+pub mod LineEnds
 pub mod RowPieces
 pub mod Summaries

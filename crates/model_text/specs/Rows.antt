@@ -7,7 +7,7 @@ use Rattle.bits_model.specs.declared.output.Entry.{Entry}
 use Rattle.bits_model.specs.declared.output.Graph.{Graph}
 use Rattle.bits_model.specs.declared.output.Graph.TheVariants.{Chimera, Listed}
 use Rattle.bits_model.specs.declared.output.Kind.{Kind}
-use Rattle.bits_model.specs.declared.output.Kind.TheVariants.{Qubo, Ising, Qubits}
+use Rattle.bits_model.specs.declared.output.Kind.TheVariants.{Qubo, Qubits}
 use Rattle.bits_model.specs.Output.{Written, is_node, is_coupler, weight_total}
 
 -- ---- rows and their text
@@ -58,15 +58,13 @@ chain_rows node (chain ∷ chains) = chain_row node chain ∷ chain_rows (suc no
 
 -- the graph and the chains, where there are any
 abbrev pub graph_rows : Kind → List (List ℕ) → List Row
-graph_rows Qubo chains = []
-graph_rows Ising chains = []
 graph_rows (Qubits graph) chains = graph_row graph ∷ chain_rows 0 chains
+graph_rows kind chains = []
 
 -- the words that name the kind
 abbrev pub kind_words : Kind → Row
 kind_words Qubo = codes "p" ∷ codes "qubo" ∷ codes "0" ∷ []
-kind_words Ising = codes "p" ∷ codes "ising" ∷ []
-kind_words (Qubits graph) = codes "p" ∷ codes "ising" ∷ []
+kind_words kind = codes "p" ∷ codes "ising" ∷ []
 
 -- the kind, and the numbers of nodes, of node entries and of couplers
 abbrev pub header_row : Kind → ℕ → List Entry → Row
@@ -107,9 +105,8 @@ HasNumbers (Listed qubits) = qubits < 2 ^ 32
 
 -- the numbers of its graph fit their fields, where it has one
 abbrev pub FitsGraph : Kind → Type 0
-FitsGraph Qubo = Unit {0}
-FitsGraph Ising = Unit {0}
 FitsGraph (Qubits graph) = HasNumbers graph
+FitsGraph kind = Unit {0}
 
 -- the numbers of a model fit the fields that hold them, and the sizes of its weights sum to at most
 -- 2 ^ 124

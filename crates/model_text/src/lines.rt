@@ -1,23 +1,47 @@
 //! The rows of a text, each put to a sink through a buffer by a function of its own. None takes
 //! memory, and after a fault nothing is pending.
-ghost use Rattle.std.specs.Prelude.{◌≡◌, ◌+◌, ◌<◌, ◌≤◌, ◌++◌, [], ◌∷◌, length, map, drop};
+ghost use Rattle.std.specs.Prelude.{◌≡◌, ◌+◌, ◌<◌, ◌≤◌, ◌++◌, [], ◌∷◌, pos, length, map, drop};
 ghost use Rattle.std.specs.List.{join_with_byte, slice_index_or};
 ghost use Rattle.std.specs.Fmt.{decimal, signed_decimal};
 ghost use Rattle.edge_io.specs.Sinks.{joined_bytes};
 ghost use Rattle.model_text.specs.Rows.{row_text, rows_text, figure_rows, graph_row, chain_row, chain_rows, graph_rows, kind_words, header_row, entry_row, FitsFigures, HasNumbers, FitsGraph};
-ghost use Rattle.model_text.specs.Lines.{spaced_numbers, IsPutBy};
+ghost use Rattle.model_text.specs.Lines.{spaced_numbers, IsPutBy, EndsIn};
 
 use base::Figures;
 use bits_model::{ChainList, CouplerList, Entry, EntryList, Graph, Kind, NodeWeights, Row};
 use edge_io::{LineBuffer, Sink, WriteFault};
 use itoa::{Buffer, write_digits};
+use std::marker::Model;
 
 /// Room for a row: two numbers of 10 digits and one of 19, a sign, two spaces and a line feed are 43
 /// bytes.
 const LINE: usize = 48;
 
+/// Room for a row, and for as many bytes behind it, which are copied with it.
+const WIDE: usize = 96;
+
 /// Room for the front of a row: a number of 10 digits and a space.
 const FRONT: usize = 11;
+
+/// Where rows are built, each from its end. A weight's text and a line feed stand before `LINE`, and
+/// stay there for the rows after it that have the same weight.
+#[derive(Drop)]
+struct Line {
+    bytes: [u8; WIDE],
+    weight: i64,
+    at: usize,
+}
+
+impl Model for Line {
+    ghost use Rattle.std.specs.Prelude.{ℤ};
+    ghost use Rattle.model_text.specs.Lines.{EndsIn};
+
+    ghost Value = { ℤ };
+
+    ghost view = { λ line. line.weight };
+
+    ghost invariant = { λ line. EndsIn line.bytes line.at line.weight };
+}
 
 /// Puts the pieces one after the other.
 #[inline(always)]
@@ -239,7 +263,7 @@ pub fn put_header<S: Sink>(
 
 /// Writes a byte before `end`, and says where it is.
 #[inline(always)]
-fn write_byte(byte: u8, line: &mut [u8; LINE], end: usize) -> usize
+fn write_byte(byte: u8, line: &mut [u8; WIDE], end: usize) -> usize
     requires { (1 ≤ end) × (end ≤ 48) }
     ensures start { result + 1 ≡ end }
     ensures written { drop result line.new ≡ byte ∷ drop end line.old }
@@ -250,20 +274,20 @@ fn write_byte(byte: u8, line: &mut [u8; LINE], end: usize) -> usize
 
 /// Writes a number and a space so that they end at `end`, and says where they begin.
 #[inline(always)]
-fn write_node(node: u32, line: &mut [u8; LINE], end: usize) -> usize
+fn write_node(node: u32, line: &mut [u8; WIDE], end: usize) -> usize
     requires { (11 ≤ end) × (end ≤ 48) }
     ensures start { (result < end) × (end ≤ result + 11) }
     ensures written { drop result line.new ≡ decimal node ++ 32 ∷ drop end line.old }
+    ensures after { drop end line.new ≡ drop end line.old }
 {
     let end = write_byte(b' ', line, end);
     write_digits(u64::from(node), line, end)
 }
 
-/// Writes a weight and a line feed at the end of the line, and says where they begin.
+/// Writes a weight and a line feed before `LINE`, and says where they begin.
 #[inline(always)]
-fn write_weight(weight: i64, line: &mut [u8; LINE]) -> usize
-    ensures start { (27 ≤ result) × (result ≤ 48) }
-    ensures written { drop result line.new ≡ signed_decimal weight ++ 10 ∷ [] }
+fn write_weight(weight: i64, line: &mut [u8; WIDE]) -> usize
+    ensures { EndsIn line.new result weight }
 {
     let end = write_byte(b'\n', line, LINE);
     let at = write_digits(weight.unsigned_abs(), line, end);
@@ -274,16 +298,30 @@ fn write_weight(weight: i64, line: &mut [u8; LINE]) -> usize
     }
 }
 
-/// Writes a row at the end of the line, and says where it begins.
-#[inline(always)]
-fn write_row(first: u32, second: u32, weight: i64, line: &mut [u8; LINE]) -> usize
-    ensures within { result ≤ 48 }
-    ensures written { drop result line.new
-        ≡ row_text (decimal first ∷ decimal second ∷ signed_decimal weight ∷ []) }
-{
-    let at = write_weight(weight, line);
-    let at = write_node(second, line, at);
-    write_node(first, line, at)
+impl Line {
+    /// A line for rows of weight 0.
+    fn new() -> Line
+        ensures { result ≡ pos 0 }
+    {
+        let mut bytes = [0u8; WIDE];
+        let at = write_weight(0, &mut bytes);
+        Line {
+            bytes,
+            weight: 0,
+            at,
+        }
+    }
+
+    /// Makes it a line for rows of this weight.
+    #[inline(always)]
+    fn weigh(&mut self, weight: i64)
+        ensures { self.new ≡ weight }
+    {
+        if weight != self.weight {
+            self.at = write_weight(weight, &mut self.bytes);
+            self.weight = weight;
+        }
+    }
 }
 
 /// Writes a space at the end of a row's front.
@@ -306,33 +344,14 @@ fn write_front(node: u32, front: &mut [u8; FRONT]) -> usize
 
 /// Writes a front, whose text begins at `start`, so that it ends at `end`, and says where it begins.
 #[inline(always)]
-fn copy_front(front: &[u8; FRONT], start: usize, line: &mut [u8; LINE], end: usize) -> usize
+fn copy_front(front: &[u8; FRONT], start: usize, line: &mut [u8; WIDE], end: usize) -> usize
     requires { (start ≤ 11) × (11 ≤ end) × (end ≤ 48) }
     ensures start { result + 11 ≡ end + start }
     ensures written { drop result line.new ≡ drop start front.now ++ drop end line.old }
+    ensures after { drop end line.new ≡ drop end line.old }
 {
     line[end - FRONT..end].copy_from_slice(front);
     end - FRONT + start
-}
-
-/// Writes the row of a coupler, behind the front of its first node, at the end of the line, and says
-/// where it begins.
-#[inline(always)]
-fn write_coupler(
-    front: &[u8; FRONT],
-    start: usize,
-    second: u32,
-    weight: i64,
-    line: &mut [u8; LINE],
-) -> usize
-    requires { start ≤ 11 }
-    ensures within { result ≤ 48 }
-    ensures written { drop result line.new
-        ≡ drop start front.now ++ row_text (decimal second ∷ signed_decimal weight ∷ []) }
-{
-    let at = write_weight(weight, line);
-    let at = write_node(second, line, at);
-    copy_front(front, start, line, at)
 }
 
 /// A weight of any size, after the numbers of its nodes.
@@ -350,31 +369,10 @@ fn put_wide<S: Sink>(buffer: &mut LineBuffer, sink: &mut S, entry: &Entry) -> Re
     put_pieces(buffer, sink, &[first, b" ", second, b" ", weight, b"\n"])
 }
 
-/// A weight, after the numbers of its nodes. The line is where the row is built, and what it holds
-/// before does not matter.
+/// A weight of a node or a coupler, behind the front of its first node.
 #[inline(always)]
 fn put_entry<S: Sink>(
-    line: &mut [u8; LINE],
-    buffer: &mut LineBuffer,
-    sink: &mut S,
-    entry: &Entry,
-) -> Result<(), WriteFault>
-    ensures { IsPutBy (S.taken sink.old) (S.taken sink.new) (S.faults sink.old) (S.faults sink.new)
-        buffer.old buffer.new (row_text (entry_row entry.now)) result }
-{
-    match i64::try_from(entry.weight) {
-        Ok(weight) => {
-            let at = write_row(entry.first, entry.second, weight, line);
-            buffer.put(sink, &line[at..])
-        }
-        Err(_) => put_wide(buffer, sink, entry),
-    }
-}
-
-/// The weight of a coupler, as `put_entry` does, behind the front of its first node.
-#[inline(always)]
-fn put_coupler<S: Sink>(
-    line: &mut [u8; LINE],
+    line: &mut Line,
     front: &[u8; FRONT],
     start: usize,
     buffer: &mut LineBuffer,
@@ -388,16 +386,34 @@ fn put_coupler<S: Sink>(
 {
     match i64::try_from(entry.weight) {
         Ok(weight) => {
-            let at = write_coupler(front, start, entry.second, weight, line);
-            buffer.put(sink, &line[at..])
+            line.weigh(weight);
+            let at = write_node(entry.second, &mut line.bytes, line.at);
+            let at = copy_front(front, start, &mut line.bytes, at);
+            buffer.put_front(sink, &line.bytes[at..at + LINE], LINE - at)
         }
         Err(_) => put_wide(buffer, sink, entry),
     }
 }
 
+/// The weight of a node.
+#[inline(always)]
+fn put_node<S: Sink>(
+    line: &mut Line,
+    buffer: &mut LineBuffer,
+    sink: &mut S,
+    entry: &Entry,
+) -> Result<(), WriteFault>
+    ensures { IsPutBy (S.taken sink.old) (S.taken sink.new) (S.faults sink.old) (S.faults sink.new)
+        buffer.old buffer.new (row_text (entry_row entry.now)) result }
+{
+    let mut front = [0u8; FRONT];
+    let start = write_front(entry.first, &mut front);
+    put_entry(line, &front, start, buffer, sink, entry)
+}
+
 /// Each weight of a node, in order.
 fn put_nodes<S: Sink>(
-    line: &mut [u8; LINE],
+    line: &mut Line,
     buffer: &mut LineBuffer,
     sink: &mut S,
     weights: &NodeWeights,
@@ -406,7 +422,7 @@ fn put_nodes<S: Sink>(
         buffer.old buffer.new (rows_text (map entry_row weights.now)) result }
 {
     for entry in weights.iter() {
-        put_entry(line, buffer, sink, &entry)?;
+        put_node(line, buffer, sink, &entry)?;
     }
     Ok(())
 }
@@ -426,7 +442,7 @@ fn entry_at(row: &Row<'_>, index: usize) -> Entry
 
 /// Each weight of a row of couplers, in order.
 fn put_row<S: Sink>(
-    line: &mut [u8; LINE],
+    line: &mut Line,
     buffer: &mut LineBuffer,
     sink: &mut S,
     row: &Row<'_>,
@@ -438,14 +454,14 @@ fn put_row<S: Sink>(
     let start = write_front(row.first(), &mut front);
     for index in 0..row.len() {
         let entry = entry_at(row, index);
-        put_coupler(line, &front, start, buffer, sink, &entry)?;
+        put_entry(line, &front, start, buffer, sink, &entry)?;
     }
     Ok(())
 }
 
 /// Each weight of a coupler, in order.
 fn put_couplers<S: Sink>(
-    line: &mut [u8; LINE],
+    line: &mut Line,
     buffer: &mut LineBuffer,
     sink: &mut S,
     couplers: &CouplerList,
@@ -469,7 +485,7 @@ pub fn put_entries<S: Sink>(
     ensures { IsPutBy (S.taken sink.old) (S.taken sink.new) (S.faults sink.old) (S.faults sink.new)
         buffer.old buffer.new (rows_text (map entry_row entries.now)) result }
 {
-    let mut line = [0u8; LINE];
+    let mut line = Line::new();
     put_nodes(&mut line, buffer, sink, &entries.nodes)?;
     put_couplers(&mut line, buffer, sink, &entries.couplers)
 }
