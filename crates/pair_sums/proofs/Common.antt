@@ -10,7 +10,7 @@ pub use Rattle.std.proofs.lemmas.Bool.Decides.{Decides-eqb, nat_tests}
 pub use Rattle.bits_model.specs.declared.output.Entry.{Entry}
 pub use Rattle.bits_model.specs.Output.{entry_cmp, weight_total}
 pub use Rattle.bits_model.specs.PairNumbers.{pair_number}
-pub use Rattle.pair_sums.specs.Pairs.{IsPair, IsNonzero, weight_for, entry_in_front, sums_from, AreSummed, weight_at, heavier, sums_of}
+pub use Rattle.pair_sums.specs.Pairs.{IsPair, IsNonzero, weight_for, entry_in_front, sums_from, AreSummed, AppendsSums, weight_at, heavier, sums_of}
 pub use Rattle.std.proofs.lemmas.Int.{ints, to_z-of_z}
 pub use Rattle.std.proofs.lemmas.List.{drop_more, get_or-map, length-map, map-append, nil_from_length, take_more}
 pub use Rattle.std.proofs.lemmas.Option.{slice_get_within, get_or_from_slice_get, slice_get-map, slice_get_read}

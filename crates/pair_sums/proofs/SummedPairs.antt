@@ -1,6 +1,6 @@
 -- Entries in the order of their pairs, with equal neighbours as one: the pairs rise, and each has
 -- the sum of its weights.
-use Rattle.pair_sums.proofs.Common.{if◌then◌else◌, eqb, Decides-eqb, Decides, false, true, Bool, nat_tests, ◌≡◌, ◌≢◌, ℕ, suc, ◌+◌, ◌<◌, ◌≤◌, ◌^◌, ℤ, ◌+ℤ◌, unsigned_abs, List, [], ◌∷◌, ◌++◌, All, refl, ◌∙◌, arith, ⊤, AllByRecursion, IsPermutation, IsNonDecreasingBy, ints, eq-eqb, All-from_recursion, recursion_from_All, sum_by-cons, All-permutation, sum_by-IsPermutation, size-plus, total_by-IsPermutation, Entry, weight_total, pair_number, IsPair, IsNonzero, weight_for, weight_at, heavier, entry_in_front, sums_from, sums_of, AreSummed}
+use Rattle.pair_sums.proofs.Common.{if◌then◌else◌, eqb, Decides-eqb, Decides, false, true, Bool, nat_tests, ◌≡◌, ◌≢◌, ℕ, suc, ◌+◌, ◌<◌, ◌≤◌, ◌^◌, ℤ, ◌+ℤ◌, unsigned_abs, List, [], ◌∷◌, ◌++◌, All, refl, ◌∙◌, arith, ⊤, AllByRecursion, IsPermutation, IsNonDecreasingBy, ints, eq-eqb, All-from_recursion, recursion_from_All, sum_by-cons, All-permutation, sum_by-IsPermutation, size-plus, total_by-IsPermutation, Entry, weight_total, pair_number, IsPair, IsNonzero, weight_for, weight_at, heavier, entry_in_front, sums_from, sums_of, AreSummed, AppendsSums}
 use Rattle.pair_sums.proofs.PairOrder.{ArePairs, Before, Rises, ordered_from_rising}
 
 -- ---- what holds of each entry
@@ -120,6 +120,11 @@ all_pairs : (n : ℕ) (es : List Entry) → AllByRecursion (IsPair n) es
     → AllByRecursion (IsPair n) (sums_of es)
 all_pairs n es pairs = grind (arith, nat_tests, All-sums_of)
 
+all_firsts : (i : ℕ) (es : List Entry) → AllByRecursion (λ e. e.first ≡ i) es
+    → AllByRecursion (λ e. e.first ≡ i) (sums_of es)
+all_firsts i [] firsts = tt
+all_firsts i (e ∷ es) firsts = All-sums_of (λ f. f.first ≡ i) (λ f c h. h) e es firsts.0 firsts.1
+
 sorted_summed : (es : List Entry) → ArePairs es → Climbs es → AreWhole es (sums_of es)
 sorted_summed [] pairs climbs = (tt, tt, tt, λ n h. tt, λ i j. refl, omega arith)
 sorted_summed (e ∷ es) pairs climbs = (
@@ -146,6 +151,18 @@ are_summed xs ys pairs moved sorted =
       sums = λ i j. whole.4 i j ∙ total_by-IsPermutation (weight_for i j) xs ys moved;
       small = omega (arith, whole.5, sum_by-IsPermutation size xs ys moved);
     }
+
+-- such couplers behind others
+pub append_summed : (xs ys old new : List Entry) → All (IsPair (2 ^ 32)) xs → IsPermutation xs ys
+    → IsNonDecreasingBy pair_number ys → new ≡ old ++ sums_of ys → AppendsSums xs old new
+append_summed xs ys old new pairs moved sorted made = record {
+  row = sums_of ys;
+  appended = made;
+  summed = are_summed xs ys pairs moved sorted;
+  firsts = λ i all.
+      All-from_recursion (λ (e : Entry). e.first ≡ i) (sums_of ys)
+      (all_firsts i ys (recursion_from_All _ ys (All-permutation (λ (e : Entry). e.first ≡ i) xs ys moved all)));
+}
 
 -- ---- one more entry of a list in which neighbours are summed
 

@@ -1,5 +1,5 @@
 -- Couplers that were gathered in any order, and the couplers of a form that stand for them.
-use Rattle.std.specs.Prelude.{◌≡◌, ◌≢◌, ℕ, ◌<◌, ◌≤◌, ◌==◌, ℤ, pos, ◌+ℤ◌, ◌&&◌, List, [], ◌∷◌, All, if◌then◌else◌}
+use Rattle.std.specs.Prelude.{◌≡◌, ◌≢◌, ℕ, ◌<◌, ◌≤◌, ◌==◌, ℤ, pos, ◌+ℤ◌, ◌&&◌, List, [], ◌∷◌, ◌++◌, All, if◌then◌else◌}
 use Rattle.std.specs.List.{slice_index_or}
 use Rattle.std.specs.List.Sorted.{IsStrictlySortedBy}
 use Rattle.std.specs.Ordering.{int_eq}
@@ -61,3 +61,10 @@ pub record AreSummed (from to : List Entry) : Type 0 where
   pub pairs : (n : ℕ) → All (IsPair n) from → All (IsPair n) to
   pub sums : (i j : ℕ) → weight_at i j to ≡ weight_at i j from
   pub small : weight_total to ≤ weight_total from
+
+-- such couplers behind others: where all summed ones have a first node, they have it too
+pub record AppendsSums (from old new : List Entry) : Type 0 where
+  pub row : List Entry
+  pub appended : new ≡ old ++ row
+  pub summed : AreSummed from row
+  pub firsts : (i : ℕ) → All (λ e. e.first ≡ i) from → All (λ e. e.first ≡ i) row

@@ -173,6 +173,14 @@ impl ListedPairs {
         }
     }
 
+    /// Leaves no couplers.
+    pub fn clear(&mut self, alloc: Global)
+        ensures { self.new ≡ [] }
+    {
+        self.codes.clear();
+        self.weights = WeightList::empty(alloc);
+    }
+
     /// The same couplers in the order of their pairs.
     pub fn sorted(self, alloc: Global, arrival: Arrival) -> Result<ListedPairs, NoMemory>
         ensures same { IfOk result (IsPermutation self) }

@@ -4,7 +4,7 @@ ghost use Rattle.std.specs.List.Sorted.{IsPermutation, IsNonDecreasingBy};
 ghost use Rattle.bits_model.specs.declared.output.Entry.{Entry};
 ghost use Rattle.bits_model.specs.Output.{weight_total};
 ghost use Rattle.bits_model.specs.PairNumbers.{pair_number};
-ghost use Rattle.pair_sums.specs.Pairs.{entry_at, sums_from, sums_of, IsPair, AreSummed};
+ghost use Rattle.pair_sums.specs.Pairs.{entry_at, sums_from, sums_of, IsPair, AreSummed, AppendsSums};
 ghost use Rattle.pair_sums.specs.Codes.{unpacked};
 ghost use Rattle.pair_sums.specs.PairLists.{held_pairs};
 
@@ -187,6 +187,17 @@ fn sorted_pairs(alloc: Global, held: HeldPairs, arrival: Arrival) -> Result<Held
     }
 }
 
+/// Leaves no couplers, in the same memory.
+fn clear(alloc: Global, held: &mut HeldPairs)
+    ensures { held_pairs held.new ≡ [] }
+{
+    match held {
+        HeldPairs::Packed(_, codes) => codes.clear(),
+        HeldPairs::Listed(pairs) => pairs.clear(alloc),
+        HeldPairs::Wide(pairs) => pairs.clear(),
+    }
+}
+
 /// The coupler at an index.
 #[inline(always)]
 fn coupler_at(held: &HeldPairs, index: usize) -> Entry
@@ -235,16 +246,6 @@ fn append_sums(couplers: &mut CouplerList, pairs: &Pairs) -> Result<(), NoMemory
         add_pending(couplers, &mut pending, pairs.at(i))?;
     }
     push_some(couplers, pending.first, pending.second, pending.weight)
-}
-
-/// Couplers with neighbours of one pair as one, and none of weight 0.
-fn sums_of(alloc: Global, pairs: &Pairs) -> Result<CouplerList, NoMemory>
-    requires { weight_total pairs.now ≤ 2 ^ 126 }
-    ensures { IfOk result (λ couplers. couplers ≡ sums_of pairs.now) }
-{
-    let mut couplers = CouplerList::with_room(alloc, pairs.len())?;
-    append_sums(&mut couplers, pairs)?;
-    Ok(couplers)
 }
 
 impl Pairs {
@@ -314,9 +315,23 @@ impl Pairs {
         requires small { weight_total self ≤ 2 ^ 126 }
         ensures { IfOk result (AreSummed self) }
     {
-        let alloc = self.alloc;
-        let sorted = self.sorted(Arrival::Mixed)?;
-        sums_of(alloc, &sorted)
+        let mut couplers = CouplerList::with_room(self.alloc, self.len())?;
+        self.put_into(&mut couplers)?;
+        Ok(couplers)
+    }
+
+    /// Appends the couplers in order to others, one for each pair whose sum is not 0, and gives back
+    /// the list without couplers.
+    pub fn put_into(self, couplers: &mut CouplerList) -> Result<Pairs, NoMemory>
+        requires pairs { All (IsPair (2 ^ 32)) self }
+        requires small { weight_total self ≤ 2 ^ 126 }
+        ensures put { OnOk result (AppendsSums self couplers.old couplers.new) }
+        ensures none { IfOk result (λ left. left ≡ []) }
+    {
+        let mut sorted = self.sorted(Arrival::Mixed)?;
+        append_sums(couplers, &sorted)?;
+        clear(sorted.alloc, &mut sorted.held);
+        Ok(sorted)
     }
 
     /// Appends a coupler. Where memory is refused the list stays as it was.

@@ -7,7 +7,7 @@ pub use Rattle.term_table.proofs.KeptTerms.{All-with_additions}
 pub use Rattle.quad_form.proofs.Common.{unsigned_abs-mul, QuadContent, IsCoupler, quad_total, quad_size, IsQuad, weight_for, weight_at, IsPair, IsNonzero, Entry, zero_quad, flat_sets, length-image, same_entries, AreTerms-with_additions, size_of, Gain, SumsContent, IsSums, widened, with_weight, room_own, weight_total, times-plus, plain_terms, weights-append}
 pub use Rattle.penalty_layer.proofs.Common.{fits_signed_from_abs, ProblemContent, products_total, Admits, contributions, Product, multiply_out, integers, limit_fault}
 pub use Rattle.term_table.proofs.Common.{IsSortedBy, ranks_by, ordering_reverse, plain, with_front, sums_of, always_returns_same}
-pub use Rattle.pair_sums.proofs.Common.{AreSummed, entry_in_front, IsNonDecreasingBy, IsPermutation-map, pair_number}
+pub use Rattle.pair_sums.proofs.Common.{AreSummed, AppendsSums, IsNonDecreasingBy, IsPermutation-map, pair_number}
 pub use Rattle.std.specs.Prelude.{All, Some, slice_get, Result, Ok, Err, IfOk, Contains, Option}
 pub use Rattle.std.specs.List.{AllByRecursion, flat_map, slice_index_or, filter, sum, slice_range}
 pub use Rattle.std.proofs.lemmas.Grind.{elements, flat_map-append}
@@ -51,7 +51,7 @@ pub use Rattle.std.specs.Result.{OnOk, OnErr}
 pub use Rattle.rosenberg_layer.proofs.Parts.{filter-all, filter-none, filter-ascends}
 pub use Rattle.quadratization.specs.declared.heads.Head.{Head}
 pub use Rattle.quadratization.specs.Occurrences.{places_in_term, places_at, has_variable, occurrences, term_at, IsOccurrence, from_variable, all_occurrences, runs_of, AreStarts, start_of, occurrences_among, AreCounts, AreFilled}
-pub use Rattle.quadratization.specs.RowSums.{node_part, head_of, head_part, IsHead, with_entries, pair_part, AreFrom, AreSums, AreTouched, taken, emptied, Appends}
+pub use Rattle.quadratization.specs.RowSums.{node_part, head_of, head_part, IsHead, pair_part}
 pub use Rattle.penalty_layer.proofs.Sizes.{square, contributions_squares}
 pub use Rattle.penalty_layer.proofs.Bounds.{within_limits}
 pub use Rattle.penalty_layer.proofs.Sets.{contribution_sets}

@@ -1,8 +1,9 @@
 -- Rows of couplers: places and entries of other rows add nothing to a row, and rows in order are a
 -- form's couplers.
-use Rattle.quadratization.proofs.Common.{nat_tests, ◌≡◌, inl, inr, ℕ, zero, suc, ◌+◌, ◌<◌, ◌≤◌, ◌^◌, false, ◌&&◌, eqb, arith, ap, refl, List, [], ◌∷◌, ◌++◌, map, ℤ, pos, AllByRecursion, flat_map, IsPermutation, ints, cases_lt, All-append, All-weaker, recursion_from_All, if_so, total_by-append, total_by-flat_map, total_by-IsPermutation, total_by_push, Entry, Literal, IsCoupler, weight_for, weight_at, Before, Rises, ordered_from_rising, rising_from_ordered, couplers_are_pairs, pair_coupler, node_couplers, place_couplers, Place, is_at, places_of, row_of, IsRow, AreRows, cases_Bool, all-append, ◌≢◌, int_lt, sym, ◌∙◌, subst, length, get_or, replicate, neg_ℤ, ◌+ℤ◌, ◌*ℤ◌, All, sum_by, length-replicate, All-from_recursion, filter-append, sum_by-cons, Term, IsTermSet, TableContent, IsBelow, IsLiteralSet-ascends, new_nodes, nodes_for, factor, IsPair, all_places, signed, node_coupler, node_count, place_nodes, AreLong, with_entries, AreFrom, AreSums, pair_part, node_part, cond, append-nil, IsNonDecreasingBy, eq-eqb, map-id, weight_total, pair_number, AreSummed, size_of, AreFromRow, weights-append, size-signed, terms_total-cons, ◌*◌, unsigned_abs, get_or_default, All-nil, terms_total, occurrences, places_at, IsOccurrence, factor_cases, ◌⊎◌}
+use Rattle.quadratization.proofs.Common.{nat_tests, ◌≡◌, inl, inr, ℕ, zero, suc, ◌+◌, ◌<◌, ◌≤◌, ◌^◌, false, ◌&&◌, eqb, arith, ap, refl, List, [], ◌∷◌, ◌++◌, map, ℤ, pos, AllByRecursion, flat_map, IsPermutation, ints, cases_lt, All-append, All-weaker, recursion_from_All, if_so, total_by-append, total_by-flat_map, total_by-IsPermutation, total_by_push, Entry, Literal, IsCoupler, weight_for, weight_at, Before, Rises, ordered_from_rising, rising_from_ordered, couplers_are_pairs, pair_coupler, node_couplers, place_couplers, Place, is_at, places_of, row_of, IsRow, AreRows, cases_Bool, all-append, ◌≢◌, int_lt, sym, ◌∙◌, subst, length, get_or, replicate, neg_ℤ, ◌+ℤ◌, ◌*ℤ◌, All, sum_by, length-replicate, All-from_recursion, filter-append, sum_by-cons, Term, IsTermSet, TableContent, IsBelow, IsLiteralSet-ascends, new_nodes, nodes_for, factor, IsPair, all_places, signed, node_coupler, node_count, place_nodes, AreLong, AppendsSums, pair_part, node_part, cond, append-nil, IsNonDecreasingBy, eq-eqb, map-id, weight_total, pair_number, AreSummed, size_of, AreFromRow, weights-append, size-signed, terms_total-cons, ◌*◌, unsigned_abs, get_or_default, All-nil, terms_total, occurrences, places_at, IsOccurrence, factor_cases, ◌⊎◌}
+use Rattle.std.specs.Prelude.{⊤}
 use Rattle.quadratization.proofs.LongPlaces.{long_nodes}
-use Rattle.quadratization.proofs.SummedRows.{weaker, AreOf, AreFrom-weaker, value-with_entries, value-zeros, length-with_entries, term_cases, size-with_entries, places_are, occurrences-are}
+use Rattle.quadratization.proofs.SummedRows.{weaker, term_cases, places_are, occurrences-are}
 
 -- ---- entries of other rows
 
@@ -113,6 +114,15 @@ rows_follow nodes i all couplers row narrow before here =
 
 -- ---- entries in order
 
+-- the second nodes ascend, from n on
+abbrev pub AreFrom : ℕ → List Entry → Type 0
+AreFrom n [] = ⊤
+AreFrom n (e ∷ es) = (n ≤ e.second) × AreFrom (suc e.second) es
+
+AreFrom-weaker : (m n : ℕ) → m ≤ n → (es : List Entry) → AreFrom n es → AreFrom m es
+AreFrom-weaker m n le [] from = tt
+AreFrom-weaker m n le (e ∷ es) from = (omega (arith, from.0), from.1)
+
 AreFrom-append : (n m : ℕ) (es fs : List Entry) → AreFrom n es
     → AllByRecursion (λ e. e.second < m) es → n ≤ m → AreFrom m fs → AreFrom n (es ++ fs)
 AreFrom-append n m [] fs from below le next = AreFrom-weaker n m le fs next
@@ -131,6 +141,16 @@ rises : (i n : ℕ) (es : List Entry) → AllByRecursion (λ e. e.first ≡ i) e
 rises i n [] firsts from = tt
 rises i n (e ∷ es) firsts from =
     grind (arith, nat_tests, rises i (suc e.second) es firsts.1 from.1, before)
+
+-- entries whose second nodes are below a number, and then such that are not
+rises-behind : (i n : ℕ) (es fs : List Entry) → AllByRecursion (λ e. e.first ≡ i) es
+    → AllByRecursion (λ e. e.second < n) es → Rises es → AllByRecursion (λ e. e.first ≡ i) fs
+    → AreFrom n fs → Rises (es ++ fs)
+rises-behind i n [] fs firsts below up more from = rises i n fs more from
+rises-behind i n (e ∷ es) fs firsts below up more from = (
+  Before-append e es fs up.0 (before i n e fs firsts.0 below.0 more from),
+  rises-behind i n es fs firsts.1 below.1 up.1 more from,
+)
 
 -- ---- the couplers of a place with new nodes
 
@@ -257,26 +277,6 @@ up_of_places i w (p ∷ ps) own =
     all-append (IsUp i w) (pair_part p) (flat_map pair_part ps) (up_of_part i w p own.0)
     (up_of_places i w ps own.1)
 
-of_up : (i w : ℕ) (es : List Entry) → AllByRecursion (IsUp i w) es → AreOf i w es
-of_up i w es up = grind (arith, nat_tests, weaker)
-
-weight_none : (i j w : ℕ) (es : List Entry) → AllByRecursion (IsUp i w) es → j ≤ i
-    → weight_at i j es ≡ pos 0
-weight_none i j w [] up le = refl
-weight_none i j w (e ∷ es) up le = grind (arith, nat_tests, weight_none i j w es up.1 le)
-
-value_of : (i j w : ℕ) (es fs : List Entry) → AllByRecursion (IsUp i w) es
-    → AllByRecursion (IsUp i w) fs
-    → get_or (with_entries (with_entries (replicate w (pos 0)) es) fs) j (pos 0)
-    ≡ weight_at i j es +ℤ weight_at i j fs
-value_of i j w es fs up more =
-    let zeros = replicate w (pos 0) in
-    let size : length zeros ≡ w = length-replicate w (pos 0) in
-    let next : length (with_entries zeros es) ≡ w = length-with_entries zeros es ∙ size in
-    let first = value-with_entries i j zeros es (subst (λ n. AreOf i n es) (sym size) (of_up i w es up)) in
-    let second = value-with_entries i j (with_entries zeros es) fs (subst (λ n. AreOf i n fs) (sym next) (of_up i w fs more)) in
-    omega (arith, ints, first, second, value-zeros w j)
-
 -- ---- the parts of places
 
 weight_parts : (i j : ℕ) (p : Place)
@@ -294,52 +294,69 @@ weight_split i j (p ∷ ps) =
 pub kept_of : (t : TableContent) → AreLong t → AllByRecursion (IsKept t.width) t.terms
 kept_of t kept = grind (arith, nat_tests, recursion_from_All)
 
-pub row_is : (t : TableContent) (pairs : List Entry) (i : ℕ) (row : List Entry) → AreLong t
-    → All (IsPair t.width) pairs → i < t.width → AreSums i
-    (with_entries (with_entries (replicate t.width (pos 0)) (row_of i pairs))
-    (flat_map pair_part (places_of i (all_places t.terms t.width)))) row
+weights_both : (i j : ℕ) (es fs : List Entry)
+    → weight_at i j (es ++ fs) ≡ weight_at i j es +ℤ weight_at i j fs
+weights_both i j es fs = total_by-append (weight_for i j) es fs
+
+-- what is summed of a variable's pairs and places
+abbrev pub summed_part : TableContent → List Entry → ℕ → List Entry
+summed_part t pairs i =
+    row_of i pairs ++ flat_map pair_part (places_of i (all_places t.terms t.width))
+
+up_of_row : (t : TableContent) (pairs : List Entry) (i : ℕ) → AreLong t → All (IsPair t.width) pairs
+    → i < t.width → AllByRecursion (IsUp i t.width) (summed_part t pairs i)
+up_of_row t pairs i kept all in' =
+    let own = own_places i t.width t.width (node_count t) t.terms (kept_of t kept) in' (omega arith) in
+    all-append (IsUp i t.width) (row_of i pairs) (flat_map pair_part (places_of i (all_places t.terms t.width)))
+    (up_of_pairs i t.width pairs (recursion_from_All (IsPair t.width) pairs all)) (up_of_places i t.width _ own.own)
+
+pub row_pairs : (t : TableContent) (pairs : List Entry) (i : ℕ) → AreLong t
+    → All (IsPair t.width) pairs → i < t.width → All (IsPair t.width) (summed_part t pairs i)
+row_pairs t pairs i kept all in' =
+    All-from_recursion (IsPair t.width) (summed_part t pairs i)
+    (weaker (IsUp i t.width) (IsPair t.width) (λ e u. record { upward = omega (arith, u.first, u.upward); within = u.within })
+    (summed_part t pairs i) (up_of_row t pairs i kept all in'))
+
+row_firsts : (t : TableContent) (pairs : List Entry) (i : ℕ) → AreLong t
+    → All (IsPair t.width) pairs → i < t.width → All (λ e. e.first ≡ i) (summed_part t pairs i)
+row_firsts t pairs i kept all in' =
+    All-from_recursion (λ (e : Entry). e.first ≡ i) (summed_part t pairs i)
+    (weaker (IsUp i t.width) (λ (e : Entry). e.first ≡ i) (λ e u. u.first)
+    (summed_part t pairs i) (up_of_row t pairs i kept all in'))
+
+pub row_is : (t : TableContent) (pairs : List Entry) (i : ℕ) (old new : List Entry)
+    → AreLong t → All (IsPair t.width) pairs → i < t.width
+    → (r : AppendsSums (summed_part t pairs i) old new)
     → IsRow (node_count t) i (pairs ++ flat_map place_couplers (all_places t.terms t.width))
-    (row ++ flat_map node_part (places_of i (all_places t.terms t.width)))
-row_is t pairs i row kept all in' h =
+    (r.row ++ flat_map node_part (places_of i (all_places t.terms t.width)))
+row_is t pairs i old new kept all in' r =
     let w = t.width in
     let m = node_count t in
+    let row = r.row in
     let every = all_places t.terms w in
     let ps = places_of i every in
     let es = row_of i pairs in
     let fs = flat_map pair_part ps in
     let nodes = flat_map node_part ps in
-    let sums = with_entries (with_entries (replicate w (pos 0)) es) fs in
     let own = own_places i w w m t.terms (kept_of t kept) in' (omega arith) in
-    let up = up_of_pairs i w pairs (recursion_from_All (IsPair w) pairs all) in
-    let more = up_of_places i w ps own.own in
-    let value : (j : ℕ) → get_or sums j (pos 0) ≡ weight_at i j es +ℤ weight_at i j fs = λ j. value_of i j w es fs up more in
-    let size : length sums ≡ w =
-    length-with_entries (with_entries (replicate w (pos 0)) es) fs ∙ length-with_entries (replicate w (pos 0)) es ∙ length-replicate w (pos 0) in
-    let firsts = recursion_from_All (λ (e : Entry). e.first ≡ i) row h.firsts in
+    let firsts = recursion_from_All (λ (e : Entry). e.first ≡ i) row (r.firsts i (row_firsts t pairs i kept all in')) in
+    let inside : All (IsPair w) row = r.summed.pairs w (row_pairs t pairs i kept all in') in
+    let below = weaker (IsPair w) (λ (e : Entry). e.second < w) (λ e p. p.within) row (recursion_from_All (IsPair w) row inside) in
     let couplers : All (IsCoupler m) row = λ k d here.
-    let e = get_or row k d in
-    let up : i < e.second = elim (cases_lt i e.second) [
-      | inl lt ↦ lt
-      | inr le ↦
-          let b = weight_none i e.second w fs more le in
-          absurd (h.nonzero k d here (omega (arith, ints, h.weights k d here, value e.second, weight_none i e.second w es up le, b)))
-    ] in
+    let pair : IsPair w (get_or row k d) = inside k d here in
+    record { upward = pair.upward; within = omega (arith, pair.within); nonzero = r.summed.nonzero k d here } in
+    let each = recursion_from_All (IsCoupler m) row couplers in
+    let whole = all-append (IsCoupler m) row nodes each (weaker (IsGood i m) (IsCoupler m) (λ e g. g.coupler) nodes own.good) in
+    let more = weaker (IsGood i m) (λ (e : Entry). e.first ≡ i) (λ e g. g.first) nodes own.good in
+    let up = rising_from_ordered row (couplers_are_pairs m row kept.narrow each) r.summed.ordered in
     record {
-      upward = omega (arith, up, h.firsts k d here);
-      within = omega (arith, h.within k d here, size);
-      nonzero = h.nonzero k d here;
-    } in
-    let whole = all-append (IsCoupler m) row nodes (recursion_from_All _ row couplers) (weaker (IsGood i m) (IsCoupler m) (λ e g. g.coupler) nodes own.good) in
-    let ones = all-append (λ (e : Entry). e.first ≡ i) row nodes firsts (weaker (IsGood i m) (λ (e : Entry). e.first ≡ i) (λ e g. g.first) nodes own.good) in
-    let inside = recursion_from_All (λ (e : Entry). e.second < w) row (λ k d here. omega (arith, h.within k d here, size)) in
-    record {
-      first = All-from_recursion (λ (e : Entry). e.first ≡ i) (row ++ nodes) ones;
+      first = All-from_recursion (λ (e : Entry). e.first ≡ i) (row ++ nodes) (all-append (λ (e : Entry). e.first ≡ i) row nodes firsts more);
       ordered =
           ordered_from_rising (row ++ nodes) (couplers_are_pairs m (row ++ nodes) kept.narrow whole)
-          (rises i 0 (row ++ nodes) ones (AreFrom-append 0 w row nodes h.ascending inside (omega arith) own.nodes));
+          (rises-behind i w row nodes firsts below up more own.nodes);
       couplers = All-from_recursion (IsCoupler m) (row ++ nodes) whole;
       sums = λ j. simp total_by-append
-          (omega (arith, ints, h.totals j, value j, weight-row i j pairs, places_make_rows i j every, weight_split i j ps));
+          (omega (arith, ints, r.summed.sums i j, weights_both i j es fs, weight-row i j pairs, places_make_rows i j every, weight_split i j ps));
     }
 
 -- Couplers in the order of their first nodes, row by row.
@@ -351,18 +368,6 @@ row-own i e es is = ap (λ b. cond b (e ∷ row_of i es) (row_of i es)) (eq-eqb 
 
 pub row-other : (i : ℕ) (e : Entry) (es : List Entry) → e.first ≢ i → row_of i (e ∷ es) ≡ row_of i es
 row-other i e es other = grind (arith, nat_tests)
-
--- a row of pairs has second nodes below a number
-row-within : (i w : ℕ) (es : List Entry) → AllByRecursion (IsPair w) es
-    → AllByRecursion (λ e. e.second < w) (row_of i es)
-row-within i w [] pairs = tt
-row-within i w (e ∷ es) pairs = grind (arith, nat_tests, row-within i w es pairs.1)
-
-pub row-size : (i w : ℕ) (sums : List ℤ) (es : List Entry) → length sums ≡ w → All (IsPair w) es
-    → size_of (with_entries sums (row_of i es)) ≤ size_of sums + weight_total (row_of i es)
-row-size i w sums es width pairs =
-    let P : ℕ → Type 0 = λ n. AllByRecursion (λ e. e.second < n) (row_of i es) in
-    size-with_entries sums (row_of i es) (subst P (sym width) (row-within i w es (recursion_from_All (IsPair w) es pairs)))
 
 -- ---- couplers in order
 
@@ -435,6 +440,15 @@ place_run-of v t =
     (occurrences-are v 0 t t.terms (omega arith)
     (λ i d in'. let z : 0 + i ≡ i = omega arith in ap (λ m. get_or t.terms m d) z))
 
+-- a row to which the pairs of a variable were added, and then what its terms give
+pub row_made : (t : TableContent) (pairs left : List Entry) (v : ℕ) (ks : List ℕ)
+    (before first whole : List Entry) → ks ≡ occurrences v 0 t.terms → row_of v left ≡ row_of v pairs
+    → before ≡ [] → first ≡ before ++ row_of v left
+    → whole ≡ first ++ flat_map pair_part (places_at t v ks) → whole ≡ summed_part t pairs v
+row_made t pairs left v ks before first whole own same none one two =
+    two ∙ ap (λ es. es ++ flat_map pair_part (places_at t v ks)) one
+    ∙ (λ k. (none k ++ same k) ++ flat_map pair_part ((ap (λ js. places_at t v js) own ∙ place_run v t) k))
+
 -- no rows
 pub no_rows : (m : ℕ) (all : List Entry) → AreRows m 0 all []
 no_rows m all = record {
@@ -477,3 +491,10 @@ places-total v w n (t ∷ ts) kept =
           let part = part-total p 2048 (omega (arith, only.shorter, kept.0.set.short)) in
           rw only.places (omega (arith, rest, part, weights-append (pair_part p) later, terms_total-cons t ts))
     ])
+
+-- what is summed of a row fits
+pub row-small : (t : TableContent) (pairs : List Entry) (i : ℕ) → AreLong t
+    → weight_total pairs + terms_total t.terms * 2 ^ 24 ≤ 2 ^ 126
+    → weight_total (summed_part t pairs i) ≤ 2 ^ 126
+row-small t pairs i kept small =
+    omega (arith, weights-append (row_of i pairs) (flat_map pair_part (places_of i (all_places t.terms t.width))), row-total i pairs, places-total i t.width t.width t.terms (kept_of t kept), small)

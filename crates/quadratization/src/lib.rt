@@ -2,7 +2,6 @@
 //! new nodes. Long terms are replaced each by itself, or pairs of their literals one after another.
 #![tactic(auto)]
 
-mod accumulator;
 mod additions;
 mod bits;
 mod by_pairs;

@@ -5,45 +5,34 @@
 //! of its row. Those with new nodes follow: they are in order, since new nodes are numbered after
 //! all variables, in the order of the terms. See Gustavson, Two fast algorithms for sparse matrices:
 //! multiplication and permuted transposition (1978).
-ghost use Rattle.std.specs.Prelude.{◌≡◌, ◌+◌, ◌*◌, ◌≤◌, ◌<◌, ◌^◌, ◌++◌, [], All, IfOk, OnOk, length, map, pos, replicate, drop, unsigned_abs};
+ghost use Rattle.std.specs.Prelude.{◌≡◌, ◌+◌, ◌*◌, ◌≤◌, ◌<◌, ◌^◌, ◌++◌, [], All, IfOk, OnOk, length, map, drop, unsigned_abs};
 ghost use Rattle.std.specs.List.{flat_map};
 ghost use Rattle.bits_model.specs.Output.{weight_total};
 ghost use Rattle.literal_lists.specs.declared.literal.Literal.{Literal};
 ghost use Rattle.term_table.specs.Terms.{terms_total};
 ghost use Rattle.pair_sums.specs.Pairs.{IsPair};
 ghost use Rattle.quad_form.specs.Short.{pair_coupler};
-ghost use Rattle.quad_form.specs.Sums.{size_of};
 ghost use Rattle.quadratization.specs.Gathered.{couplers_of_long};
 ghost use Rattle.quadratization.specs.Long.{node_count};
 ghost use Rattle.quadratization.specs.Rows.{row_of, AreRows, AreFromRow, AreAfterRow};
-ghost use Rattle.quadratization.specs.RowSums.{with_entries, pair_part, head_of, IsHead, AppendsPlaces};
+ghost use Rattle.quadratization.specs.RowSums.{pair_part, head_of, IsHead};
 ghost use Rattle.quadratization.specs.Occurrences.{all_occurrences, places_at, IsOccurrence};
 
-use crate::accumulator::Accumulator;
 use crate::heads::{Head, head_of, push_heads};
 use crate::long_table::{LongTable, PlaceRef};
 use crate::occurrences::Occurrences;
 use base::NoMemory;
-use bits_model::CouplerList;
+use bits_model::{CouplerList, Entry};
 use literal_lists::{Literal, Literals};
 use pair_sums::{GatheredPairs, Pairs};
 use quad_form::signed;
 use std::alloc::Global;
 
-/// Adds the weights of a variable's pairs, the first of those from an index on, and gives the index
-/// after them.
-fn add_pairs(
-    sums: &mut Accumulator,
-    pairs: &Pairs,
-    start: usize,
-    variable: u64,
-) -> Result<usize, NoMemory>
-    requires ordered { AreFromRow variable (drop start pairs.now) }
-    requires seconds { All (λ e. e.second < length sums.old) pairs.now }
-    requires small { size_of sums.old
-        + weight_total (row_of variable (drop start pairs.now)) ≤ 2 ^ 126 }
-    ensures sums { OnOk result (sums.new
-        ≡ with_entries sums.old (row_of variable (drop start pairs.now))) }
+/// Adds a variable's pairs to its row, the first of those from an index on, and gives the index after
+/// them.
+fn add_pairs(row: &mut Pairs, pairs: &Pairs, start: usize, variable: u64) -> Result<usize, NoMemory>
+    requires { AreFromRow variable (drop start pairs.now) }
+    ensures row { OnOk result (row.new ≡ row.old ++ row_of variable (drop start pairs.now)) }
     ensures later { IfOk result (λ end.
         AreAfterRow variable (drop start pairs.now) (drop end pairs.now)) }
 {
@@ -52,40 +41,42 @@ fn add_pairs(
         if u64::from(pair.first) != variable {
             return Ok(i);
         }
-        sums.add(pair.second, pair.weight)?;
+        row.push(pair)?;
     }
     Ok(pairs.len())
 }
 
-/// Adds the weights of the couplers of a literal with later ones.
+/// Adds the couplers of a literal with later ones.
 fn add_later(
-    sums: &mut Accumulator,
+    row: &mut Pairs,
     literal: Literal,
     coefficient: i128,
     later: Literals<'_>,
 ) -> Result<(), NoMemory>
-    requires narrow { length sums.old ≤ 2 ^ 32 }
-    requires within { All (λ l. l.variable < length sums.old) later }
+    requires variable { literal.variable < 2 ^ 32 }
+    requires within { All (λ l. l.variable < 2 ^ 32) later }
     requires coefficient { unsigned_abs coefficient ≤ 2 ^ 124 }
-    requires small { size_of sums.old
-        + weight_total (map (pair_coupler literal coefficient) later) ≤ 2 ^ 126 }
-    ensures { OnOk result (sums.new
-        ≡ with_entries sums.old (map (pair_coupler literal coefficient) later.entry)) }
+    ensures { OnOk result
+        (row.new ≡ row.old ++ map (pair_coupler literal coefficient) later.entry) }
 {
+    let first = literal.variable as u32;
     let weight = signed(literal, coefficient);
     for other in later {
-        sums.add(other.variable as u32, signed(other, weight))?;
+        row.push(Entry {
+            first,
+            second: other.variable as u32,
+            weight: signed(other, weight),
+        })?;
     }
     Ok(())
 }
 
-/// Adds the weights of a place's couplers with later literals.
-fn add_place(sums: &mut Accumulator, place: PlaceRef<'_>) -> Result<(), NoMemory>
-    requires narrow { length sums.old ≤ 2 ^ 32 }
-    requires within { All (λ l. l.variable < length sums.old) place.later }
+/// Adds a place's couplers with later literals.
+fn add_place(row: &mut Pairs, place: PlaceRef<'_>) -> Result<(), NoMemory>
+    requires variable { place.literal.variable < 2 ^ 32 }
+    requires within { All (λ l. l.variable < 2 ^ 32) place.later }
     requires coefficient { unsigned_abs place.coefficient ≤ 2 ^ 124 }
-    requires small { size_of sums.old + weight_total (pair_part place) ≤ 2 ^ 126 }
-    ensures { OnOk result (sums.new ≡ with_entries sums.old (pair_part place.entry)) }
+    ensures { OnOk result (row.new ≡ row.old ++ pair_part place.entry) }
 {
     let PlaceRef {
         literal,
@@ -96,7 +87,7 @@ fn add_place(sums: &mut Accumulator, place: PlaceRef<'_>) -> Result<(), NoMemory
     if coefficient < 0 {
         return Ok(());
     }
-    add_later(sums, literal, coefficient, later)
+    add_later(row, literal, coefficient, later)
 }
 
 /// Reads the terms of a row one after another, and gives 0 or 1. A search of one of them ends with a
@@ -115,22 +106,19 @@ fn fetched(long: &LongTable, indices: &[u32]) -> usize
     (read % 2) as usize
 }
 
-/// Adds the weights of places' couplers with later literals, and keeps what their couplers with new
-/// nodes need, in place of what a list has.
+/// Adds places' couplers with later literals, and keeps what their couplers with new nodes need, in
+/// place of what a list has.
 fn add_places(
-    sums: &mut Accumulator,
+    row: &mut Pairs,
     heads: &mut Vec<Head>,
     long: &LongTable,
     variable: u64,
     indices: &[u32],
 ) -> Result<(), NoMemory>
-    requires width { length sums.old ≡ long.now.width }
     requires narrow { node_count long.now ≤ 2 ^ 32 }
     requires indices { All (IsOccurrence long.now variable) indices.now }
-    requires small { size_of sums.old
-        + weight_total (flat_map pair_part (places_at long.now variable indices.now)) ≤ 2 ^ 126 }
-    ensures sums { OnOk result (sums.new
-        ≡ with_entries sums.old (flat_map pair_part (places_at long.now variable indices.now))) }
+    ensures row { OnOk result (row.new
+        ≡ row.old ++ flat_map pair_part (places_at long.now variable indices.now)) }
     ensures heads { OnOk result
         (heads.new.items ≡ map head_of (places_at long.now variable indices.now)) }
     ensures kept { OnOk result (All IsHead heads.new.items) }
@@ -141,42 +129,15 @@ fn add_places(
     for index in indices {
         let place = long.place(variable, *index as usize);
         heads.push(head_of(&place))?;
-        add_place(sums, place)?;
+        add_place(row, place)?;
     }
     Ok(())
 }
 
-/// Appends the row of a variable, whose pairs are summed already. All sums are 0 afterwards, and
-/// the heads are free to use.
-fn push_row(
-    couplers: &mut CouplerList,
-    sums: &mut Accumulator,
-    heads: &mut Vec<Head>,
-    long: &LongTable,
-    variable: u64,
-    indices: &[u32],
-) -> Result<(), NoMemory>
-    requires width { length sums.old ≡ long.now.width }
-    requires variable { variable < long.now.width }
-    requires narrow { node_count long.now ≤ 2 ^ 32 }
-    requires indices { All (IsOccurrence long.now variable) indices.now }
-    requires small { size_of sums.old
-        + weight_total (flat_map pair_part (places_at long.now variable indices.now)) ≤ 2 ^ 126 }
-    ensures row { OnOk result (AppendsPlaces variable sums.old
-        (places_at long.now variable indices.now) couplers.old couplers.new) }
-    ensures zeros { OnOk result (sums.new ≡ replicate long.now.width (pos 0)) }
-{
-    add_places(sums, heads, long, variable, indices)?;
-    sums.put_into(couplers, variable as u32)?;
-    push_heads(couplers, heads)?;
-    Ok(())
-}
-
-/// Appends the rows of all variables, where these are the lists of their terms and all sums are 0.
+/// Appends the rows of all variables, where these are the lists of their terms.
 fn push_rows(
     alloc: Global,
     couplers: &mut CouplerList,
-    sums: &mut Accumulator,
     pairs: &Pairs,
     long: &LongTable,
     occurrences: &Occurrences,
@@ -185,18 +146,20 @@ fn push_rows(
     requires pairs { All (IsPair long.now.width) pairs.now }
     requires small { weight_total pairs.now + terms_total long.now.terms * 2 ^ 24 ≤ 2 ^ 126 }
     requires occurrences { occurrences.now ≡ all_occurrences long.now }
-    requires zeros { sums.old ≡ replicate long.now.width (pos 0) }
     requires none { couplers.old ≡ [] }
     ensures { OnOk result (AreRows (node_count long.now) long.now.width
         (pairs.now ++ couplers_of_long long.now.terms long.now.width)
         couplers.new) }
 {
     let mut heads = Vec::new(alloc);
+    let mut row = Pairs::empty(alloc, long.width());
     let mut start = 0;
     for variable in 0..long.width() as u64 {
-        start = add_pairs(sums, pairs, start, variable)?;
+        start = add_pairs(&mut row, pairs, start, variable)?;
         let own = occurrences.at(variable as usize);
-        push_row(couplers, sums, &mut heads, long, variable, own)?;
+        add_places(&mut row, &mut heads, long, variable, own)?;
+        row = row.put_into(couplers)?;
+        push_heads(couplers, &heads)?;
     }
     Ok(())
 }
@@ -211,9 +174,8 @@ fn rows_of(alloc: Global, pairs: &Pairs, long: &LongTable) -> Result<CouplerList
         couplers) }
 {
     let occurrences = Occurrences::of(alloc, long)?;
-    let mut sums = Accumulator::zeros(alloc, long.width())?;
     let mut couplers = CouplerList::empty(alloc);
-    push_rows(alloc, &mut couplers, &mut sums, pairs, long, &occurrences)?;
+    push_rows(alloc, &mut couplers, pairs, long, &occurrences)?;
     Ok(couplers)
 }
 

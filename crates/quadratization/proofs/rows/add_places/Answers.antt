@@ -1,16 +1,11 @@
-use Rattle.quadratization.proofs.Common.{nat_tests, arith, ◌≡◌, ◌∷◌, ◌++◌, [], map, append_assoc, append-nil, sym, ap, ◌∙◌, flat_map, All-push, drop_more, drop_all, places_at, pair_part, head_of, IsHead, recursion_from_All, drop, get_or, ◌+◌, ◌^◌, Literal, ◌<◌}
-use Rattle.quadratization.proofs.SummedRows.{places_more, part_size, part_added, later_within, head_kept}
+use Rattle.quadratization.proofs.Common.{nat_tests, arith, ◌≡◌, ◌∷◌, ◌++◌, [], map, append_assoc, append-nil, sym, ap, ◌∙◌, flat_map, All-push, All-weaker, drop_more, drop_all, places_at, pair_part, head_of, IsHead, drop, get_or, ◌+◌, ◌^◌, Literal, ◌<◌}
+use Rattle.quadratization.proofs.SummedRows.{places_more, part_added, head_kept}
 use Rattle.quadratization.proofs.rows.add_places.Goals as goal
 
-pub add_place-requires-clause-small : goal.add_place-requires-clause-small
-add_place-requires-clause-small c =
-    let t = c.args.long.now in
-    let v = c.args.variable in
-    let i = c.loop-index.index-index in
-    let ks = c.args.indices.now in
-    let left = ap (λ ms. flat_map pair_part (places_at t v ms)) (drop_more ks i 0 c.loop-index-test.true)
-    ∙ places_more pair_part t v (get_or ks i 0) (drop (i + 1) ks) c.place-place.result c.place-place.ensures.place in
-    part_size c.loop-index.sums _ (pair_part c.place-place.result) (flat_map pair_part (places_at t v (drop (i + 1) ks))) (2 ^ 126) left c.loop-index.invariant.small
+pub add_place-requires-clause-within : goal.add_place-requires-clause-within
+add_place-requires-clause-within c =
+    All-weaker (λ (l : Literal). l.variable < c.args.long.now.width) (λ (l : Literal). l.variable < 2 ^ 32)
+    (λ (l : Literal) less. omega (arith, less, c.requires.narrow)) _ c.place-place.ensures.kept.later
 
 pub loop-index-preserved : goal.loop-index-preserved
 loop-index-preserved c =
@@ -26,14 +21,10 @@ loop-index-preserved c =
     let heads = ap (λ ms. map head_of (places_at t v ms)) more ∙ ap (λ qs. map head_of (qs ++ places_at t v ks)) c.place-place.ensures.place in
     let pushed : c.push.new.self.items ≡ c.loop-index.heads.items ++ head_of p ∷ [] =
     c.in_ok-push.ensures.items ∙ ap (λ h. c.loop-index.heads.items ++ h ∷ []) c.head_of.ensures in
-    let within = later_within p t.width (recursion_from_All (λ (l : Literal). l.variable < t.width) p.later c.place-place.ensures.kept.later) in
-    let next = part_added c.loop-index.sums _ (pair_part p) (flat_map pair_part (places_at t v ks)) (2 ^ 126) left
-    c.loop-index.invariant.small _ c.add_place.new.sums t.width c.in_ok-add_place.ensures c.loop-index.invariant.width
-    within c.loop-index.invariant.whole in
     record {
-      whole = next.0;
-      width = next.1;
-      small = next.2;
+      whole =
+          part_added c.loop-index.row _ (pair_part p) (flat_map pair_part (places_at t v ks)) _ c.add_place.new.row left
+          c.in_ok-add_place.ensures c.loop-index.invariant.whole;
       heads =
           ap (λ hs. hs ++ map head_of (places_at t v ks)) pushed
           ∙ append_assoc c.loop-index.heads.items (head_of p ∷ []) (map head_of (places_at t v ks))
@@ -46,5 +37,5 @@ loop-index-preserved c =
 pub returns-clause-heads : goal.returns-clause-heads
 returns-clause-heads c = grind (arith, nat_tests, drop_all, append-nil)
 
-pub returns-clause-sums : goal.returns-clause-sums
-returns-clause-sums c = grind (arith, nat_tests, drop_all)
+pub returns-clause-row : goal.returns-clause-row
+returns-clause-row c = grind (arith, nat_tests, drop_all, append-nil)
