@@ -2,9 +2,9 @@
 --
 -- The sum of a constraint is its least sum and the sizes of the products that do not miss. So it
 -- fails where those sizes sum to less than it needs.
-use Rattle.conflict_clauses.proofs.Common.{nat_tests, ◌≡◌, ℕ, ◌+◌, ◌<◌, ◌≤◌, Bool, true, false, cond, not, ◌&&◌, ◌||◌, eqb, ltb, refl, sym, ap, ◌∙◌, arith, List, [], ◌∷◌, ◌++◌, length, map, ℤ, pos, negsuc, ◌+ℤ◌, ◌-ℤ◌, unsigned_abs, int_lt, list_all, list_any, flat_map, filter, sum_by, and_parts, eqb-true, false≢true, ints, list_any-append, sum_by-cons, if_so, positive_part, Literal, all_hold, holds, some_holds, Product, Constraint, fails, fails_hard, product_value, products_total, sum_of, cover_lists, gives, hard_clauses, is_cover, is_needed, is_single, need, negative_total, or-false, alone, size, wanted, wanted_literal}
+use Rattle.conflict_clauses.proofs.Common.{nat_tests, ◌≡◌, ℕ, ◌+◌, ◌<◌, ◌≤◌, Bool, true, false, cond, not, ◌&&◌, ◌||◌, eqb, ltb, refl, sym, ap, ◌∙◌, arith, List, [], ◌∷◌, ◌++◌, length, map, ℤ, pos, negsuc, ◌+ℤ◌, ◌-ℤ◌, unsigned_abs, int_lt, list_all, list_any, flat_map, filter, sum_by, and_parts, eqb-true, false≢true, ints, list_any-append, sum_by-cons, if_so, positive_part, Literal, all_hold, holds, some_holds, Product, Constraint, fails, fails_hard, product_value, products_total, sum_of, cover_lists, gives, hard_clauses, is_cover, is_needed, is_single, need, negative_total, or-false, alone, size, wanted, turned_literal, beq}
 use Rattle.std.specs.Prelude.{neg_ℤ}
-use Rattle.conflict_clauses.proofs.Missing.{hard-fails, holds-turned}
+use Rattle.conflict_clauses.proofs.Missing.{hard-fails, holds-plain, holds-turned}
 use Rattle.conflict_clauses.proofs.Lists.{lost, none_of}
 
 pub list_all-map : {A B : Type 0} (p : B → Bool) (f : A → B) (xs : List A)
@@ -16,7 +16,7 @@ list_all-map p f (x ∷ xs) = ap (λ b. p (f x) && b) (list_all-map p f xs)
 
 -- some literal is true that the product is wanted for
 abbrev pub hits : List Bool → Product → Bool
-hits x t = list_any (holds x) (wanted t)
+hits x t = list_any (holds x) (wanted true t)
 
 plus : (b : Bool) (n : ℕ) → if_so (b && true) (pos n) +ℤ pos (positive_part (neg_ℤ (pos n)))
     ≡ pos (cond (b || false) (unsigned_abs (pos n)) 0)
@@ -30,10 +30,10 @@ minus b n = grind (arith, nat_tests, ints)
 -- what a product of one literal adds is what it gives less the size of a negative coefficient
 value : (x : List Bool) (ls : List Literal) (c : ℤ) → eqb (length ls) 1 ≡ true
     → if_so (all_hold x ls) c +ℤ pos (positive_part (neg_ℤ c))
-    ≡ pos (cond (some_holds x (map (wanted_literal c) ls)) (unsigned_abs c) 0)
+    ≡ pos (cond (some_holds x (map (turned_literal (beq (int_lt c (pos 0)) true)) ls)) (unsigned_abs c) 0)
 value x [] c single = absurd (false≢true single)
-value x (l ∷ []) (pos n) single = plus (holds x l) n
-value x (l ∷ []) (negsuc n) single = rw (holds-turned x l) (minus (holds x l) n)
+value x (l ∷ []) (pos n) single = rw (holds-plain x l n) (plus (holds x l) n)
+value x (l ∷ []) (negsuc n) single = rw (holds-turned x l n) (minus (holds x l) n)
 value x (l ∷ m ∷ ls) c single = absurd (omega (arith, eqb-true (length (l ∷ m ∷ ls)) 1 single))
 
 add_up : (v s : ℤ) (a b p q : ℕ) → v +ℤ pos a ≡ pos p → s +ℤ pos b ≡ pos q
@@ -72,10 +72,10 @@ enough p n (t ∷ ts) some all =
     simp sum_by-cons (grind (arith, nat_tests))
 
 any-wanted : (x : List Bool) (ts : List Product)
-    → list_any (holds x) (flat_map wanted ts) ≡ list_any (hits x) ts
+    → list_any (holds x) (flat_map (wanted true) ts) ≡ list_any (hits x) ts
 any-wanted x [] = refl
 any-wanted x (t ∷ ts) =
-    list_any-append (holds x) (wanted t) (flat_map wanted ts)
+    list_any-append (holds x) (wanted true t) (flat_map (wanted true) ts)
     ∙ ap (λ b. hits x t || b) (any-wanted x ts)
 
 -- ---- a cover
@@ -98,7 +98,7 @@ cover-fails x k cover =
     let lacks = below (sum_of x ts) k.bound (negative_total ts) (sum_by (lost (hits x) size) ts)
     (sums x ts parts.single) in
     let given = enough (hits x) (need k) ts parts.some parts.all in
-    let wanted = hard-fails x (cover_lists k) ∙ or-false (none_of (holds x) (flat_map wanted ts))
+    let wanted = hard-fails x (cover_lists k) ∙ or-false (none_of (holds x) (flat_map (wanted true) ts))
     ∙ ap not (any-wanted x ts) in
     grind (arith, nat_tests, ints)
 
@@ -111,20 +111,20 @@ all-needed n [] some all = refl
 all-needed n (t ∷ ts) some all = grind (arith, nat_tests, all-needed n ts some)
 
 -- literals of which each alone is what a product wants are what all want
-joined : (ls : List Literal) (ts : List Product) → map alone ls ≡ map wanted ts
-    → ls ≡ flat_map wanted ts
+joined : (ls : List Literal) (ts : List Product) → map alone ls ≡ map (wanted true) ts
+    → ls ≡ flat_map (wanted true) ts
 joined [] [] e = refl
 joined [] (t ∷ ts) e = cc
 joined (l ∷ ls) [] e = cc
 joined (l ∷ ls) (t ∷ ts) e =
-    let first : l ∷ [] ≡ wanted t = cc in
-    let others : map alone ls ≡ map wanted ts = cc in
+    let first : l ∷ [] ≡ wanted true t = cc in
+    let others : map alone ls ≡ map (wanted true) ts = cc in
     (λ i. first i ++ joined ls ts others i)
 
 -- what is taken with no room are the literals of the clause
 pub cover_literals : (k : Constraint) (ls : List Literal) → is_cover k ≡ true
-    → map alone ls ≡ map wanted (filter (is_needed 0) k.products) → ls ∷ [] ≡ cover_lists k
+    → map alone ls ≡ map (wanted true) (filter (is_needed 0) k.products) → ls ∷ [] ≡ cover_lists k
 cover_literals k ls cover same =
     let parts = cover_parts k cover in
     ap (λ ms. ms ∷ []) (joined ls k.products
-    (same ∙ ap (map wanted) (all-needed (need k) k.products parts.some parts.all)))
+    (same ∙ ap (map (wanted true)) (all-needed (need k) k.products parts.some parts.all)))

@@ -2,18 +2,31 @@
 --
 -- The sum of a constraint and the sizes of the products that miss are its greatest sum. So it fails
 -- where those sizes sum to more than the room.
-use Rattle.conflict_clauses.proofs.Common.{nat_tests, ◌≡◌, ℕ, ◌+◌, ◌≤◌, Bool, true, false, cond, not, ◌&&◌, ◌||◌, eqb, ltb, refl, sym, ap, ◌∙◌, arith, List, [], ◌∷◌, length, map, None, Some, ℤ, pos, negsuc, ◌+ℤ◌, ◌-ℤ◌, ◌<ℤ◌, ◌≤ℤ◌, unsigned_abs, int_lt, list_all, list_any, sum_by, and_parts, eqb-true, false≢true, ints, list_any-append, sum_by-append, sum_by-cons, if_so, positive_part, total_by, total_by-append, Literal, all_hold, holds, some_holds, Product, Constraint, positive_total, kept_clause, fails, fails_hard, product_value, soft_cost, soft_weight, sum_of, list_any-kept, are_apart, each_two, hard, hard_clauses, is_conflict, is_single, most_products, needed, others, room, size, wanted, wanted_lists, wanted_literal}
+use Rattle.conflict_clauses.proofs.Common.{nat_tests, ◌≡◌, ℕ, ◌+◌, ◌≤◌, Bool, true, false, cond, not, ◌&&◌, ◌||◌, eqb, ltb, refl, sym, ap, ◌∙◌, arith, List, [], ◌∷◌, length, map, None, Some, ℤ, pos, negsuc, ◌+ℤ◌, ◌-ℤ◌, ◌<ℤ◌, ◌≤ℤ◌, unsigned_abs, int_lt, list_all, list_any, sum_by, and_parts, eqb-true, false≢true, ints, list_any-append, sum_by-append, sum_by-cons, if_so, positive_part, total_by, total_by-append, Literal, all_hold, holds, some_holds, Product, Constraint, positive_total, kept_clause, fails, fails_hard, product_value, soft_cost, soft_weight, sum_of, list_any-kept, are_apart, each_two, hard, hard_clauses, is_conflict, is_single, most_products, needed, others, room, size, wanted, wanted_lists, turned_literal, beq}
 use Rattle.conflict_clauses.proofs.Lists.{list_any-map, lost, none_of, pairs_of-none, sum_lost, two_pass, two_pass-map}
 
 -- ---- one product
 
 -- no literal is true that the product is wanted for
 abbrev pub misses : List Bool → Product → Bool
-misses x t = none_of (holds x) (wanted t)
+misses x t = none_of (holds x) (wanted true t)
 
-pub holds-turned : (x : List Bool) (l : Literal)
-    → holds x (record l { negated = not l.negated }) ≡ not (holds x l)
-holds-turned x l = grind (arith, nat_tests)
+pub wanted_negative : (c : ℤ) (l : Literal) → int_lt c (pos 0) ≡ true
+    → wanted true (record { literals = l ∷ []; coefficient = c })
+    ≡ record { variable = l.variable; negated = not l.negated } ∷ []
+wanted_negative c l e = grind (arith, nat_tests)
+
+pub wanted_other : (c : ℤ) (l : Literal) → int_lt c (pos 0) ≡ false
+    → wanted true (record { literals = l ∷ []; coefficient = c }) ≡ l ∷ []
+wanted_other c l e = grind (arith, nat_tests)
+
+pub holds-turned : (x : List Bool) (l : Literal) (n : ℕ)
+    → holds x (turned_literal (beq (int_lt (negsuc n) (pos 0)) true) l) ≡ not (holds x l)
+holds-turned x l n = grind (arith, nat_tests, ints)
+
+pub holds-plain : (x : List Bool) (l : Literal) (n : ℕ)
+    → holds x (turned_literal (beq (int_lt (pos n) (pos 0)) true) l) ≡ holds x l
+holds-plain x l n = grind (arith, nat_tests, ints)
 
 plus : (b : Bool) (n : ℕ)
     → if_so (b && true) (pos n) +ℤ pos (cond (not (b || false)) (unsigned_abs (pos n)) 0) ≡ pos n
@@ -26,11 +39,11 @@ minus b n = grind (arith, nat_tests, ints)
 -- what a product of one literal adds and what it lacks are the positive part of its coefficient
 value : (x : List Bool) (ls : List Literal) (c : ℤ) → eqb (length ls) 1 ≡ true
     → if_so (all_hold x ls) c
-    +ℤ pos (cond (not (some_holds x (map (wanted_literal c) ls))) (unsigned_abs c) 0)
+    +ℤ pos (cond (not (some_holds x (map (turned_literal (beq (int_lt c (pos 0)) true)) ls))) (unsigned_abs c) 0)
     ≡ pos (positive_part c)
 value x [] c single = absurd (false≢true single)
-value x (l ∷ []) (pos n) single = plus (holds x l) n
-value x (l ∷ []) (negsuc n) single = rw (holds-turned x l) (minus (holds x l) n)
+value x (l ∷ []) (pos n) single = rw (holds-plain x l n) (plus (holds x l) n)
+value x (l ∷ []) (negsuc n) single = rw (holds-turned x l n) (minus (holds x l) n)
 value x (l ∷ m ∷ ls) c single = absurd (omega (arith, eqb-true (length (l ∷ m ∷ ls)) 1 single))
 
 add_up : (v s : ℤ) (a b p q : ℕ) → v +ℤ pos a ≡ pos p → s +ℤ pos b ≡ pos q

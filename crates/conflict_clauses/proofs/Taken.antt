@@ -1,5 +1,5 @@
 -- A constraint that is taken to be replaced: what it wants, and of which variables.
-use Rattle.conflict_clauses.proofs.Common.{IsCoverTaken, false, false≢true, is_cover, All-filter, nat_tests, ◌≡◌, ℕ, zero, suc, ◌+◌, ◌<◌, ◌≤◌, Bool, true, not, leb, refl, sym, ap, ◌∙◌, arith, subst, List, [], ◌∷◌, ◌++◌, map, Some, ℤ, pos, negsuc, All, filter, list_all, slice_get, sum_by, and_parts, All-cons, All-head, All-map, All-nil, All-tail, All-weaker, sum_by-cons, Literal, Product, Constraint, IsNormalProduct, is_conflict, is_needed, is_single, most_pairs, pairs, pairs_of, wanted, wanted_literal, Found, AreWithin, IsFound, IsTaken, alone}
+use Rattle.conflict_clauses.proofs.Common.{IsCoverTaken, false, false≢true, is_cover, All-filter, nat_tests, ◌≡◌, ℕ, zero, suc, ◌+◌, ◌<◌, ◌≤◌, Bool, true, not, leb, refl, sym, ap, ◌∙◌, arith, subst, List, [], ◌∷◌, ◌++◌, map, Some, ℤ, pos, negsuc, All, filter, list_all, slice_get, sum_by, and_parts, All-cons, All-head, All-map, All-nil, All-tail, All-weaker, sum_by-cons, Literal, Product, Constraint, IsNormalProduct, is_conflict, is_needed, is_single, most_pairs, pairs, pairs_of, wanted, is_negative, turned_literal, beq, Found, AreWithin, IsFound, IsTaken, alone}
 use Rattle.conflict_clauses.proofs.Giving.{cover_literals}
 use Rattle.conflict_clauses.proofs.Missing.{parts_of}
 
@@ -19,24 +19,17 @@ size_at_place f (y ∷ xs) (suc i) x at = omega (arith, size_at_place f xs i x a
 
 -- ---- variables
 
-same_variable : (c : ℤ) (l : Literal) → (wanted_literal c l).variable ≡ l.variable
-same_variable (pos n) l = refl
-same_variable (negsuc n) l = refl
-
 wanted_within : (variables : ℕ) (t : Product) → IsNormalProduct variables t
-    → AreWithin variables (wanted t)
+    → AreWithin variables (wanted true t)
 wanted_within variables t normal =
     let Below : Literal → Type 0 = λ l. l.variable < variables in
-    let Turned : Literal → Type 0 = λ l. (wanted_literal t.coefficient l).variable < variables in
-    All-map Below (wanted_literal t.coefficient) t.literals
-    (All-weaker Below Turned (λ l h. omega (arith, h, same_variable t.coefficient l)) t.literals
-    normal.set.within)
+    All-map Below (turned_literal (beq (is_negative t) true)) t.literals normal.set.within
 
 all_within : (variables : ℕ) (ts : List Product) → All (IsNormalProduct variables) ts
-    → All (AreWithin variables) (map wanted ts)
+    → All (AreWithin variables) (map (wanted true) ts)
 all_within variables ts normal =
-    let Within : Product → Type 0 = λ t. AreWithin variables (wanted t) in
-    All-map (AreWithin variables) wanted ts
+    let Within : Product → Type 0 = λ t. AreWithin variables (wanted true t) in
+    All-map (AreWithin variables) (wanted true) ts
     (All-weaker (IsNormalProduct variables) Within (wanted_within variables) ts normal)
 
 alone_within : (variables : ℕ) (ls : List Literal) → All (AreWithin variables) (map alone ls)
@@ -49,7 +42,7 @@ alone_within variables (l ∷ ls) h =
     (alone_within variables ls (All-tail (AreWithin variables) (l ∷ []) (map alone ls) h))
 
 literals_within : (variables : ℕ) (ls : List Literal) (q : Product → Bool) (ts : List Product)
-    → All (IsNormalProduct variables) ts → map alone ls ≡ map wanted (filter q ts)
+    → All (IsNormalProduct variables) ts → map alone ls ≡ map (wanted true) (filter q ts)
     → AreWithin variables ls
 literals_within variables ls q ts normal same =
     let AllWithin : List (List Literal) → Type 0 = All (AreWithin variables) in
@@ -64,15 +57,15 @@ taken-bound variables spent k as' os n t = grind (arith, nat_tests)
 
 pub taken : (variables spent : ℕ) (k : Constraint) (f : Found) (as' os : List Literal)
     → IsFound spent k f → All (IsNormalProduct variables) k.products
-    → map alone as' ≡ map wanted (filter (is_needed f.room) k.products)
-    → map alone os ≡ map wanted (filter (λ t. not (is_needed f.room t)) k.products)
+    → map alone as' ≡ map (wanted true) (filter (is_needed f.room) k.products)
+    → map alone os ≡ map (wanted true) (filter (λ t. not (is_needed f.room t)) k.products)
     → IsTaken variables spent k as' os f.pairs
 taken variables spent k f as' os h normal alones pairs' = record {
   replaced = h.replaced;
   counted = h.pairs;
   lists = (λ i. alones i ++ pairs_of (pairs' i))
-      ∙ ap (λ m. map wanted (filter (is_needed m) k.products)
-      ++ pairs_of (map wanted (filter (λ t. not (is_needed m t)) k.products))) h.room;
+      ∙ ap (λ m. map (wanted true) (filter (is_needed m) k.products)
+      ++ pairs_of (map (wanted true) (filter (λ t. not (is_needed m t)) k.products))) h.room;
   alones_within = literals_within variables as' (is_needed f.room) k.products normal alones;
   others_within =
       literals_within variables os (λ t. not (is_needed f.room t)) k.products normal pairs';
@@ -93,7 +86,7 @@ same_element xs i x y at at' = let both = sym at ∙ at' in cc
 
 pub cover_taken : (variables : ℕ) (k : Constraint) (ls : List Literal) → is_cover k ≡ true
     → All (IsNormalProduct variables) k.products
-    → map alone ls ≡ map wanted (filter (is_needed 0) k.products)
+    → map alone ls ≡ map (wanted true) (filter (is_needed 0) k.products)
     → IsCoverTaken variables k ls true
 cover_taken variables k ls cover normal same = record {
   told = sym cover;

@@ -5,35 +5,16 @@
 -- positive, and the complement where it is negative. A constraint holds where the sizes of those
 -- that miss sum to at most the room that it leaves, and where the sizes of the others sum to what it
 -- needs.
-use Rattle.std.specs.Prelude.{◌≡◌, ℕ, ◌+◌, ◌-◌, ◌*◌, ◌/◌, ℤ, pos, negsuc, ◌-ℤ◌, neg_ℤ, int_lt, unsigned_abs, Bool, true, false, not, ◌&&◌, ◌||◌, ◌==◌, nat_lt, nat_le, if◌then◌else◌, List, [], ◌∷◌, ◌++◌, length, map, None}
-use Rattle.std.specs.List.{filter, flat_map, list_all, sum_by}
-use Rattle.base.specs.Sums.{positive_part}
+use Rattle.std.specs.Prelude.{◌≡◌, ℕ, ◌+◌, ◌-◌, ◌*◌, ◌/◌, pos, int_lt, Bool, true, false, not, ◌&&◌, ◌||◌, ◌==◌, nat_lt, nat_le, if◌then◌else◌, List, [], ◌∷◌, ◌++◌, length, map, None}
+use Rattle.std.specs.List.{filter, flat_map, list_all}
 use Rattle.literal_lists.specs.declared.literal.Literal.{Literal}
 use Rattle.problem_form.specs.declared.terms.Product.{Product}
 use Rattle.problem_form.specs.declared.terms.Clause.{Clause}
 use Rattle.problem_form.specs.declared.terms.Constraint.{Constraint}
-use Rattle.problem_form.specs.Limits.{cost_size, own_upper, positive_total, slack_bits, upper}
+use Rattle.problem_form.specs.Limits.{cost_size, need, own_upper, positive_total, room, slack_bits, upper}
 use Rattle.problem_form.specs.NormalForm.{kept_clause}
 use Rattle.problem_form.specs.Problems.{ProblemContent, problem_cost}
-
--- ---- what a constraint wants
-
--- the literal that a sum wants, with a coefficient: it or, where that is negative, its complement
-abbrev pub wanted_literal : ℤ → Literal → Literal
-wanted_literal (pos n) l = l
-wanted_literal (negsuc n) l = record l { negated = not l.negated }
-
--- the literals that a product is wanted for
-abbrev pub wanted : Product → List Literal
-wanted t = map (wanted_literal t.coefficient) t.literals
-
--- the size of a product: what a sum lacks where the product misses
-abbrev pub size : Product → ℕ
-size t = unsigned_abs t.coefficient
-
--- how far the greatest sum of a constraint is above its bound
-abbrev pub room : Constraint → ℕ
-room k = positive_part (pos (positive_total k.products) -ℤ k.bound)
+use Rattle.problem_form.specs.Wanted.{is_single, size, wanted}
 
 -- ---- conflicts
 
@@ -46,10 +27,6 @@ each_two test (a ∷ as') = list_all (test a) as' && each_two test as'
 abbrev pub are_apart : ℕ → Product → Product → Bool
 are_apart room s t = nat_lt room (size s + size t)
 
--- a product of one literal
-abbrev pub is_single : Product → Bool
-is_single t = length t.literals == 1
-
 -- the most products of a conflict or a cover
 abbrev pub most_products : ℕ
 most_products = 1024
@@ -59,7 +36,7 @@ abbrev pub is_short : Constraint → Bool
 is_short k =
     not k.exact && nat_lt 0 (length k.products) && nat_le (length k.products) most_products
 
--- no equation, of products of one literal each, that can hold and holds where no two miss at most
+-- no equation, of products of one literal each, that can hold, but not where any two of them miss
 abbrev pub is_conflict : Constraint → Bool
 is_conflict k =
     is_short k
@@ -88,7 +65,7 @@ pairs_of (as' ∷ others) = map (λ bs. as' ++ bs) others ++ pairs_of others
 
 -- of which literals one is to be true: of each needed product by itself, and of each two others
 abbrev pub wanted_lists : Constraint → List (List Literal)
-wanted_lists k = map wanted (needed k) ++ pairs_of (map wanted (others k))
+wanted_lists k = map (wanted true) (needed k) ++ pairs_of (map (wanted true) (others k))
 
 -- the hard clause of these literals
 abbrev pub hard : List Literal → Clause
@@ -107,18 +84,6 @@ abbrev pub pairs : Constraint → ℕ
 pairs k = pair_count (length (others k))
 
 -- ---- covers
-
--- the sizes of the negative coefficients
-abbrev pub negative_total : List Product → ℕ
-negative_total ts = sum_by (λ t. positive_part (neg_ℤ t.coefficient)) ts
-
--- the least sum of products: that of the negative coefficients
-abbrev pub least_sum : List Product → ℤ
-least_sum ts = neg_ℤ (pos (negative_total ts))
-
--- how far the bound of a constraint is above its least sum
-abbrev pub need : Constraint → ℕ
-need k = positive_part (k.bound -ℤ least_sum k.products)
 
 -- the product gives all of a need by itself
 abbrev pub gives : ℕ → Product → Bool
@@ -140,7 +105,7 @@ is_cover k =
 
 -- of which literals of a cover one is to be true: of all that its products are wanted for
 abbrev pub cover_lists : Constraint → List (List Literal)
-cover_lists k = flat_map wanted k.products ∷ []
+cover_lists k = flat_map (wanted true) k.products ∷ []
 
 -- ---- a problem without them
 

@@ -3,9 +3,9 @@ use Rattle.std.specs.Prelude.{◌≡◌, ℕ, ◌<◌, pos, int_lt, Bool, true, 
 use Rattle.std.specs.List.{slice_get}
 use Rattle.literal_lists.specs.declared.literal.Literal.{Literal}
 use Rattle.problem_form.specs.declared.terms.Constraint.{Constraint}
-use Rattle.problem_form.specs.Limits.{positive_total}
+use Rattle.problem_form.specs.Limits.{positive_total, room}
 use Rattle.problem_form.specs.Problems.{ProblemContent}
-use Rattle.conflict_clauses.specs.Conflicts.{clauses_from, clauses_of, cover_lists, hard_clauses, is_cover, is_replaced, is_short, pairs, pairs_of, room, spent_after, is_left, wanted_lists}
+use Rattle.conflict_clauses.specs.Conflicts.{clauses_from, clauses_of, cover_lists, hard_clauses, is_cover, is_replaced, is_short, pairs, pairs_of, spent_after, is_left, wanted_lists}
 use Rattle.conflict_clauses.specs.declared.conflicts.Found.{Found}
 
 -- the list of one literal

@@ -1,16 +1,19 @@
 //! The clauses of a conflict.
 ghost use Rattle.std.specs.Prelude.{◌≡◌, ◌<◌, ◌∷◌, [], not, length, map, OnOk, true};
 ghost use Rattle.std.specs.List.{filter, list_all};
-ghost use Rattle.conflict_clauses.specs.Conflicts.{is_needed, is_single, pairs_of, wanted, wanted_literal};
+ghost use Rattle.conflict_clauses.specs.Conflicts.{is_needed, pairs_of};
 ghost use Rattle.conflict_clauses.specs.Steps.{AreWithin, alone, with_hard};
+ghost use Rattle.problem_form.specs.Wanted.{is_single, wanted};
 
 use base::NoMemory;
 use problem_form::{Literal, Problem, ProductRef, Products};
 use std::alloc::Global;
 
-/// The literal that a sum wants, with a coefficient.
+/// The literal that a product of one, with a coefficient, is wanted for.
+#[tactic(auto, using(crate::proofs::Missing::wanted_negative, crate::proofs::Missing::wanted_other))]
 fn wanted_literal(coefficient: i128, literal: Literal) -> Literal
-    ensures { result ≡ wanted_literal coefficient literal }
+    ensures { result ∷ []
+        ≡ wanted true (record { literals = literal ∷ []; coefficient = coefficient }) }
 {
     if coefficient < 0 {
         Literal {
@@ -25,7 +28,7 @@ fn wanted_literal(coefficient: i128, literal: Literal) -> Literal
 /// The literal that a product of one is wanted for.
 fn wanted_for(product: ProductRef<'_>) -> Literal
     requires { length product.literals ≡ 1 }
-    ensures { result ∷ [] ≡ wanted product.entry }
+    ensures { result ∷ [] ≡ wanted true product.entry }
 {
     let ProductRef {
         mut literals,
@@ -63,9 +66,9 @@ pub(crate) fn take_wanted(
 ) -> Result<(), NoMemory>
     requires { list_all is_single products ≡ true }
     ensures needed { OnOk result (map alone lists.new.needed.items
-        ≡ map wanted (filter (is_needed room) products.entry)) }
+        ≡ map (wanted true) (filter (is_needed room) products.entry)) }
     ensures others { OnOk result (map alone lists.new.others.items
-        ≡ map wanted (filter (λ t. not (is_needed room t)) products.entry)) }
+        ≡ map (wanted true) (filter (λ t. not (is_needed room t)) products.entry)) }
 {
     lists.needed.clear();
     lists.others.clear();

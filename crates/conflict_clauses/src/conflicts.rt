@@ -2,10 +2,11 @@
 ghost use Rattle.std.specs.Prelude.{◌≡◌, ◌<◌, ◌≤◌, ◌^◌, ◌&&◌, pos, ◌-ℤ◌, int_lt, nat_lt, unsigned_abs, not, count_by, length, if◌then◌else◌, IfSome, IsSome, MatchOption, Some, None, false};
 ghost use Rattle.base.specs.Sums.{positive_part};
 ghost use Rattle.std.specs.List.{list_all};
-ghost use Rattle.problem_form.specs.Limits.{positive_total};
+ghost use Rattle.problem_form.specs.Limits.{positive_total, room};
 ghost use Rattle.problem_form.specs.Problems.{constraint_total, products_total};
-ghost use Rattle.conflict_clauses.specs.Conflicts.{are_apart, each_two, is_needed, is_replaced, is_short, is_single, most_pairs, pair_count, room};
+ghost use Rattle.conflict_clauses.specs.Conflicts.{are_apart, each_two, is_needed, is_replaced, is_short, most_pairs, pair_count};
 ghost use Rattle.conflict_clauses.specs.Steps.{IsFound, may_conflict};
+ghost use Rattle.problem_form.specs.Wanted.{is_single};
 
 use problem_form::{ConstraintRef, ProductRef, Products, positive_coefficients};
 

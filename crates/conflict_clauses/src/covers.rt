@@ -2,9 +2,9 @@
 ghost use Rattle.std.specs.Prelude.{◌≡◌, ◌<◌, ◌≤◌, ◌^◌, ◌-ℤ◌, neg_ℤ, nat_le, unsigned_abs, length};
 ghost use Rattle.std.specs.List.{list_all, sum_by};
 ghost use Rattle.base.specs.Sums.{positive_part};
-ghost use Rattle.problem_form.specs.Limits.{slack_bits};
+ghost use Rattle.problem_form.specs.Limits.{slack_bits, least_sum, need, negative_total};
 ghost use Rattle.problem_form.specs.Problems.{constraint_total, products_total};
-ghost use Rattle.conflict_clauses.specs.Conflicts.{clause_nodes, gives, is_cover, least_sum, need, negative_total};
+ghost use Rattle.conflict_clauses.specs.Conflicts.{clause_nodes, gives, is_cover};
 
 use crate::conflicts::{all_single, is_short};
 use problem_form::{ConstraintRef, Products, binary_digits_of, slack_range_of};

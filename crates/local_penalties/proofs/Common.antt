@@ -7,18 +7,17 @@ pub use Rattle.literal_lists.specs.Codes.{code_of}
 pub use Rattle.problem_form.specs.declared.terms.Product.{Product}
 pub use Rattle.problem_form.specs.declared.terms.Clause.{Clause}
 pub use Rattle.problem_form.specs.declared.terms.Constraint.{Constraint}
-pub use Rattle.local_penalties.specs.Hurting.{turned_literal, same, meets, is_negative, moves, moves_sum, hurts_clause, hurts_constraint, highest, lowest, most_below, most_above, most_missing}
+pub use Rattle.local_penalties.specs.Hurting.{same, meets, moves, moves_sum, hurts_clause, hurts_constraint, most_missing}
 pub use Rattle.local_penalties.specs.Tallies.{number_of, is_marked, AreWithin, each_once}
 pub use Rattle.local_penalties.specs.Tallies.{HavePlaces, MayChange}
 pub use Rattle.local_penalties.specs.Prices.{far, whole_penalty, charge, product_rise, soft_rise, rise, clause_charges, constraint_charges, price}
 pub use Rattle.problem_form.proofs.Common.{IsNormalProduct, IsNormalClause, soft_weight, IsLiteralSet, literal_cmp}
 pub use Rattle.literal_lists.specs.Literals.{has_clash}
 pub use Rattle.std.specs.List.{filter, flat_map, list_all, count_by}
-pub use Rattle.local_penalties.specs.Rounds.{least, put_down, descending, greatest, count_past, least_false, price_of_step, wanted, wanted_prices, suffices, sufficient, price_alone, price_of_side, price_up, price_down, equation_penalty, clause_penalty, bound_penalty, constraint_penalty, next_clause, next_clauses, next_constraint, next_constraints, next_penalties, after_rounds, without_own, penalties_of}
+pub use Rattle.local_penalties.specs.Rounds.{least, put_down, descending, greatest, count_past, least_false, price_of_step, wanted_prices, sufficient, price_alone, price_of_side, equation_penalty, clause_penalty, bound_penalty, constraint_penalty, next_clause, next_clauses, next_constraint, next_constraints, next_penalties, after_rounds, without_own, penalties_of}
 pub use Rattle.problem_form.proofs.Common.{All-weaker, Less, AllByRecursion}
 pub use Rattle.problem_form.proofs.Common.{positive_total, products_total, constraint_total, append-nil, map-append, sum_by-le-sum_by, neg_ℤ, w128, to_z, of_z}
 pub use Rattle.problem_form.proofs.CountedNumbers.{positive_total-le}
-pub use Rattle.local_penalties.specs.Hurting.{negative_total}
 pub use Rattle.std.proofs.lemmas.Grind.{fold-append}
 pub use Rattle.problem_form.specs.declared.penalties.PartPenalties.{PartPenalties}
 pub use Rattle.problem_form.specs.PartPenalties.{own, rest}
@@ -30,4 +29,6 @@ pub use Rattle.std.proofs.lemmas.Fn.{always_returns_same}
 pub use Rattle.std.specs.Ordering.{is_lt, nat_cmp}
 pub use Rattle.std.specs.Cmp.{nat_cmp_total}
 pub use Rattle.std.proofs.lemmas.List.{map_more, drop_more, get_or_past}
-pub use Rattle.local_penalties.specs.Stepping.{is_single, size, has_size, first_size, common_size, variables_of, all_differ, neighbours_differ, is_between, is_stepped}
+pub use Rattle.local_penalties.specs.Stepping.{common_size, variables_of, all_differ, neighbours_differ, is_between, is_stepped}
+pub use Rattle.problem_form.specs.Wanted.{turned_literal, is_negative, wanted, is_single, size}
+pub use Rattle.problem_form.specs.Limits.{least_sum, need, room, negative_total}

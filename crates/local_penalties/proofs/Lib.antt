@@ -3,6 +3,7 @@ pub mod Places
 pub mod Hurting
 pub mod Sets
 pub mod Descending
+pub mod Sizes
 pub mod LocalSteps
 pub mod Openings
 pub mod RoundSteps

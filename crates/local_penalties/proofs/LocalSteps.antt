@@ -1,5 +1,7 @@
 -- The least price of literals, literal by literal and product by product.
-use Rattle.local_penalties.proofs.Common.{◌≡◌, ℕ, ◌≤◌, sym, ap, ◌∙◌, refl, arith, nat_tests, ints, List, [], ◌∷◌, ◌++◌, map, fold, min, Bool, true, false, not, cond, beq, Literal, Product, flat_map, filter, turned_literal, wanted, wanted_prices, suffices, size, append-nil, append_assoc, map-append, fold-append, negative_total, products_total, sum_by-cons, neg_ℤ, positive_part, unsigned_abs, ℤ, pos, int_lt, ◌<ℤ◌, ◌≤ℤ◌, ◌-ℤ◌, None, Some, is_single, greatest, count_past, descending, price_of_step, list_all, far, ◌-◌, has_size, variables_of, ◌+◌, ◌/◌, ◌<◌, ◌^◌, max, Constraint, constraint_total, most_above, most_below, common_size, is_stepped, price_of_side, price_up, price_down, equation_penalty, positive_total-le}
+use Rattle.local_penalties.proofs.Common.{◌≡◌, ℕ, ◌≤◌, sym, ap, ◌∙◌, refl, arith, nat_tests, ints, List, [], ◌∷◌, ◌++◌, map, fold, min, Bool, true, false, not, cond, beq, Literal, Product, flat_map, filter, turned_literal, wanted, wanted_prices, size, append-nil, append_assoc, map-append, fold-append, negative_total, products_total, sum_by-cons, neg_ℤ, positive_part, unsigned_abs, ℤ, pos, int_lt, ◌<ℤ◌, ◌≤ℤ◌, ◌-ℤ◌, None, Some, is_single, eqb, slice_get, greatest, count_past, descending, price_of_step, list_all, far, ◌-◌, variables_of, ◌+◌, ◌/◌, ◌<◌, ◌^◌, max, Constraint, constraint_total, room, need, common_size, is_stepped, price_of_side, equation_penalty, positive_total-le, positive_total, subst, bound_penalty, price_alone, sufficient, nat_le, ◌&&◌}
+use Rattle.std.specs.Option.{option_map_or}
+use Rattle.local_penalties.proofs.Sizes.{has_size, suffices}
 
 turned_false-one : (l : Literal) → turned_literal false l ≡ l
 turned_false-one l = ap (λ b. record l { negated = b }) (plain l.negated)
@@ -133,6 +135,11 @@ products-step t left others ns more total is added so_far =
 
 -- ---- one size
 
+pub common-sized : (n : ℕ) (ts : List Product) → n ≡ option_map_or size (slice_get ts 0) 0
+    → cond (list_all (has_size n) ts) n 0 ≡ common_size ts
+common-sized n [] is = is
+common-sized n (t ∷ ts) is = grind (arith, nat_tests)
+
 pub size-step : (n : ℕ) (t : Product) (left others : List Product) (total : Bool) → left ≡ t ∷ others
     → true ≡ has_size n t → list_all (has_size n) left ≡ total → list_all (has_size n) others ≡ total
 size-step n t left others total is same so_far =
@@ -145,19 +152,49 @@ size-none n t left others total is differs so_far =
 
 -- ---- equations
 
-pub above-small : (k : Constraint) → constraint_total k < 2 ^ 100 → most_above k < 2 ^ 101
+pub above-small : (k : Constraint) → constraint_total k < 2 ^ 100 → room k < 2 ^ 101
 above-small k small = grind (arith, nat_tests, ints, positive_total-le k.products)
 
-pub below-small : (k : Constraint) → constraint_total k < 2 ^ 100 → most_below k < 2 ^ 101
+pub below-small : (k : Constraint) → constraint_total k < 2 ^ 100 → need k < 2 ^ 101
 below-small k small = grind (arith, nat_tests, ints, negative_total-le k.products)
 
 pub equation-price : (f : Literal → ℕ) (k : Constraint) (size below above up down m : ℕ) → is_stepped k ≡ true
-    → size ≡ common_size k.products → below ≡ most_below k → above ≡ most_above k
+    → size ≡ common_size k.products → below ≡ need k → above ≡ room k
     → up ≡ price_of_side true (λ l. f l - far) below (above / size) k.products
     → down ≡ price_of_side false (λ l. f l - far) above (below / size) k.products
-    → m ≡ max up down → 1 + m ≡ equation_penalty f k
+    → m ≡ max up down → 1 + m ≡ equation_penalty (λ l. f l - far) k
 equation-price f k size below above up down m is sized lower upper first second most =
     (λ j. 1 + most j) ∙ (λ j. 1 + max (first j) (second j))
     ∙ (λ j. 1 + max (price_of_side true (λ l. f l - far) (lower j) (upper j / sized j) k.products)
     (price_of_side false (λ l. f l - far) (upper j) (lower j / sized j) k.products))
-    ∙ (λ j. cond (sym is j) (1 + max (price_up (λ l. f l - far) k) (price_down (λ l. f l - far) k)) far)
+    ∙ (λ j. cond (sym is j)
+    (1 + max (price_of_side true (λ l. f l - far) (need k) (room k / common_size k.products) k.products)
+    (price_of_side false (λ l. f l - far) (room k) (need k / common_size k.products) k.products)) far)
+
+-- ---- bounds
+
+-- what the room of a constraint is where its bound is not above the greatest sum
+room-some : (k : Constraint) (above : ℕ)
+    → Some above ≡ cond (int_lt (pos (positive_total k.products)) k.bound) None
+    (Some (positive_part (pos (positive_total k.products) -ℤ k.bound)))
+    → (int_lt (pos (positive_total k.products)) k.bound ≡ false) × (above ≡ room k)
+room-some k above is = grind (arith, nat_tests)
+
+pub bound-price : (f : Literal → ℕ) (k : Constraint) (below above alone step m : ℕ) → below ≡ need k
+    → eqb below 0 ≡ false
+    → Some above ≡ cond (int_lt (pos (positive_total k.products)) k.bound) None
+    (Some (positive_part (pos (positive_total k.products) -ℤ k.bound)))
+    → alone ≡ fold min far (wanted_prices true f (filter (λ t. is_single t && nat_le below (size t)) k.products))
+    → step ≡ price_of_step f above k.products → m ≡ min alone step → 1 + m ≡ bound_penalty f k
+bound-price f k below above alone step m is some found priced stepped lesser =
+    let there = room-some k above found in
+    let needed : eqb (need k) 0 ≡ false = subst (λ n. eqb n 0 ≡ false) is some in
+    let alone_is : alone ≡ price_alone f k =
+    priced ∙ ap (λ n. fold min far (wanted_prices true f (filter (λ t. is_single t && nat_le n (size t)) k.products))) is in
+    let step_is : step ≡ price_of_step f (room k) k.products =
+    stepped ∙ ap (λ n. price_of_step f n k.products) there.1 in
+    let both : m ≡ min (price_alone f k) (price_of_step f (room k) k.products) =
+    lesser ∙ (λ i. min (alone_is i) (step_is i)) in
+    (λ i. 1 + both i)
+    ∙ (λ i. cond (sym needed i) 1 (cond (sym there.0 i) far
+    (1 + min (price_alone f k) (price_of_step f (room k) k.products))))

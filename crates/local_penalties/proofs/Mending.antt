@@ -1,8 +1,9 @@
 -- What a literal that repairs a part gains.
-use Rattle.local_penalties.proofs.Common.{◌≡◌, ℕ, ◌+◌, ◌*◌, ◌<◌, ◌≤◌, ◌^◌, refl, arith, nat_tests, ints, List, [], ◌∷◌, length, Bool, true, false, not, cond, ◌&&◌, ◌||◌, eqb, nat_lt, list_any, int_lt, sum_by, sum_by-cons, flat_map, filter, ℤ, pos, ◌+ℤ◌, ◌-ℤ◌, ◌≤ℤ◌, neg_ℤ, positive_part, Literal, Product, Clause, Constraint, turned_literal, same, is_negative, suffices, sufficient, wanted, negative_total, hurts_clause, hurts_constraint, most_missing, most_below, soft_rise, charge, clause_charges, constraint_charges, far, own, rest, false≢true, All, All-head, All-tail}
+use Rattle.local_penalties.proofs.Common.{◌≡◌, ℕ, ◌+◌, ◌*◌, ◌<◌, ◌≤◌, ◌^◌, refl, arith, nat_tests, ints, List, [], ◌∷◌, length, Bool, true, false, not, cond, ◌&&◌, ◌||◌, eqb, nat_lt, list_any, int_lt, sum_by, sum_by-cons, flat_map, filter, ℤ, pos, ◌+ℤ◌, ◌-ℤ◌, ◌≤ℤ◌, neg_ℤ, positive_part, Literal, Product, Clause, Constraint, turned_literal, same, is_negative, sufficient, wanted, negative_total, hurts_clause, hurts_constraint, most_missing, need, soft_rise, charge, clause_charges, constraint_charges, far, own, rest, false≢true, All, All-head, All-tail}
 use Rattle.local_penalties.proofs.Bounds.{square-mono}
 use Rattle.std.proofs.Math.Nat.{mul-le-mul_left, mul-le-mul_right}
 use Rattle.problem_form.proofs.Common.{holds, product_value, sum_of, is_violated, if_so, fails_hard, fails, list_any-append, unwrap_or}
+use Rattle.local_penalties.proofs.Sizes.{suffices}
 use Rattle.problem_form.specs.PartPenalties.{made_true, missing, clause_prices, constraint_prices, some_whole}
 use Rattle.local_penalties.proofs.Flips.{some-lost, clause-breaks, missing-keeps, missing-le, sum-low}
 
@@ -70,11 +71,11 @@ pub alone-holds : (x : List Bool) (k : Constraint) (l : Literal) → k.exact ≡
     → list_any (same l) (flat_map (wanted true) (sufficient k)) ≡ true → holds x l ≡ true → fails x k ≡ false
 alone-holds x k l bounds listed on =
     let over = above-all (negative_total k.products) k.bound (sum_of x k.products)
-    (reaches x (most_below k) k.products l listed on) in
+    (reaches x (need k) k.products l listed on) in
     grind (arith, nat_tests)
 
 -- one of which nothing can be missing always holds
-pub always-holds : (x : List Bool) (k : Constraint) → k.exact ≡ false → most_below k ≡ 0 → fails x k ≡ false
+pub always-holds : (x : List Bool) (k : Constraint) → k.exact ≡ false → need k ≡ 0 → fails x k ≡ false
 always-holds x k bounds none =
     let low = sum-low x k.products in
     grind (arith, nat_tests, ints)

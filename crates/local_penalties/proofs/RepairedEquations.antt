@@ -1,5 +1,5 @@
 -- A step that repairs an equation, and repairs of all constraints.
-use Rattle.local_penalties.proofs.Common.{◌≡◌, ℕ, ◌+◌, ◌-◌, ◌*◌, ◌/◌, ◌<◌, ◌≤◌, ap, ◌∙◌, refl, arith, nat_tests, ints, List, [], ◌∷◌, length, map, Bool, true, false, cond, beq, ◌||◌, eqb, int_lt, list_any, list_all, count_by, flat_map, ℤ, pos, ◌+ℤ◌, ◌-ℤ◌, ◌≤ℤ◌, neg_ℤ, unsigned_abs, max, All, Literal, Product, Constraint, same, turned_literal, is_negative, is_single, common_size, is_stepped, wanted, hurts_constraint, moves_sum, most_below, most_above, positive_total, negative_total, far, greatest, price_of_side, price_up, price_down, bound_penalty, equation_penalty, constraint_penalty, IsNormalProduct}
+use Rattle.local_penalties.proofs.Common.{◌≡◌, ℕ, ◌+◌, ◌-◌, ◌*◌, ◌/◌, ◌<◌, ◌≤◌, ap, ◌∙◌, refl, arith, nat_tests, ints, List, [], ◌∷◌, length, map, Bool, true, false, cond, beq, ◌||◌, eqb, int_lt, list_any, list_all, count_by, flat_map, ℤ, pos, ◌+ℤ◌, ◌-ℤ◌, ◌≤ℤ◌, neg_ℤ, unsigned_abs, max, All, Literal, Product, Constraint, same, turned_literal, is_negative, is_single, common_size, is_stepped, wanted, hurts_constraint, moves_sum, need, room, positive_total, negative_total, far, greatest, price_of_side, bound_penalty, equation_penalty, constraint_penalty, IsNormalProduct}
 use Rattle.problem_form.proofs.Common.{sum_of, fails, list_any-append}
 use Rattle.problem_form.specs.PartPenalties.{made_true, missing}
 use Rattle.local_penalties.proofs.Cheap.{Cheap, greatest-found}
@@ -98,9 +98,9 @@ record IsShort (steps many short : ℕ) (from to : ℤ) (g : ℕ) : Type 0 where
   pub some : 1 ≤ short
 
 short-below : (x : List Bool) (k : Constraint) (g : ℕ) → Facts x k g → int_lt (sum_of x k.products) k.bound ≡ true
-    → IsShort (most_above k / g) (count_by (lacks true x) k.products) (most_below k) (sum_of x k.products) k.bound g
+    → IsShort (room k / g) (count_by (lacks true x) k.products) (need k) (sum_of x k.products) k.bound g
 short-below x k g known less =
-    below (sum_of x k.products) k.bound (negative_total k.products) (positive_total k.products) (most_below k) (most_above k) (most_below k / g)
+    below (sum_of x k.products) k.bound (negative_total k.products) (positive_total k.products) (need k) (room k) (need k / g)
     (count_by (lacks false x) k.products) (count_by (lacks true x) k.products) known.sum_above known.sum_below
     known.bound_below known.bound_above known.multiple less
   where
@@ -118,9 +118,9 @@ short-below x k g known less =
         }
 
 short-above : (x : List Bool) (k : Constraint) (g : ℕ) → Facts x k g → int_lt k.bound (sum_of x k.products) ≡ true
-    → IsShort (most_below k / g) (count_by (lacks false x) k.products) (most_above k) k.bound (sum_of x k.products) g
+    → IsShort (need k / g) (count_by (lacks false x) k.products) (room k) k.bound (sum_of x k.products) g
 short-above x k g known more =
-    above (sum_of x k.products) k.bound (negative_total k.products) (positive_total k.products) (most_below k) (most_above k) (most_below k / g)
+    above (sum_of x k.products) k.bound (negative_total k.products) (positive_total k.products) (need k) (room k) (need k / g)
     (count_by (lacks false x) k.products) (count_by (lacks true x) k.products) known.sum_above known.sum_below
     known.bound_below known.bound_above known.multiple more
   where
@@ -143,6 +143,12 @@ exact-above : (x : List Bool) (k : Constraint) → k.exact ≡ true → fails x 
     → int_lt (sum_of x k.products) k.bound ≡ false → int_lt k.bound (sum_of x k.products) ≡ true
 exact-above x k exact broken not_less = grind (arith, nat_tests, ints)
 
+abbrev price_up : (Literal → ℕ) → Constraint → ℕ
+price_up f k = price_of_side true f (need k) (room k / common_size k.products) k.products
+
+abbrev price_down : (Literal → ℕ) → Constraint → ℕ
+price_down f k = price_of_side false f (room k) (need k / common_size k.products) k.products
+
 repaired-stepped : (f h : Literal → ℕ) (k : Constraint) → ((l : Literal) → f l ≡ h l + cond (hurts_constraint k l) far 0)
     → k.exact ≡ true → is_stepped k ≡ true → (m first second : ℕ) → m ≡ max first second → 1 + m < far
     → first ≡ price_up (λ l. f l - far) k → second ≡ price_down (λ l. f l - far) k
@@ -157,18 +163,19 @@ repaired-stepped f h k shares exact is m first second most finite up_is down_is 
     decide true e =
         let short = short-below x k (common_size k.products) known e in
         repaired-side true x f h k (common_size k.products) m shares exact normal known
-        (found-side true x (λ l. f l - far) (most_below k) (most_above k / common_size k.products) m k.products known.single short.some
+        (found-side true x (λ l. f l - far) (need k) (room k / common_size k.products) m k.products known.single short.some
         (omega (arith, up_is, most)) (omega (arith, finite)) short.steps_fewer)
         (nearer-up k.bound (sum_of x k.products) (common_size k.products) known.some short.room)
     decide false e =
         let short = short-above x k (common_size k.products) known (exact-above x k exact broken e) in
         repaired-side false x f h k (common_size k.products) m shares exact normal known
-        (found-side false x (λ l. f l - far) (most_above k) (most_below k / common_size k.products) m k.products known.single short.some
+        (found-side false x (λ l. f l - far) (room k) (need k / common_size k.products) m k.products known.single short.some
         (omega (arith, down_is, most)) (omega (arith, finite)) short.steps_fewer)
         (nearer-down k.bound (sum_of x k.products) (common_size k.products) known.some short.room)
 
 repaired-equation : (f h : Literal → ℕ) (k : Constraint) → ((l : Literal) → f l ≡ h l + cond (hurts_constraint k l) far 0)
-    → k.exact ≡ true → equation_penalty f k < far → IsRepaired h k (equation_penalty f k)
+    → k.exact ≡ true → equation_penalty (λ l. f l - far) k < far
+    → IsRepaired h k (equation_penalty (λ l. f l - far) k)
 repaired-equation f h k shares exact = decide (is_stepped k) refl
   where
     first : ℕ
@@ -189,7 +196,8 @@ pub repaired-local : (f h : Literal → ℕ) (k : Constraint) → ((l : Literal)
     → constraint_penalty f k < far → IsRepaired h k (constraint_penalty f k)
 repaired-local f h k shares = by_kind k.exact refl
   where
-    by_kind : (b : Bool) → k.exact ≡ b → cond b (equation_penalty f k) (bound_penalty f k) < far
-        → IsRepaired h k (cond b (equation_penalty f k) (bound_penalty f k))
+    by_kind : (b : Bool) → k.exact ≡ b
+        → cond b (equation_penalty (λ l. f l - far) k) (bound_penalty f k) < far
+        → IsRepaired h k (cond b (equation_penalty (λ l. f l - far) k) (bound_penalty f k))
     by_kind true e finite = repaired-equation f h k shares e finite
     by_kind false e finite = repaired-bound f h k shares e finite

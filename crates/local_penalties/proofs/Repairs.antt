@@ -1,9 +1,10 @@
 -- A literal that repairs a broken constraint: it is false, its price is low, and less is missing once it
 -- is true.
-use Rattle.local_penalties.proofs.Common.{◌≡◌, ℕ, zero, suc, ◌+◌, ◌<◌, ◌≤◌, sym, subst, ◌∙◌, refl, arith, nat_tests, ints, List, [], ◌∷◌, length, map, Bool, true, false, cond, ◌||◌, eqb, eqb-true, min, nat_lt, int_lt, list_any, list_all, count_by, flat_map, filter, sum_by, ℤ, pos, ◌+ℤ◌, ◌-ℤ◌, ◌≤ℤ◌, positive_part, All, All-head, All-tail, Literal, Product, Constraint, same, turned_literal, is_single, size, wanted, wanted_prices, suffices, sufficient, hurts_constraint, moves_sum, highest, most_below, most_above, positive_total, far, greatest, descending, least_false, price_alone, price_of_step, bound_penalty, false≢true, IsNormalProduct}
+use Rattle.local_penalties.proofs.Common.{◌≡◌, ℕ, zero, suc, ◌+◌, ◌<◌, ◌≤◌, sym, subst, ◌∙◌, refl, arith, nat_tests, ints, List, [], ◌∷◌, length, map, Bool, true, false, cond, ◌||◌, eqb, eqb-true, min, nat_lt, int_lt, list_any, list_all, count_by, flat_map, filter, sum_by, ℤ, pos, ◌+ℤ◌, ◌-ℤ◌, ◌≤ℤ◌, positive_part, All, All-head, All-tail, Literal, Product, Constraint, same, turned_literal, is_single, size, wanted, wanted_prices, sufficient, hurts_constraint, moves_sum, positive_total, need, room, far, greatest, descending, least_false, price_alone, price_of_step, bound_penalty, false≢true, IsNormalProduct}
 use Rattle.problem_form.proofs.Common.{holds, sum_of, fails, list_any-append}
 use Rattle.problem_form.specs.PartPenalties.{made_true, missing}
 use Rattle.std.proofs.Common.{inl, inr}
+use Rattle.local_penalties.proofs.Sizes.{suffices}
 use Rattle.local_penalties.proofs.Descending.{top, picked-le, enough-past}
 use Rattle.local_penalties.proofs.Cheap.{least-found, greatest-found}
 use Rattle.local_penalties.proofs.Mending.{alone-holds, always-holds, holds-missing, fails-missing}
@@ -84,7 +85,7 @@ untrue-alone x k l bounds broken listed =
 pub repaired-alone : (f : Literal → ℕ) (k : Constraint) (l : Literal) (m : ℕ) → k.exact ≡ false
     → list_any (same l) (flat_map (wanted true) (sufficient k)) ≡ true → f l + 1 ≤ m → IsRepaired f k m
 repaired-alone f k l m bounds listed low x normal broken =
-    let within = wanted-within (length x) true l k.products normal (filter-listed (most_below k) l k.products listed) in
+    let within = wanted-within (length x) true l k.products normal (filter-listed (need k) l k.products listed) in
     let none = holds-missing (made_true x l) k (alone-holds (made_true x l) k l bounds listed (made-holds x l within)) in
     record {
       literal = l;
@@ -130,12 +131,12 @@ off-false x l off = grind (arith, nat_tests)
 
 -- so many wanted literals at least are false
 pub some-off : (x : List Bool) (k : Constraint) → k.exact ≡ false → fails x k ≡ true
-    → list_all is_single k.products ≡ true → int_lt (highest k) k.bound ≡ false
-    → (least_false (most_above k) k.products ≤ count_by (is_off x) (flat_map (wanted true) k.products))
+    → list_all is_single k.products ≡ true → int_lt (pos (positive_total k.products)) k.bound ≡ false
+    → (least_false (room k) k.products ≤ count_by (is_off x) (flat_map (wanted true) k.products))
     × (1 ≤ count_by (is_off x) (flat_map (wanted true) k.products))
 some-off x k bounds broken single reached =
     let ts = k.products in
-    let room = most_above k in
+    let room = room k in
     let off = sum_by (λ t. cond (lacks true x t) (size t) 0) ts in
     let many = count_by (lacks true x) ts in
     let past = past-room k.bound (sum_of x ts) (positive_total ts) off (sum-above x ts single) (bounds-fails x k bounds broken) reached in
@@ -147,12 +148,12 @@ some-off x k bounds broken single reached =
     )
 
 repaired-single : (f h : Literal → ℕ) (k : Constraint) → ((l : Literal) → f l ≡ h l + cond (hurts_constraint k l) far 0)
-    → k.exact ≡ false → int_lt (highest k) k.bound ≡ false → list_all is_single k.products ≡ true
-    → greatest (least_false (most_above k) k.products) (wanted_prices true f k.products) < far
-    → IsRepaired h k (1 + greatest (least_false (most_above k) k.products) (wanted_prices true f k.products))
+    → k.exact ≡ false → int_lt (pos (positive_total k.products)) k.bound ≡ false → list_all is_single k.products ≡ true
+    → greatest (least_false (room k) k.products) (wanted_prices true f k.products) < far
+    → IsRepaired h k (1 + greatest (least_false (room k) k.products) (wanted_prices true f k.products))
 repaired-single f h k shares bounds reached single finite x normal broken =
     let off = some-off x k bounds broken single reached in
-    let found = greatest-found f (is_off x) (least_false (most_above k) k.products) (flat_map (wanted true) k.products) finite off.0 off.1 in
+    let found = greatest-found f (is_off x) (least_false (room k) k.products) (flat_map (wanted true) k.products) finite off.0 off.1 in
     let l = found.literal in
     let free = unhurt (hurts_constraint k l) (f l) (h l) (shares l) (omega (arith, found.price, finite)) in
     let within = wanted-within (length x) true l k.products normal found.listed in
@@ -168,13 +169,13 @@ repaired-single f h k shares bounds reached single finite x normal broken =
     }
 
 repaired-by-step : (f h : Literal → ℕ) (k : Constraint) → ((l : Literal) → f l ≡ h l + cond (hurts_constraint k l) far 0)
-    → k.exact ≡ false → int_lt (highest k) k.bound ≡ false
-    → price_of_step f (most_above k) k.products < far
-    → IsRepaired h k (1 + price_of_step f (most_above k) k.products)
+    → k.exact ≡ false → int_lt (pos (positive_total k.products)) k.bound ≡ false
+    → price_of_step f (room k) k.products < far
+    → IsRepaired h k (1 + price_of_step f (room k) k.products)
 repaired-by-step f h k shares bounds reached = decide (list_all is_single k.products) refl
   where
     price : Bool → ℕ
-    price b = cond b (greatest (least_false (most_above k) k.products) (wanted_prices true f k.products)) far
+    price b = cond b (greatest (least_false (room k) k.products) (wanted_prices true f k.products)) far
 
     decide : (b : Bool) → list_all is_single k.products ≡ b → price b < far → IsRepaired h k (1 + price b)
     decide true e finite = repaired-single f h k shares bounds reached e finite
@@ -205,20 +206,20 @@ repaired-least h k m n first second finite = decide (nat_lt n m) refl
 
 pub repaired-bound : (f h : Literal → ℕ) (k : Constraint) → ((l : Literal) → f l ≡ h l + cond (hurts_constraint k l) far 0)
     → k.exact ≡ false → bound_penalty f k < far → IsRepaired h k (bound_penalty f k)
-repaired-bound f h k shares bounds = by_need (eqb (most_below k) 0) refl
+repaired-bound f h k shares bounds = by_need (eqb (need k) 0) refl
   where
     given : Bool → Bool → ℕ
     given always never =
-        cond always 1 (cond never far (1 + min (price_alone f k) (price_of_step f (most_above k) k.products)))
+        cond always 1 (cond never far (1 + min (price_alone f k) (price_of_step f (room k) k.products)))
 
-    by_reach : (b : Bool) → int_lt (highest k) k.bound ≡ b → given false b < far → IsRepaired h k (given false b)
+    by_reach : (b : Bool) → int_lt (pos (positive_total k.products)) k.bound ≡ b → given false b < far → IsRepaired h k (given false b)
     by_reach true e finite = absurd (omega (arith, finite))
     by_reach false e finite =
-        repaired-least h k (price_alone f k) (price_of_step f (most_above k) k.products)
+        repaired-least h k (price_alone f k) (price_of_step f (room k) k.products)
         (repaired-by-one f h k shares bounds) (repaired-by-step f h k shares bounds e) finite
 
-    by_need : (b : Bool) → eqb (most_below k) 0 ≡ b → given b (int_lt (highest k) k.bound) < far
-        → IsRepaired h k (given b (int_lt (highest k) k.bound))
+    by_need : (b : Bool) → eqb (need k) 0 ≡ b → given b (int_lt (pos (positive_total k.products)) k.bound) < far
+        → IsRepaired h k (given b (int_lt (pos (positive_total k.products)) k.bound))
     by_need true e finite = λ x normal broken.
-        absurd (false≢true (sym (always-holds x k bounds (eqb-true (most_below k) 0 e)) ∙ broken))
-    by_need false e finite = by_reach (int_lt (highest k) k.bound) refl finite
+        absurd (false≢true (sym (always-holds x k bounds (eqb-true (need k) 0 e)) ∙ broken))
+    by_need false e finite = by_reach (int_lt (pos (positive_total k.products)) k.bound) refl finite

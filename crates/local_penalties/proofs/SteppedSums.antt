@@ -1,7 +1,8 @@
 -- Equations that can be repaired step by step: of products of one literal, of different variables and
 -- of one size.
-use Rattle.local_penalties.proofs.Common.{◌≡◌, ℕ, ◌+◌, ◌*◌, ◌/◌, ◌%◌, ◌<◌, ◌≤◌, sym, ap, subst, ◌∙◌, refl, arith, nat_tests, ints, List, [], ◌∷◌, ◌++◌, length, map, Bool, true, false, not, cond, ◌&&◌, ◌||◌, eqb, eqb-true, nat_lt, int_lt, list_any, list_all, count_by, flat_map, sum_by, sum_by-cons, ℤ, pos, ◌+ℤ◌, ◌-ℤ◌, neg_ℤ, positive_part, Literal, Product, Constraint, same, is_single, size, has_size, common_size, first_size, variables_of, all_differ, is_between, is_stepped, wanted, highest, lowest, most_below, most_above, positive_total, negative_total, false≢true}
+use Rattle.local_penalties.proofs.Common.{◌≡◌, ℕ, ◌+◌, ◌*◌, ◌/◌, ◌%◌, ◌<◌, ◌≤◌, sym, ap, subst, ◌∙◌, refl, arith, nat_tests, ints, List, [], ◌∷◌, ◌++◌, length, map, Bool, true, false, not, cond, ◌&&◌, ◌||◌, eqb, eqb-true, nat_lt, int_lt, list_any, list_all, count_by, flat_map, sum_by, sum_by-cons, ℤ, pos, ◌+ℤ◌, ◌-ℤ◌, neg_ℤ, positive_part, Literal, Product, Constraint, same, is_single, size, common_size, variables_of, all_differ, is_between, is_stepped, wanted, positive_total, least_sum, need, room, negative_total, false≢true}
 use Rattle.problem_form.proofs.Common.{holds, all_hold, product_value, sum_of, list_any-append}
+use Rattle.local_penalties.proofs.Sizes.{has_size}
 use Rattle.problem_form.specs.PartPenalties.{made_true}
 use Rattle.std.proofs.Math.Nat.{mul-add, mul-le-mul_left, div-add-mod, lt_of_mul-lt-mul_left}
 use Rattle.local_penalties.proofs.Flips.{holds-made}
@@ -194,9 +195,9 @@ pub record Facts (x : List Bool) (k : Constraint) (g : ℕ) : Type 0 where
   pub single : list_all is_single k.products ≡ true
   pub sized : list_all (has_size g) k.products ≡ true
   pub differ : all_differ (variables_of k.products) ≡ true
-  pub bound_below : k.bound ≡ neg_ℤ (pos (negative_total k.products)) +ℤ pos (most_below k)
-  pub bound_above : k.bound +ℤ pos (most_above k) ≡ pos (positive_total k.products)
-  pub multiple : most_below k ≡ g * (most_below k / g)
+  pub bound_below : k.bound ≡ neg_ℤ (pos (negative_total k.products)) +ℤ pos (need k)
+  pub bound_above : k.bound +ℤ pos (room k) ≡ pos (positive_total k.products)
+  pub multiple : need k ≡ g * (need k / g)
   pub sum_above : sum_of x k.products +ℤ pos (g * count_by (lacks true x) k.products) ≡ pos (positive_total k.products)
   pub sum_below : sum_of x k.products
       ≡ neg_ℤ (pos (negative_total k.products)) +ℤ pos (g * count_by (lacks false x) k.products)
@@ -205,7 +206,7 @@ record Stepped (k : Constraint) : Type 0 where
   pub some : nat_lt 0 (common_size k.products) ≡ true
   pub single : list_all is_single k.products ≡ true
   pub between : is_between k ≡ true
-  pub multiple : eqb (most_below k % common_size k.products) 0 ≡ true
+  pub multiple : eqb (need k % common_size k.products) 0 ≡ true
   pub differ : all_differ (variables_of k.products) ≡ true
 
 five : (a b c d e : Bool) → (a && b && c && d && e) ≡ true
@@ -220,15 +221,16 @@ five false b c d e h = absurd (false≢true h)
 stepped : (k : Constraint) → is_stepped k ≡ true → Stepped k
 stepped k is =
     let h = five (nat_lt 0 (common_size k.products)) (list_all is_single k.products) (is_between k)
-    (eqb (most_below k % common_size k.products) 0) (all_differ (variables_of k.products)) is in
+    (eqb (need k % common_size k.products) 0) (all_differ (variables_of k.products)) is in
     record { some = h.0; single = h.1; between = h.2; multiple = h.3; differ = h.4 }
 
 size-common : (ts : List Product) → nat_lt 0 (common_size ts) ≡ true → list_all (has_size (common_size ts)) ts ≡ true
-size-common ts some = decide (list_all (has_size (first_size ts)) ts) refl some
+size-common [] some = refl
+size-common (t ∷ ts) some = decide (list_all (has_size (size t)) ts) refl some
   where
-    decide : (b : Bool) → list_all (has_size (first_size ts)) ts ≡ b → nat_lt 0 (cond b (first_size ts) 0) ≡ true
-        → list_all (has_size (cond b (first_size ts) 0)) ts ≡ true
-    decide true e some = e
+    decide : (b : Bool) → list_all (has_size (size t)) ts ≡ b → nat_lt 0 (cond b (size t) 0) ≡ true
+        → list_all (has_size (cond b (size t) 0)) (t ∷ ts) ≡ true
+    decide true e some = grind (arith, nat_tests)
     decide false e some = absurd (false≢true some)
 
 between-below : (b : ℤ) (n : ℕ) → int_lt b (neg_ℤ (pos n)) ≡ false
@@ -244,8 +246,8 @@ facts x k is =
     let ts = k.products in
     let g = common_size ts in
     let sized = size-common ts h.some in
-    let low : int_lt k.bound (lowest k) ≡ false = (let between = h.between in grind (arith, nat_tests)) in
-    let high : int_lt (highest k) k.bound ≡ false = (let between = h.between in grind (arith, nat_tests)) in
+    let low : int_lt k.bound (least_sum k.products) ≡ false = (let between = h.between in grind (arith, nat_tests)) in
+    let high : int_lt (pos (positive_total k.products)) k.bound ≡ false = (let between = h.between in grind (arith, nat_tests)) in
     let above = sum-above x ts h.single in
     let below = sum-below x ts h.single in
     record {
@@ -255,7 +257,7 @@ facts x k is =
       differ = h.differ;
       bound_below = between-below k.bound (negative_total ts) low;
       bound_above = between-above k.bound (positive_total ts) high;
-      multiple = omega (arith, div-add-mod (most_below k) g, eqb-true (most_below k % g) 0 h.multiple);
+      multiple = omega (arith, div-add-mod (need k) g, eqb-true (need k % g) 0 h.multiple);
       sum_above = ap (λ n. sum_of x ts +ℤ pos n) (sym (counted-sizes (lacks true x) size g ts sized)) ∙ above;
       sum_below = below ∙ ap (λ n. neg_ℤ (pos (negative_total ts)) +ℤ pos n) (counted-sizes (lacks false x) size g ts sized);
     }

@@ -1,19 +1,15 @@
 -- Which literals hurt a part: what can break it, or break it further, when it becomes true.
-use Rattle.std.specs.Prelude.{ℕ, ℤ, pos, ◌-ℤ◌, neg_ℤ, int_lt, Bool, true, false, not, ◌&&◌, ◌||◌, ◌==◌, max, List, is_none, if◌then◌else◌}
-use Rattle.std.specs.List.{list_any, sum_by}
+use Rattle.std.specs.Prelude.{ℕ, Bool, true, false, ◌&&◌, ◌||◌, ◌==◌, max, List, is_none, if◌then◌else◌}
+use Rattle.std.specs.List.{list_any}
 use mathlib.Core.Bool.{beq}
-use Rattle.base.specs.Sums.{positive_part}
 use Rattle.literal_lists.specs.declared.literal.Literal.{Literal}
 use Rattle.problem_form.specs.declared.terms.Product.{Product}
 use Rattle.problem_form.specs.declared.terms.Clause.{Clause}
 use Rattle.problem_form.specs.declared.terms.Constraint.{Constraint}
-use Rattle.problem_form.specs.Limits.{positive_total}
+use Rattle.problem_form.specs.Limits.{need, room}
+use Rattle.problem_form.specs.Wanted.{is_negative, turned_literal}
 
 -- ---- literals of a list
-
--- the literal, or its complement where it is turned
-abbrev pub turned_literal : Bool → Literal → Literal
-turned_literal turned l = record l { negated = not (beq turned l.negated) }
 
 -- two literals are the same
 abbrev pub same : Literal → Literal → Bool
@@ -24,10 +20,6 @@ abbrev pub meets : Bool → List Literal → Literal → Bool
 meets turned ls l = list_any (λ m. same l (turned_literal turned m)) ls
 
 -- ---- sums of products
-
--- the coefficient is negative
-abbrev pub is_negative : Product → Bool
-is_negative t = int_lt t.coefficient (pos 0)
 
 -- when it becomes true, the literal can make the product add more, or with `up` false add less
 abbrev pub moves : Bool → Product → Literal → Bool
@@ -49,24 +41,7 @@ hurts_constraint k l = moves_sum false k.products l || (k.exact && moves_sum tru
 
 -- ---- what can be missing
 
--- the sizes of the negative coefficients
-abbrev pub negative_total : List Product → ℕ
-negative_total ts = sum_by (λ t. positive_part (neg_ℤ t.coefficient)) ts
-
--- the greatest sum of the products, and the least
-abbrev pub highest : Constraint → ℤ
-highest k = pos (positive_total k.products)
-
-abbrev pub lowest : Constraint → ℤ
-lowest k = neg_ℤ (pos (negative_total k.products))
-
--- how far the bound is above the least sum, and the greatest sum above the bound
-abbrev pub most_below : Constraint → ℕ
-most_below k = positive_part (k.bound -ℤ lowest k)
-
-abbrev pub most_above : Constraint → ℕ
-most_above k = positive_part (highest k -ℤ k.bound)
-
--- the most that can be missing in a constraint
+-- the most that can be missing in a constraint: what it needs, or the room of one that is exact, where
+-- that is more
 abbrev pub most_missing : Constraint → ℕ
-most_missing k = if k.exact then max (most_below k) (most_above k) else most_below k
+most_missing k = if k.exact then max (need k) (room k) else need k

@@ -1,7 +1,6 @@
 -- The rule: penalties of parts, found in rounds by the prices of their literals.
-use Rattle.std.specs.Prelude.{ℕ, zero, suc, ◌+◌, ◌-◌, ◌/◌, max, min, Bool, true, false, not, ◌&&◌, ◌==◌, nat_lt, nat_le, int_lt, List, [], ◌∷◌, map, fold, is_none, if◌then◌else◌}
+use Rattle.std.specs.Prelude.{ℕ, zero, suc, ◌+◌, ◌-◌, ◌/◌, max, min, Bool, true, false, not, ◌&&◌, ◌==◌, nat_lt, nat_le, int_lt, pos, List, [], ◌∷◌, map, fold, is_none, if◌then◌else◌}
 use Rattle.std.specs.List.{filter, flat_map, list_all, slice_index_or}
-use mathlib.Core.Bool.{beq}
 use Rattle.literal_lists.specs.declared.literal.Literal.{Literal}
 use Rattle.problem_form.specs.declared.terms.Product.{Product}
 use Rattle.problem_form.specs.declared.terms.Clause.{Clause}
@@ -9,9 +8,10 @@ use Rattle.problem_form.specs.declared.terms.Constraint.{Constraint}
 use Rattle.problem_form.specs.declared.penalties.PartPenalties.{PartPenalties}
 use Rattle.problem_form.specs.PartPenalties.{own, rest}
 use Rattle.problem_form.specs.Problems.{ProblemContent}
-use Rattle.local_penalties.specs.Hurting.{highest, is_negative, most_above, most_below, turned_literal}
-use Rattle.local_penalties.specs.Stepping.{common_size, is_single, is_stepped, size}
+use Rattle.local_penalties.specs.Stepping.{common_size, is_stepped}
 use Rattle.local_penalties.specs.Prices.{far, price, whole_penalty}
+use Rattle.problem_form.specs.Wanted.{is_single, size, wanted}
+use Rattle.problem_form.specs.Limits.{need, positive_total, room}
 
 -- ---- least and greatest
 
@@ -40,11 +40,6 @@ count_past room (n ∷ ns) = if nat_lt room n then 1 else 1 + count_past (room -
 
 -- ---- wanted literals
 
--- the literals that a product wants true to add more, or with `up` false to add less: its own or,
--- where it is negative, their complements
-abbrev pub wanted : Bool → Product → List Literal
-wanted up t = map (turned_literal (beq (is_negative t) up)) t.literals
-
 -- the prices of the literals that products want
 abbrev pub wanted_prices : Bool → (Literal → ℕ) → List Product → List ℕ
 wanted_prices up prices ts = map prices (flat_map (wanted up) ts)
@@ -55,13 +50,9 @@ wanted_prices up prices ts = map prices (flat_map (wanted up) ts)
 abbrev pub clause_penalty : (Literal → ℕ) → Clause → ℕ
 clause_penalty prices c = 1 + least (map prices c.literals)
 
--- a product of one literal whose size is no less than what can be missing
-abbrev pub suffices : ℕ → Product → Bool
-suffices below t = is_single t && nat_le below (size t)
-
--- the products of one literal that make a constraint hold by themselves
+-- the products of one literal that make a constraint hold by themselves: no less than what it needs
 abbrev pub sufficient : Constraint → List Product
-sufficient k = filter (suffices (most_below k)) k.products
+sufficient k = filter (λ t. is_single t && nat_le (need k) (size t)) k.products
 
 -- the least price of what makes a constraint hold alone
 abbrev pub price_alone : (Literal → ℕ) → Constraint → ℕ
@@ -82,9 +73,9 @@ price_of_step prices room ts =
 -- of a constraint that bounds its sum from below: 1 where it always holds, and none where it never does
 abbrev pub bound_penalty : (Literal → ℕ) → Constraint → ℕ
 bound_penalty prices k =
-    if most_below k == 0 then 1
-    else if int_lt (highest k) k.bound then far
-    else 1 + min (price_alone prices k) (price_of_step prices (most_above k) k.products)
+    if need k == 0 then 1
+    else if int_lt (pos (positive_total k.products)) k.bound then far
+    else 1 + min (price_alone prices k) (price_of_step prices (room k) k.products)
 
 -- what the cheapest step of a sum that can be short of its bound costs at most, up or, where `up` is
 -- false, down: where so many steps lead from the bound to the last sum, more wanted literals are false
@@ -92,27 +83,19 @@ abbrev pub price_of_side : Bool → (Literal → ℕ) → ℕ → ℕ → List P
 price_of_side up prices short steps ts =
     if short == 0 then 0 else greatest (steps + 1) (wanted_prices up prices ts)
 
--- that of an equation whose sum is below its bound, and 0 where it never is
-abbrev pub price_up : (Literal → ℕ) → Constraint → ℕ
-price_up prices k =
-    price_of_side true prices (most_below k) (most_above k / common_size k.products) k.products
-
--- that of one whose sum is above its bound
-abbrev pub price_down : (Literal → ℕ) → Constraint → ℕ
-price_down prices k =
-    price_of_side false prices (most_above k) (most_below k / common_size k.products) k.products
-
--- of an equation, by prices that leave out what it adds itself: each of its literals hurts it
+-- of an equation, whose sum can be short by what it needs, and too great by its room
 abbrev pub equation_penalty : (Literal → ℕ) → Constraint → ℕ
 equation_penalty prices k =
     if is_stepped k
-    then 1 + max (price_up (λ l. prices l - far) k) (price_down (λ l. prices l - far) k)
+    then 1 + max (price_of_side true prices (need k) (room k / common_size k.products) k.products)
+    (price_of_side false prices (room k) (need k / common_size k.products) k.products)
     else far
 
--- the local penalty of a constraint
+-- the local penalty of a constraint, of an equation by prices that leave out what it adds itself: each of
+-- its literals hurts it
 abbrev pub constraint_penalty : (Literal → ℕ) → Constraint → ℕ
 constraint_penalty prices k =
-    if k.exact then equation_penalty prices k else bound_penalty prices k
+    if k.exact then equation_penalty (λ l. prices l - far) k else bound_penalty prices k
 
 -- ---- rounds
 

@@ -1,12 +1,13 @@
 //! The local penalty of an equation.
-ghost use Rattle.std.specs.Prelude.{◌≡◌, ◌+◌, ◌-◌, ◌^◌, ◌<◌, ◌≤◌, ◌++◌, ◌&&◌, IfOk, OnOk, int_lt, length, map, neg_ℤ, not, pos, unsigned_abs};
+ghost use Rattle.std.specs.Prelude.{◌≡◌, ◌+◌, ◌-◌, ◌^◌, ◌<◌, ◌≤◌, ◌++◌, ◌&&◌, IfOk, OnOk, ◌==◌, int_lt, length, map, not, pos, slice_get, unsigned_abs};
 ghost use Rattle.std.specs.List.{list_all};
+ghost use Rattle.std.specs.Option.{option_map_or};
 ghost use Rattle.problem_form.specs.Problems.{constraint_total, products_total};
-ghost use Rattle.problem_form.specs.Limits.{positive_total};
-ghost use Rattle.local_penalties.specs.Hurting.{negative_total};
+ghost use Rattle.problem_form.specs.Wanted.{size};
+ghost use Rattle.problem_form.specs.Limits.{least_sum, negative_total, positive_total};
 ghost use Rattle.local_penalties.specs.Prices.{far};
 ghost use Rattle.local_penalties.specs.Rounds.{equation_penalty, price_of_side};
-ghost use Rattle.local_penalties.specs.Stepping.{all_differ, common_size, first_size, has_size, is_stepped, neighbours_differ, variables_of};
+ghost use Rattle.local_penalties.specs.Stepping.{all_differ, common_size, is_stepped, neighbours_differ, variables_of};
 ghost use Rattle.local_penalties.specs.Tallies.{HavePlaces, number_of};
 
 use crate::greatest::{greatest, sort_down};
@@ -18,7 +19,7 @@ use problem_form::{ConstraintRef, Literals, ProductRef, Products, positive_coeff
 // ---- one size
 
 fn first_size(mut products: Products<'_>) -> u128
-    ensures { result ≡ first_size products.entry }
+    ensures { result ≡ option_map_or size (slice_get products.entry 0) 0 }
 {
     match products.next() {
         Some(product) => product.coefficient.unsigned_abs(),
@@ -27,13 +28,13 @@ fn first_size(mut products: Products<'_>) -> u128
 }
 
 fn has_size(product: ProductRef<'_>, size: u128) -> bool
-    ensures { result ≡ has_size size product.entry }
+    ensures { result ≡ (unsigned_abs product.entry.coefficient == size) }
 {
     product.coefficient.unsigned_abs() == size
 }
 
 fn have_size(products: Products<'_>, size: u128) -> bool
-    ensures { result ≡ list_all (has_size size) products.entry }
+    ensures { result ≡ list_all (λ t. unsigned_abs t.coefficient == size) products.entry }
 {
     for product in products {
         if !has_size(product, size) {
@@ -101,7 +102,7 @@ fn all_differ(buffer: &mut Vec<u128>, products: Products<'_>) -> Result<bool, No
 fn is_between(products: Products<'_>, bound: i128) -> bool
     requires small { products_total products < 2 ^ 100 }
     requires bound { unsigned_abs bound < 2 ^ 100 }
-    ensures { result ≡ (not (int_lt bound (neg_ℤ (pos (negative_total products.entry))))
+    ensures { result ≡ (not (int_lt bound (least_sum products.entry))
         && not (int_lt (pos (positive_total products.entry)) bound)) }
 {
     let least = -(negative_coefficients(products.again()) as i128);
@@ -153,7 +154,7 @@ fn price_of_side(
     Ok(greatest(buffer, steps + 1))
 }
 
-/// The local penalty of an equation.
+/// The local penalty of an equation, by prices that leave out the equation itself.
 pub(crate) fn equation_penalty(
     buffer: &mut Vec<u128>,
     numbers: &[u128],
@@ -162,7 +163,7 @@ pub(crate) fn equation_penalty(
     requires total { constraint_total constraint.now < 2 ^ 100 }
     requires within { HavePlaces (length numbers.now) constraint.now.products }
     ensures value { IfOk result (λ penalty.
-        penalty ≡ equation_penalty (number_of numbers.now) constraint.now) }
+        penalty ≡ equation_penalty (λ l. number_of numbers.now l - far) constraint.now) }
     ensures small { IfOk result (λ penalty. penalty ≤ far + 1) }
 {
     let size = common_size(constraint.products.again());

@@ -1,14 +1,14 @@
 //! The local penalty of a part, by the prices of literals.
-ghost use Rattle.std.specs.Prelude.{◌≡◌, ◌+◌, ◌-◌, ◌*◌, ◌^◌, ◌<◌, ◌≤◌, ◌∷◌, ◌++◌, [], IfOk, OnOk, None, Some, true, fold, int_lt, length, map, min, neg_ℤ, ◌-ℤ◌, pos, unsigned_abs, if◌then◌else◌};
+ghost use Rattle.std.specs.Prelude.{◌≡◌, ◌&&◌, ◌+◌, ◌-◌, ◌*◌, ◌^◌, ◌<◌, ◌≤◌, ◌∷◌, ◌++◌, [], IfOk, OnOk, None, Some, true, fold, int_lt, length, map, min, nat_le, neg_ℤ, ◌-ℤ◌, pos, unsigned_abs, if◌then◌else◌};
 ghost use Rattle.std.specs.List.{filter, list_all, sum_by};
 ghost use Rattle.base.specs.Sums.{positive_part};
 ghost use Rattle.problem_form.specs.Problems.{constraint_total, products_total};
-ghost use Rattle.problem_form.specs.Limits.{positive_total};
-ghost use Rattle.local_penalties.specs.Hurting.{most_below, most_missing, negative_total, turned_literal};
+ghost use Rattle.problem_form.specs.Limits.{least_sum, need, negative_total, positive_total};
+ghost use Rattle.local_penalties.specs.Hurting.{most_missing};
 ghost use Rattle.local_penalties.specs.Prices.{charge, far};
-ghost use Rattle.local_penalties.specs.Rounds.{bound_penalty, clause_penalty, constraint_penalty, price_of_step, suffices, wanted, wanted_prices};
-ghost use Rattle.local_penalties.specs.Stepping.{is_single};
+ghost use Rattle.local_penalties.specs.Rounds.{bound_penalty, clause_penalty, constraint_penalty, price_of_step, wanted_prices};
 ghost use Rattle.local_penalties.specs.Tallies.{AreWithin, HavePlaces, number_of};
+ghost use Rattle.problem_form.specs.Wanted.{is_single, size, turned_literal, wanted};
 
 use crate::equations::equation_penalty;
 use crate::greatest::{count_past, greatest, sort_down};
@@ -52,8 +52,7 @@ pub(crate) fn negative_coefficients(products: Products<'_>) -> u128
 fn below_of(products: Products<'_>, bound: i128) -> u128
     requires small { products_total products < 2 ^ 100 }
     requires bound { unsigned_abs bound < 2 ^ 100 }
-    ensures { result
-        ≡ positive_part (bound -ℤ neg_ℤ (pos (negative_total products.entry))) }
+    ensures { result ≡ positive_part (bound -ℤ least_sum products.entry) }
 {
     let least = negative_coefficients(products);
     positive_part_of(bound + least as i128)
@@ -72,7 +71,7 @@ pub(crate) fn above_of(products: Products<'_>, bound: i128) -> u128
 /// How far the bound of a constraint is above its least sum.
 pub(crate) fn most_below(constraint: &ConstraintRef<'_>) -> u128
     requires { constraint_total constraint.now < 2 ^ 100 }
-    ensures { result ≡ most_below constraint.now }
+    ensures { result ≡ need constraint.now }
 {
     below_of(constraint.products.again(), constraint.bound)
 }
@@ -146,7 +145,7 @@ pub(crate) fn clause_penalty(numbers: &[u128], clause: ClauseRef<'_>) -> u128
 fn least_by(least: u128, numbers: &[u128], product: ProductRef<'_>, below: u128) -> u128
     requires { AreWithin (length numbers.now) product.literals }
     ensures value { result ≡ fold min least (wanted_prices true (number_of numbers.now)
-        (filter (suffices below) (product.entry ∷ []))) }
+        (filter (λ t. is_single t && nat_le below (size t)) (product.entry ∷ []))) }
     ensures small { result ≤ least }
 {
     if product.literals.len() == 1 && below <= product.coefficient.unsigned_abs() {
@@ -160,7 +159,7 @@ fn least_by(least: u128, numbers: &[u128], product: ProductRef<'_>, below: u128)
 fn price_alone(numbers: &[u128], products: Products<'_>, below: u128) -> u128
     requires { HavePlaces (length numbers.now) products }
     ensures value { result ≡ fold min far
-        (wanted_prices true (number_of numbers.now) (filter (suffices below) products.entry)) }
+        (wanted_prices true (number_of numbers.now) (filter (λ t. is_single t && nat_le below (size t)) products.entry)) }
     ensures small { result ≤ far }
 {
     let mut least = FAR;

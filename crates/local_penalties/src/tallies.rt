@@ -2,8 +2,9 @@
 ghost use Rattle.std.specs.Prelude.{◌≡◌, ◌+◌, ◌-◌, ◌*◌, ◌<◌, ◌≤◌, ◌^◌, ◌&&◌, ◌||◌, length, not, true, false, if◌then◌else◌};
 ghost use Rattle.literal_lists.specs.declared.literal.Literal.{Literal};
 ghost use Rattle.literal_lists.specs.Codes.{code_of};
-ghost use Rattle.local_penalties.specs.Hurting.{meets, turned_literal};
+ghost use Rattle.local_penalties.specs.Hurting.{meets};
 ghost use Rattle.local_penalties.specs.Tallies.{AreWithin, each_once, is_marked, number_of};
+ghost use Rattle.problem_form.specs.Wanted.{turned_literal};
 
 use problem_form::{Literal, Literals};
 

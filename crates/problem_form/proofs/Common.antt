@@ -9,7 +9,7 @@ pub use Rattle.problem_form.specs.declared.terms.Product.{Product}
 pub use Rattle.problem_form.specs.declared.terms.Clause.{Clause}
 pub use Rattle.problem_form.specs.declared.terms.Constraint.{Constraint}
 pub use Rattle.problem_form.specs.Problems.{ProblemContent, fails, fails_hard, own_cost, problem_total, product_value, sum_of, is_violated, soft_cost, soft_weight, products_total, constraint_total, IsNormal, IsNormalClause, IsNormalProduct, cut_off, negated, problem_cost}
-pub use Rattle.problem_form.specs.NormalForm.{Part, Widened, AddedProduct, AddedClause, AddedConstraint, kept_product, product_constant, kept_clause, clause_constant, normal_constraint, normal_form, blank, with_variables, with_product, with_clause, with_constraint, with_part, as_written, PartsAddUp, is_empty, is_plain_cost, weight_constant, NormalFormKeepsCosts, with_marked}
+pub use Rattle.problem_form.specs.NormalForm.{Part, Widened, AddedProduct, AddedClause, AddedConstraint, kept_product, product_constant, kept_clause, clause_constant, normal_constraint, normal_form, blank, with_variables, with_product, with_clause, with_constraint, with_part, as_written, PartsAddUp, is_empty, is_plain_cost, NormalFormKeepsCosts, with_marked}
 pub use Rattle.std.specs.Int.Count.{count_leading_zeros}
 pub use Rattle.std.proofs.lemmas.Bool.{cases_lt, le-leb, or_parts, or_left, or_right, or_from, eqb-false, false_from_ne_true, eqb-true, and_parts}
 pub use Rattle.std.proofs.lemmas.Nat.{leading_length, mul-le}

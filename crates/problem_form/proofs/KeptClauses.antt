@@ -1,5 +1,5 @@
 -- Clauses in normal form: what is kept of one, and what it adds to the sizes of a problem.
-use Rattle.problem_form.proofs.Common.{nat_tests, ◌≡◌, ◌≢◌, ℕ, ◌+◌, ◌<◌, ◌≤◌, ◌^◌, Bool, true, false, cond, ◌||◌, eqb, arith, refl, sym, ap, subst, ◌∙◌, List, [], ◌∷◌, length, Option, Some, None, Result, Ok, Err, OnOk, OnErr, unsigned_abs, unwrap_or, All, sum_by, or_parts, or_left, or_right, or_from, eqb-false, All-append, All-cons, All-nil, sum_by-append, eqb-suc-zero, size-plus, Literal, Clause, has_clash, with_literal, literal_set, IsLiteralSet, IsSound, ProblemContent, IsNormal, IsNormalClause, soft_weight, problem_total, is_empty, is_plain_cost, kept_clause, clause_constant, weight_constant, with_clause, literal_set-ascends, has_clash-literal_set, All-literal_set, ◌++◌, append-nil}
+use Rattle.problem_form.proofs.Common.{nat_tests, ◌≡◌, ◌≢◌, ℕ, ◌+◌, ◌<◌, ◌≤◌, ◌^◌, Bool, true, false, cond, ◌||◌, eqb, arith, refl, sym, ap, subst, ◌∙◌, List, [], ◌∷◌, length, Option, Some, None, Result, Ok, Err, OnOk, OnErr, unsigned_abs, unwrap_or, All, sum_by, or_parts, or_left, or_right, or_from, eqb-false, All-append, All-cons, All-nil, sum_by-append, eqb-suc-zero, size-plus, Literal, Clause, has_clash, with_literal, literal_set, IsLiteralSet, IsSound, ProblemContent, IsNormal, IsNormalClause, soft_weight, problem_total, is_empty, is_plain_cost, kept_clause, clause_constant, with_clause, literal_set-ascends, has_clash-literal_set, All-literal_set, ◌++◌, append-nil}
 
 -- ---- a list and its set
 
@@ -96,7 +96,7 @@ with_clause-normal p c normal within = record {
 -- ---- sizes
 
 weight_within : (w : Option ℕ) (ls s : List Literal) (b : Bool) → is_dropped w ls ≡ b
-    → unsigned_abs (weight_constant w ls)
+    → unsigned_abs (clause_constant (record { literals = ls; weight = w }))
     + sum_by soft_weight (cond b [] (record { literals = s; weight = w } ∷ [])) ≤ unwrap_or w 0
 weight_within w ls s b e = grind (arith, nat_tests)
 

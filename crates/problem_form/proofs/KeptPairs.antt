@@ -1,5 +1,5 @@
 -- What is kept of a hard clause of two literals, and of a number times them.
-use Rattle.problem_form.proofs.Common.{◌≡◌, ◌≢◌, ◌<◌, arith, List, [], ◌∷◌, None, pos, ◌+ℤ◌, ◌++◌, nat_tests, Literal, literal_set, has_clash, Clause, All, ints, IsSound, kept_clause, with_clause, ProblemContent, Product, ℤ, sym, ap, ◌∙◌, append-nil, kept_product, with_product, Option, Some, if◌then◌else◌}
+use Rattle.problem_form.proofs.Common.{◌≡◌, ◌≢◌, ◌<◌, arith, List, [], ◌∷◌, None, pos, ◌+ℤ◌, ◌++◌, nat_tests, Literal, literal_set, has_clash, Clause, All, ints, IsSound, kept_clause, with_clause, ProblemContent, Product, ℤ, sym, ap, ◌∙◌, append-nil, kept_product, clause_constant, with_product, Option, Some, if◌then◌else◌}
 use Rattle.problem_form.proofs.KeptClauses.{with_clause-sound}
 
 -- the hard clause of these literals
@@ -50,7 +50,7 @@ pub with_product-some : (p : ProblemContent) (a : Literal) (ls : List Literal) (
     → with_product p (weighed (a ∷ ls) k)
     ≡ record p { objective = p.objective ++ kept_product (weighed (a ∷ ls) k) }
 with_product-some p a ls k =
-    let constant : p.constant +ℤ pos 0 ≡ p.constant = omega (arith, ints) in
+    let constant : p.constant +ℤ pos 0 ≡ p.constant = grind (arith, ints) in
     (λ i. record p { constant = constant i; objective = p.objective ++ kept_product (weighed (a ∷ ls) k) })
 
 pub with_product-none : (p : ProblemContent) (k : ℤ)
@@ -66,7 +66,8 @@ with_product-none p k =
 pub with_clause-hard : (p : ProblemContent) (ls : List Literal) → with_clause p (hard_clause ls)
     ≡ record p { clauses = p.clauses ++ kept_clause (hard_clause ls) }
 with_clause-hard p ls =
-    let constant : p.constant +ℤ pos 0 ≡ p.constant = omega (arith, ints) in
+    let constant : p.constant +ℤ clause_constant (hard_clause ls) ≡ p.constant =
+    grind (arith, nat_tests, ints) in
     (λ i. record p { constant = constant i; clauses = p.clauses ++ kept_clause (hard_clause ls) })
 
 pub hard_clause-sound : (p : ProblemContent) (ls : List Literal) → IsSound p

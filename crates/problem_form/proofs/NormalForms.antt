@@ -2,7 +2,7 @@
 --
 -- The set of a list passes the same tests as the list. A literal and its complement are never both
 -- true and never both false, so a clash makes a product 0 and a clause true.
-use Rattle.problem_form.proofs.Common.{nat_tests, ◌≡◌, ℕ, Bool, true, false, cond, not, ◌&&◌, ◌||◌, arith, refl, sym, ap, ◌∙◌, List, [], ◌∷◌, map, get_or, length, Option, Some, None, is_none, ℤ, pos, ◌+ℤ◌, ◌-ℤ◌, int_lt, int_eq, list_any, flat_map, ints, eqb-true, Any-from_list_any, list_any-append, list_all_at, list_any_at, if◌then◌else◌, ◌<◌, unwrap_or, total_by, if_so, total_by-append, Literal, Product, Clause, Constraint, holds, all_hold, some_holds, are_opposite, has_clash, literal_set, product_value, sum_of, soft_cost, fails_hard, fails, cut_off, is_empty, kept_product, product_constant, is_plain_cost, kept_clause, weight_constant, clause_constant, normal_constraint, NormalFormKeepsCosts, list_any-literal_set, list_all-literal_set, ProblemContent, normal_form}
+use Rattle.problem_form.proofs.Common.{nat_tests, ◌≡◌, ℕ, Bool, true, false, cond, not, ◌&&◌, ◌||◌, arith, refl, sym, ap, ◌∙◌, List, [], ◌∷◌, map, get_or, length, Option, Some, None, is_none, ℤ, pos, ◌+ℤ◌, ◌-ℤ◌, int_lt, int_eq, list_any, flat_map, ints, eqb-true, Any-from_list_any, list_any-append, list_all_at, list_any_at, if◌then◌else◌, ◌<◌, unwrap_or, total_by, if_so, total_by-append, Literal, Product, Clause, Constraint, holds, all_hold, some_holds, are_opposite, has_clash, literal_set, product_value, sum_of, soft_cost, fails_hard, fails, cut_off, is_empty, kept_product, product_constant, is_plain_cost, kept_clause, clause_constant, normal_constraint, NormalFormKeepsCosts, list_any-literal_set, list_all-literal_set, ProblemContent, normal_form}
 use Rattle.base.specs.declared.costs.Cost.TheVariants.{Whole, Infinite}
 
 -- ---- a literal and its complement
@@ -107,7 +107,8 @@ weightless : (x : List Bool) (ls s : List Literal) (b : Bool)
 weightless x ls s b = grind (arith, nat_tests, ints)
 
 cost_parts : (x : List Bool) (w : Option ℕ) (ls : List Literal)
-    → if_so (not (some_holds x ls)) (pos (unwrap_or w 0)) ≡ weight_constant w ls
+    → if_so (not (some_holds x ls)) (pos (unwrap_or w 0))
+    ≡ clause_constant (record { literals = ls; weight = w })
     +ℤ total_by (soft_cost x) (if has_clash ls || is_plain_cost w ls
     then []
     else record { literals = literal_set ls; weight = w } ∷ [])

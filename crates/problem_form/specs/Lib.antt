@@ -1,6 +1,7 @@
 pub mod Problems
 pub mod NormalForm
 pub mod Limits
+pub mod Wanted
 pub mod PartPenalties
 pub mod Fields
 pub mod WeighedLists

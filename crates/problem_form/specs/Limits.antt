@@ -1,5 +1,5 @@
 -- The numbers of a problem that are counted against limits, as mathematical whole numbers.
-use Rattle.std.specs.Prelude.{ℕ, zero, suc, ◌+◌, ◌-◌, ◌*◌, ◌^◌, ◌<◌, ◌≤◌, min, max, ℤ, pos, ◌+ℤ◌, ◌-ℤ◌, unsigned_abs, int_lt, not, List, [], ◌∷◌, ◌++◌, length, Option, Some, None, is_none, map, fold, count_by, nat_lt, nat_le, if◌then◌else◌}
+use Rattle.std.specs.Prelude.{ℕ, zero, suc, ◌+◌, ◌-◌, ◌*◌, ◌^◌, ◌<◌, ◌≤◌, min, max, ℤ, pos, ◌+ℤ◌, ◌-ℤ◌, neg_ℤ, unsigned_abs, int_lt, not, List, [], ◌∷◌, ◌++◌, length, Option, Some, None, is_none, map, fold, count_by, nat_lt, nat_le, if◌then◌else◌}
 use Rattle.std.specs.List.{sum_by, flat_map}
 use Rattle.base.specs.Sums.{positive_part}
 use Rattle.problem_form.specs.declared.limits.LimitKind.{LimitKind}
@@ -12,15 +12,33 @@ use Rattle.problem_form.specs.declared.terms.Clause.{Clause}
 use Rattle.problem_form.specs.declared.terms.Constraint.{Constraint}
 use Rattle.problem_form.specs.Problems.{ProblemContent, products_total, soft_weight}
 
+-- ---- how small and how great a sum can be
+
+-- the sum of the positive coefficients
+abbrev pub positive_total : List Product → ℕ
+positive_total products = sum_by (λ t. positive_part t.coefficient) products
+
+-- the sizes of the negative coefficients
+abbrev pub negative_total : List Product → ℕ
+negative_total products = sum_by (λ t. positive_part (neg_ℤ t.coefficient)) products
+
+-- the least sum of products: that of the negative coefficients
+abbrev pub least_sum : List Product → ℤ
+least_sum products = neg_ℤ (pos (negative_total products))
+
+-- what a constraint needs: how far its bound is above the least sum of its products
+abbrev pub need : Constraint → ℕ
+need k = positive_part (k.bound -ℤ least_sum k.products)
+
+-- the room that it leaves: how far the greatest sum of its products is above its bound
+abbrev pub room : Constraint → ℕ
+room k = positive_part (pos (positive_total k.products) -ℤ k.bound)
+
 -- ---- bounds of the costs (A, U and P of the penalty method)
 
 -- the sizes of the objective's coefficients, and the soft weights
 abbrev pub cost_size : ProblemContent → ℕ
 cost_size p = products_total p.objective + sum_by soft_weight p.clauses
-
--- the sum of the positive coefficients
-abbrev pub positive_total : List Product → ℕ
-positive_total products = sum_by (λ t. positive_part t.coefficient) products
 
 -- an upper bound of what an assignment costs without the most: the constant, the positive
 -- coefficients and the soft weights
@@ -36,6 +54,11 @@ lower p = own_upper p -ℤ pos (cost_size p)
 abbrev pub lesser_of : Option ℤ → ℤ → ℤ
 lesser_of None u = u
 lesser_of (Some most) u = if int_lt most u then most else u
+
+-- the lesser of two bounds, where both are given, and else the one that is
+abbrev pub lesser_most : Option ℤ → Option ℤ → Option ℤ
+lesser_most None own = own
+lesser_most (Some most) own = Some (lesser_of own most)
 
 -- an upper bound of every whole cost
 abbrev pub upper : ProblemContent → ℤ
@@ -96,7 +119,7 @@ factor normals.Multilinear complements = 2 ^ complements
 
 -- how far the sum of a constraint can lie above its bound; an exact one has no slack
 abbrev pub slack_range : Constraint → ℕ
-slack_range k = if k.exact then 0 else positive_part (pos (positive_total k.products) -ℤ k.bound)
+slack_range k = if k.exact then 0 else room k
 
 -- how many of the first so many powers of 2 are at most n
 abbrev pub powers_within : ℕ → ℕ → ℕ

@@ -13,7 +13,7 @@ use Rattle.problem_form.specs.declared.terms.Product.{Product}
 use Rattle.problem_form.specs.declared.terms.Clause.{Clause}
 use Rattle.problem_form.specs.declared.terms.Constraint.{Constraint}
 use Rattle.literal_lists.specs.Literals.{has_clash, literal_set}
-use Rattle.problem_form.specs.Problems.{ProblemContent, problem_cost, no_penalties}
+use Rattle.problem_form.specs.Problems.{ProblemContent, problem_cost, no_penalties, soft_weight}
 use Rattle.problem_form.specs.declared.penalties.PartPenalties.{PartPenalties}
 use Rattle.problem_form.specs.WeighedLists.{marked}
 
@@ -49,39 +49,30 @@ kept_clause c =
     then []
     else record c { literals = literal_set c.literals } ∷ []
 
--- what these literals with this weight add to the constant: the weight, where there are no literals
-abbrev pub weight_constant : Option ℕ → List Literal → ℤ
-weight_constant None literals = pos 0
-weight_constant (Some weight) literals = if is_empty literals then pos weight else pos 0
-
--- what a clause adds to the constant
+-- what a clause adds to the constant: the weight of a soft one without literals
 abbrev pub clause_constant : Clause → ℤ
-clause_constant c = weight_constant c.weight c.literals
+clause_constant c = if is_empty c.literals then pos (soft_weight c) else pos 0
 
 -- ---- constraints, whose constants go into the bound
 
 -- a constraint in normal form, whose bound is less by the constants of its sum
 abbrev pub normal_constraint : Constraint → Constraint
-normal_constraint k = record {
+normal_constraint k = record k {
   products = flat_map kept_product k.products;
   bound = k.bound -ℤ total_by product_constant k.products;
-  exact = k.exact;
 }
 
 -- ---- the whole
 
 -- the problem in normal form
 abbrev pub normal_form : ProblemContent → ProblemContent
-normal_form p = record {
-  variables = p.variables;
+normal_form p = record p {
   constant = p.constant
       +ℤ total_by product_constant p.objective
       +ℤ total_by clause_constant p.clauses;
   objective = flat_map kept_product p.objective;
   clauses = flat_map kept_clause p.clauses;
   constraints = map normal_constraint p.constraints;
-  most = p.most;
-  penalties = p.penalties;
 }
 
 -- the normal form costs what the problem as written costs, under every assignment

@@ -1,6 +1,6 @@
 //! Clauses in normal form.
 ghost use Rattle.std.specs.Prelude.{◌≡◌, ◌++◌, ◌∷◌, [], None, pos, OnOk, OnErr};
-ghost use Rattle.problem_form.specs.NormalForm.{is_plain_cost, kept_clause, weight_constant};
+ghost use Rattle.problem_form.specs.NormalForm.{clause_constant, is_plain_cost, kept_clause};
 
 use crate::clause_list::ClauseList;
 use base::NoMemory;
@@ -8,7 +8,8 @@ use literal_lists::{Literal, ShortSet, clashes, make_set};
 
 /// What a clause adds to the constant: the weight of a soft one without literals.
 pub(crate) fn weight_constant(weight: Option<u64>, literals: &[Literal]) -> u64
-    ensures { pos result ≡ weight_constant weight literals.now }
+    ensures { pos result
+        ≡ clause_constant (record { literals = literals.now; weight = weight }) }
 {
     match weight {
         Some(weight) if literals.is_empty() => weight,

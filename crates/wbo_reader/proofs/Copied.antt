@@ -1,5 +1,5 @@
 -- A constraint in normal form is its own normal form, and what a constraint is eased to.
-use Rattle.wbo_reader.proofs.Common.{nat_tests, ◌≡◌, ◌≢◌, Result, OnOk, ℕ, zero, suc, ◌+◌, ◌≤◌, Bool, true, false, ◌||◌, List, [], ◌∷◌, ◌++◌, map, take, Some, ℤ, pos, ◌+ℤ◌, ◌-ℤ◌, int_le, int_lt, unsigned_abs, refl, sym, ap, ◌∙◌, arith, if◌then◌else◌, flat_map, slice_get, sum_by, AllByRecursion, ints, sum_by-cons, recursion_from_All, append_assoc, map-append, total_by, positive_part, Literal, Product, Constraint, IsNormalProduct, negated, constraint_total, fails, is_empty, kept_product, product_constant, normal_constraint, literal_set-ascending, kept_product-kept, Soft, IsNormalConstraint, soft_total, least_part, least_sum, eased}
+use Rattle.wbo_reader.proofs.Common.{nat_tests, ◌≡◌, ◌≢◌, Result, OnOk, ℕ, zero, suc, ◌+◌, ◌≤◌, Bool, true, false, ◌||◌, List, [], ◌∷◌, ◌++◌, map, take, Some, ℤ, pos, ◌+ℤ◌, ◌-ℤ◌, int_le, int_lt, unsigned_abs, refl, sym, ap, ◌∙◌, arith, if◌then◌else◌, flat_map, slice_get, sum_by, AllByRecursion, ints, sum_by-cons, recursion_from_All, append_assoc, map-append, total_by, positive_part, Literal, Product, Constraint, IsNormalProduct, negated, constraint_total, fails, is_empty, kept_product, product_constant, normal_constraint, literal_set-ascending, kept_product-kept, Soft, IsNormalConstraint, soft_total, least_part, least_sum, eased, neg_ℤ}
 
 -- ---- normal form
 
@@ -66,7 +66,7 @@ least_part-size c = grind (arith, nat_tests, ints)
 pub least_sum-cons : (t : Product) (ts : List Product)
     → least_sum (t ∷ ts) ≡ least_part t.coefficient +ℤ least_sum ts
 least_sum-cons t ts =
-    let sum = sum_by-cons (λ (u : Product). positive_part u.coefficient) (negated t) (map negated ts) in
+    let sum = sum_by-cons (λ (u : Product). positive_part (neg_ℤ u.coefficient)) t ts in
     omega (arith, ints)
 
 -- ---- bits, one after another

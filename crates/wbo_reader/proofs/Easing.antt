@@ -25,7 +25,7 @@ part-least b c = grind (arith, nat_tests, ints)
 pub least_sum-le : (x : List Bool) (ts : List Product) → least_sum ts ≤ℤ sum_of x ts
 least_sum-le x [] = omega (arith, ints)
 least_sum-le x (t ∷ ts) =
-    let sum = sum_by-cons (λ (u : Product). positive_part u.coefficient) (negated t) (map negated ts) in
+    let sum = sum_by-cons (λ (u : Product). positive_part (neg_ℤ u.coefficient)) t ts in
     omega (arith, ints, part-least (all_hold x t.literals) t.coefficient, least_sum-le x ts)
 
 -- ---- one constraint with its bit

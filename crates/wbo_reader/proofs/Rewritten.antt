@@ -1,10 +1,10 @@
 -- The rewritten problem stands for its source. Where a constraint that stands for a soft one holds,
 -- the bit is 1 or the soft constraint holds: so the bits that are 1 cost no less than what fails.
-use Rattle.wbo_reader.proofs.Common.{◌≡◌, ℕ, suc, ◌+◌, ◌≤◌, Bool, false, cond, not, ◌&&◌, ◌||◌, List, [], ◌∷◌, ◌++◌, map, take, length, Option, ℤ, pos, ◌+ℤ◌, ◌≤ℤ◌, refl, subst, ◌∙◌, arith, if◌then◌else◌, ⊤, list_any, AllByRecursion, ints, nat_tests, append_assoc, take-append-le, take_all, length-append, length-map, list_any-append, sum_by-cons, recursion_from_All, Cost, sum_of, fails, problem_cost, Soft, WboContent, wbo_cost, paid, paid_for, reaches_top, IsNormalConstraint, IsNormalSource, all_of, rewritten, rewritten_constraints, extended, eased_rows, hard_rows, weighed_bits, RewritesItsSource, CarriesAssignments, or_parts}
+use Rattle.wbo_reader.proofs.Common.{◌≡◌, ℕ, suc, ◌+◌, ◌≤◌, Bool, false, cond, not, ◌&&◌, ◌||◌, List, [], ◌∷◌, ◌++◌, map, take, length, Option, ℤ, pos, ◌+ℤ◌, ◌≤ℤ◌, refl, subst, ◌∙◌, arith, if◌then◌else◌, ⊤, list_any, AllByRecursion, ints, nat_tests, append_assoc, take-append-le, take_all, length-append, length-map, list_any-append, sum_by-cons, recursion_from_All, Cost, sum_of, fails, problem_cost, Soft, WboContent, wbo_cost, paid, paid_for, reaches_top, IsNormalConstraint, IsNormalSource, all_of, rewritten, extended, eased_rows, hard_rows, weighed_bits, RewritesItsSource, CarriesAssignments, or_parts, rows_of}
 use Rattle.base.specs.declared.costs.Cost.TheVariants.{Whole, Infinite}
 use Rattle.wbo_reader.proofs.Agreeing.{fails-first, all_fail-first}
 use Rattle.wbo_reader.proofs.Easing.{bit_of, eased_row-fails}
-use Rattle.wbo_reader.proofs.Spending.{spent, weighed_bits-sum, top_rows-fail}
+use Rattle.wbo_reader.proofs.Spending.{spent, weighed_bits-sum, top_rows-fail, top_rows}
 use Rattle.wbo_reader.proofs.Merging.{any_in-merged, concat-hard_rows}
 
 -- ---- soft constraints
@@ -53,11 +53,16 @@ module _ (s : WboContent) (is : IsNormalSource s) (x' : List Bool) where
       ≡ unpaid firsts x' s.variables s.soft
   soft_failing = grind (arith, nat_tests, eased_rows-fail, recursion_from_All)
 
-  all_failing : list_any (fails x') (rewritten_constraints s)
+  rows_failing : list_any (fails x') (rows_of s)
+      ≡ (list_any (fails firsts) s.hard || unpaid firsts x' s.variables s.soft)
+  rows_failing = grind (arith, nat_tests, any_in-merged, hard_failing, soft_failing)
+
+  all_failing : list_any (fails x') (rows_of s ++ top_rows s.variables s.top s.soft)
       ≡ ((list_any (fails firsts) s.hard || unpaid firsts x' s.variables s.soft)
       || reaches_top s.top (spent x' s.variables s.soft))
   all_failing =
-      grind (arith, nat_tests, list_any-append, any_in-merged, hard_failing, soft_failing, top_rows-fail)
+      list_any-append (fails x') (rows_of s) (top_rows s.variables s.top s.soft)
+      ∙ (λ i. rows_failing i || top_rows-fail x' s.variables s.top s.soft i)
 
   objective : pos 0 +ℤ sum_of x' (weighed_bits s.variables s.soft) +ℤ pos 0
       ≡ pos (spent x' s.variables s.soft)

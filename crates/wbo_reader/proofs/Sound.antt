@@ -1,6 +1,7 @@
 -- The rewritten problem is in normal form, and its sizes sum to at most four times those of its
 -- source.
-use Rattle.wbo_reader.proofs.Common.{nat_tests, ◌≡◌, ◌≢◌, ℕ, suc, ◌+◌, ◌*◌, ◌<◌, ◌≤◌, Bool, true, false, ◌&&◌, ◌||◌, eqb, List, [], ◌∷◌, ◌++◌, map, length, All, Option, unwrap_or, ℤ, pos, ◌-ℤ◌, unsigned_abs, refl, arith, sum_by, AllByRecursion, IsStrictlySortedBy, ints, sum_by-append, sum_by-cons, All-nil, All-weaker, All-from_recursion, recursion_from_All, Literal, Product, Constraint, IsLiteralSet, negated, products_total, constraint_total, problem_total, IsNormalProduct, Soft, WboContent, IsNormalConstraint, soft_total, wbo_total, bit_product, weighed_bits, least_sum, eased, eased_row, eased_rows, hard_rows, merged, all_of, top_rows, rewritten, rewritten_constraints, RewrittenIsSound, rows_of, negated-total, positive_total-le, all_append, All-cons, All-map, All-push, int_le, neg_ℤ, if◌then◌else◌, Some, None, nat_le}
+use Rattle.wbo_reader.proofs.Common.{nat_tests, ◌≡◌, ◌≢◌, ℕ, suc, ◌+◌, ◌*◌, ◌<◌, ◌≤◌, Bool, true, false, ◌&&◌, ◌||◌, eqb, List, [], ◌∷◌, ◌++◌, map, length, All, Option, unwrap_or, ℤ, pos, ◌-ℤ◌, unsigned_abs, refl, arith, sum_by, AllByRecursion, IsStrictlySortedBy, ints, sum_by-append, sum_by-cons, All-nil, All-weaker, All-from_recursion, recursion_from_All, Literal, Product, Constraint, IsLiteralSet, negated, products_total, constraint_total, problem_total, IsNormalProduct, Soft, WboContent, IsNormalConstraint, soft_total, wbo_total, bit_product, weighed_bits, least_sum, eased, eased_row, eased_rows, hard_rows, merged, all_of, rewritten, RewrittenIsSound, rows_of, negated-total, positive_total-le, all_append, All-cons, All-map, All-push, int_le, neg_ℤ, if◌then◌else◌, Some, None, nat_le, compared, AtMost, at_most, negative_total}
+use Rattle.wbo_reader.proofs.Spending.{top_rows}
 
 -- ---- products
 
@@ -100,23 +101,28 @@ weighed_good v n (s ∷ soft) le h =
     (bit_normal v n (pos s.weight) (omega (arith, le)) (λ e. absurd (omega (arith, ints, e, h.0))))
     (weighed_good (suc v) n soft (omega (arith, le)) h.1)
 
-one_good : (n : ℕ) (b : Bool) (k : Constraint) → IsGood n k
-    → AllByRecursion (IsGood n) (if b then k ∷ [] else [])
-one_good n true k h = (h, tt)
-one_good n false k h = tt
+one_good : (n : ℕ) (b : Bool) (most : ℤ) (ts : List Product) → IsGood n (compared AtMost ts most)
+    → AllByRecursion (IsGood n) (at_most (if b then Some most else None) ts)
+one_good n true most ts h = (h, tt)
+one_good n false most ts h = tt
 
 top_good : (v n : ℕ) (top : Option ℕ) (soft : List Soft)
     → All (IsNormalProduct n) (weighed_bits v soft) → AllByRecursion (IsGood n) (top_rows v top soft)
 top_good v n None soft h = tt
 top_good v n (Some top) soft h =
-    one_good n (nat_le top (sum_by (λ (s : Soft). s.weight) soft))
-    (record { products = map negated (weighed_bits v soft); bound = pos 1 -ℤ pos top; exact = false })
-    (record { are = all_negated n (weighed_bits v soft) h })
+    one_good n (nat_le top (sum_by (λ (s : Soft). s.weight) soft)) (pos top -ℤ pos 1)
+    (weighed_bits v soft) (record { are = all_negated n (weighed_bits v soft) h })
 
 -- ---- sizes
 
+negative_total-le : (ts : List Product) → negative_total ts ≤ products_total ts
+negative_total-le [] = omega arith
+negative_total-le (t ∷ ts) =
+    let rest = negative_total-le ts in
+    simp sum_by-cons (grind (arith, nat_tests, ints))
+
 pub least_size : (ts : List Product) → unsigned_abs (least_sum ts) ≤ products_total ts
-least_size ts = omega (arith, ints, positive_total-le (map negated ts), negated-total ts)
+least_size ts = omega (arith, ints, negative_total-le ts)
 
 eased_total : (v : ℕ) (ts : List Product) (bound : ℤ)
     → constraint_total (eased v ts bound) ≤ 2 * (products_total ts + unsigned_abs bound)
@@ -194,7 +200,7 @@ rewritten_is_sound s is =
       record {
         objective = bits;
         clauses = All-nil _;
-        constraints = All-weaker (IsGood n) (λ k. All (IsNormalProduct n) k.products) (λ k h. h.are) (rewritten_constraints s) (All-from_recursion (IsGood n) (rewritten_constraints s) all);
+        constraints = All-weaker (IsGood n) (λ k. All (IsNormalProduct n) k.products) (λ k h. h.are) (rows_of s ++ top_rows s.variables s.top s.soft) (All-from_recursion (IsGood n) (rows_of s ++ top_rows s.variables s.top s.soft) all);
         most = λ m e. absurd cc;
       },
       omega (arith, rewritten_total s, is.small),

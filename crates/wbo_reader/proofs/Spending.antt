@@ -1,5 +1,5 @@
 -- What the bits of soft constraints cost, and the constraint of the top.
-use Rattle.wbo_reader.proofs.Common.{◌≡◌, ℕ, suc, ◌+◌, ◌≤◌, Bool, false, ◌||◌, List, [], ◌∷◌, Option, pos, ◌-ℤ◌, neg_ℤ, int_lt, refl, ap, arith, cond, nat_le, list_any, sum_by, ints, nat_tests, sum_by-cons, positive_part, Product, sum_of, fails, positive_total, Soft, reaches_top, weighed_bits, top_rows, bit_product, UpperIsSoftWeights}
+use Rattle.wbo_reader.proofs.Common.{◌≡◌, ℕ, suc, ◌+◌, ◌≤◌, Bool, false, ◌||◌, List, [], ◌∷◌, Option, pos, ◌-ℤ◌, neg_ℤ, int_lt, refl, ap, arith, cond, nat_le, list_any, sum_by, ints, nat_tests, sum_by-cons, positive_part, Product, sum_of, fails, positive_total, Soft, reaches_top, weighed_bits, bit_product, UpperIsSoftWeights, at_most, top_bound, Constraint}
 use Rattle.wbo_reader.proofs.Easing.{bit_of, sum_of-negated}
 
 -- the weights of the bits from v on that are 1
@@ -25,7 +25,12 @@ spent-le x v (s ∷ soft) = omega (arith, within_weight, spent-le x (suc v) soft
 
 -- ---- the top
 
-below_top : (top spent : ℕ) → int_lt (neg_ℤ (pos spent)) (pos 1 -ℤ pos top) ≡ nat_le top spent
+-- the constraint that the weights of the bits that are 1 sum to less than the top
+abbrev pub top_rows : ℕ → Option ℕ → List Soft → List Constraint
+top_rows v top soft = at_most (top_bound top (weights soft)) (weighed_bits v soft)
+
+below_top : (top spent : ℕ)
+    → int_lt (neg_ℤ (pos spent)) (neg_ℤ (pos top -ℤ pos 1)) ≡ nat_le top spent
 below_top top spent = grind (arith, ints, nat_tests)
 
 above_all : (top spent sum : ℕ) → spent ≤ sum → nat_le top sum ≡ false → false ≡ nat_le top spent

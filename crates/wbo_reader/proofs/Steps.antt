@@ -1,5 +1,5 @@
 -- What is left to add to a problem, one after another.
-use Rattle.wbo_reader.proofs.Common.{nat_tests, ints, ◌≡◌, ℕ, suc, ◌+◌, Bool, true, false, List, [], ◌∷◌, ◌++◌, map, drop, Some, ℤ, pos, neg_ℤ, ◌-ℤ◌, int_lt, sym, ap, subst, ◌∙◌, arith, if◌then◌else◌, slice_get, Product, Constraint, ProblemContent, negated, own_upper, IsSound, drop-at, Soft, bit_product, weighed_bits, with_products, with_rows, eased, eased_row, eased_rows, hard_rows, merged, all_of, top_row}
+use Rattle.wbo_reader.proofs.Common.{nat_tests, ints, ◌≡◌, ℕ, suc, ◌+◌, Bool, true, false, List, [], ◌∷◌, ◌++◌, map, drop, Some, ℤ, pos, neg_ℤ, ◌-ℤ◌, int_lt, sym, ap, subst, ◌∙◌, arith, if◌then◌else◌, slice_get, Product, Constraint, ProblemContent, negated, own_upper, IsSound, drop-at, Soft, bit_product, weighed_bits, with_products, with_rows, eased, eased_row, eased_rows, hard_rows, merged, all_of, top_row, at_most, None, compared, AtMost}
 use Rattle.wbo_reader.proofs.Added.{more_rows, first_rows, more_products, first_products}
 
 -- ---- weights on bits
@@ -95,17 +95,16 @@ soft_added p q new order rest i hard v j soft s left first at is =
 
 -- ---- the top
 
+less-turned : (top : ℕ) → pos 1 -ℤ pos top ≡ neg_ℤ (pos top -ℤ pos 1)
+less-turned top = omega (arith, ints)
+
 pub top_needed : (p : ProblemContent) (top : ℕ) (ts : List Product) (bound : ℤ)
     → int_lt (own_upper p) (pos top) ≡ false → ts ≡ map negated p.objective
     → bound ≡ pos 1 -ℤ pos top
     → record { products = ts; bound = bound; exact = false } ∷ [] ≡ top_row p top
 top_needed p top ts bound reached products is =
-    (λ i. record { products = products i; bound = is i; exact = false } ∷ [])
-    ∙ ap (λ b. if b then [] else record {
-      products = map negated p.objective;
-      bound = pos 1 -ℤ pos top;
-      exact = false;
-    } ∷ []) (sym reached)
+    (λ i. record { products = products i; bound = (is ∙ less-turned top) i; exact = false } ∷ [])
+    ∙ ap (λ b. at_most (if b then None else Some (pos top -ℤ pos 1)) p.objective) (sym reached)
 
 -- ---- what stands for a soft constraint
 

@@ -1,8 +1,9 @@
 -- The rewritten problem, part by part.
-use Rattle.wbo_reader.proofs.Common.{◌≡◌, ℕ, ◌+◌, ◌<◌, Bool, true, false, not, cond, List, [], ◌∷◌, length, drop, get_or, Option, Some, None, sym, ap, subst, ◌∙◌, arith, count_by, drop_more, sum_by-cons, nat_tests, blank, with_variables, ProblemContent, IsSound, WboContent, IsWbo, weighed_bits, with_products, with_rows, rows_of, rewritten, rewritten_constraints, top_row, top_rows}
+use Rattle.wbo_reader.proofs.Common.{◌++◌, ◌≡◌, ℕ, ◌+◌, ◌<◌, Bool, true, false, not, cond, List, [], ◌∷◌, length, drop, get_or, Option, Some, None, sym, ap, subst, ◌∙◌, arith, count_by, drop_more, sum_by-cons, nat_tests, blank, with_variables, ProblemContent, IsSound, WboContent, IsWbo, weighed_bits, with_products, with_rows, rows_of, rewritten, top_row, at_most, ℤ}
 use Rattle.wbo_reader.proofs.Added.{first_rows, no_rows}
 use Rattle.wbo_reader.proofs.Sound.{rewritten_is_sound}
-use Rattle.wbo_reader.proofs.Spending.{upper_is_soft_weights}
+use Rattle.wbo_reader.proofs.Spending.{top_rows}
+use Rattle.wbo_reader.proofs.Within.{most_is}
 
 -- ---- the order
 
@@ -39,7 +40,7 @@ abbrev pub rowed : WboContent → ProblemContent
 rowed s = with_rows (weighed s) (rows_of s)
 
 pub weighed_sound : (s : WboContent) → IsWbo s → IsSound (weighed s)
-weighed_sound s is = first_rows (weighed s) [] (rewritten_constraints s) (rewritten_is_sound s is)
+weighed_sound s is = first_rows (weighed s) [] (rows_of s ++ top_rows s.variables s.top s.soft) (rewritten_is_sound s is)
 
 pub rowed_sound : (s : WboContent) → IsWbo s → IsSound (rowed s)
 rowed_sound s is =
@@ -71,7 +72,7 @@ rows_are_sound {s = s} kept same filled =
 
 same_top : (s : WboContent) (top : ℕ)
     → top_row (rowed s) top ≡ top_rows s.variables (Some top) s.soft
-same_top s top = grind (arith, nat_tests, upper_is_soft_weights s)
+same_top s top = ap (λ (most : Option ℤ). at_most most (weighed_bits s.variables s.soft)) (most_is s (Some top))
 
 top_is : (s : WboContent) (top : ℕ) → s.top ≡ Some top
     → top_row (rowed s) top ≡ top_rows s.variables s.top s.soft
@@ -82,7 +83,9 @@ pub with_top : (s : WboContent) (top : ℕ) → s.top ≡ Some top
 with_top s top is = ap (with_rows (rowed s)) (top_is s top is)
 
 pub without_top : (s : WboContent) → s.top ≡ None → rowed s ≡ rewritten s
-without_top s is = grind (arith, nat_tests, no_rows (rowed s))
+without_top s is =
+    sym (ap (λ (top : Option ℕ). with_rows (rowed s) (top_rows s.variables top s.soft)) is
+    ∙ no_rows (rowed s))
 
 pub top_sound : (s : WboContent) (top : ℕ) → s.top ≡ Some top → IsWbo s
     → IsSound (with_rows (rowed s) (top_row (rowed s) top))

@@ -1,8 +1,8 @@
 -- The top as a bound: the weights of the bits that are 1 sum to what the problem costs, so at most one
 -- less than the top is a bound of the costs.
-use Rattle.wbo_reader.proofs.Common.{◌≡◌, ℕ, ◌≤◌, Bool, true, false, ◌||◌, List, ◌++◌, ◌∙◌, Option, Some, None, ℤ, pos, ◌+ℤ◌, ◌-ℤ◌, refl, sym, ap, arith, cond, if◌then◌else◌, list_any, list_any-append, ints, nat_tests, nat_le, Cost, sum_of, fails, problem_cost, cut_off, WboContent, reaches_top, rewritten, rewritten_within, rows_of, untopped, weighed_bits, top_rows, top_bound, top_most, most_within, lesser_most, with_most, TopIsABound}
+use Rattle.wbo_reader.proofs.Common.{◌≡◌, ℕ, ◌≤◌, Bool, true, false, ◌||◌, List, ◌++◌, ◌∙◌, Option, Some, None, ℤ, pos, ◌+ℤ◌, ◌-ℤ◌, refl, sym, ap, arith, cond, if◌then◌else◌, list_any, list_any-append, ints, nat_tests, nat_le, Cost, sum_of, fails, problem_cost, cut_off, WboContent, reaches_top, rewritten, rewritten_within, rows_of, untopped, weighed_bits, top_bound, top_most, most_within, lesser_most, with_most, TopIsABound}
 use Rattle.base.specs.declared.costs.Cost.TheVariants.{Whole, Infinite}
-use Rattle.wbo_reader.proofs.Spending.{spent, spent-le, top_rows-fail, upper_is_soft_weights, weighed_bits-sum, weights}
+use Rattle.wbo_reader.proofs.Spending.{spent, spent-le, top_rows-fail, upper_is_soft_weights, weighed_bits-sum, weights, top_rows}
 
 -- ---- a cost that is cut off
 
@@ -74,9 +74,10 @@ top_is_a_bound s = record {
 
 -- ---- the problem as it is filled
 
+pub most_is : (s : WboContent) (top : Option ℕ)
+    → most_within (untopped s) top ≡ top_bound top (weights s.soft)
+most_is s None = refl
+most_is s (Some top) = grind (arith, nat_tests, upper_is_soft_weights s)
+
 pub most_there : (s : WboContent) → most_within (untopped s) s.top ≡ top_most s
-most_there s = there s.top
-  where
-    there : (top : Option ℕ) → most_within (untopped s) top ≡ top_bound top (weights s.soft)
-    there None = refl
-    there (Some top) = grind (arith, nat_tests, upper_is_soft_weights s)
+most_there s = most_is s s.top

@@ -7,10 +7,12 @@ use Rattle.base.specs.Costs.{IsOf}
 use Rattle.form_steps.specs.Relations.{Rewrites}
 use Rattle.problem_form.specs.declared.terms.Product.{Product}
 use Rattle.problem_form.specs.declared.terms.Constraint.{Constraint}
-use Rattle.problem_form.specs.Problems.{ProblemContent, fails, negated, no_penalties, problem_cost, problem_size}
+use Rattle.problem_form.specs.Problems.{ProblemContent, fails, negated, problem_cost, problem_size}
 use Rattle.problem_form.specs.Problems as problems
-use Rattle.problem_form.specs.Limits.{cost_size, positive_total, own_upper, upper}
-use Rattle.problem_form.specs.NormalForm.{with_most}
+use Rattle.problem_form.specs.Limits.{cost_size, least_sum, lesser_most, own_upper, upper}
+use Rattle.problem_form.specs.NormalForm.{blank, with_most, with_variables}
+use Rattle.opb_reader.specs.declared.operator.Operator.TheVariants.{AtMost}
+use Rattle.opb_reader.specs.Cost.{compared}
 use Rattle.problem_form.specs.Fields.{IsSound}
 use Rattle.wbo_reader.specs.declared.soft.Soft.{Soft}
 use Rattle.wbo_reader.specs.Wbo.{WboContent, wbo_cost, form_of, IsNormalSource, IsWbo}
@@ -32,10 +34,6 @@ weighed_bits v (s ∷ soft) = bit_product v (pos s.weight) ∷ weighed_bits (suc
 -- a coefficient where it is negative, and 0 elsewhere
 abbrev pub least_part : ℤ → ℤ
 least_part c = neg_ℤ (pos (positive_part (neg_ℤ c)))
-
--- the least value of a sum: that of its negative coefficients
-abbrev pub least_sum : List Product → ℤ
-least_sum products = neg_ℤ (pos (positive_total (map negated products)))
 
 -- the sum is to be at least the bound, or the bit to be 1; the sum is enough by itself where it
 -- can't be less
@@ -78,37 +76,9 @@ merged (false ∷ order) (a ∷ first) second = a ∷ merged order first second
 abbrev pub all_of : {A : Type 0} → List (List A) → List A
 all_of rows = flat_map (λ row. row) rows
 
--- the weights of the bits that are 1 sum to less than the top, where this says anything
-abbrev pub top_rows : ℕ → Option ℕ → List Soft → List Constraint
-top_rows v None soft = []
-top_rows v (Some top) soft =
-    if nat_le top (sum_by (λ s. s.weight) soft)
-    then record {
-      products = map negated (weighed_bits v soft);
-      bound = pos 1 -ℤ pos top;
-      exact = false;
-    } ∷ []
-    else []
-
 -- the constraints in the order of the text
 abbrev pub rows_of : WboContent → List Constraint
 rows_of s = all_of (merged s.order (hard_rows s.hard) (eased_rows s.variables s.soft))
-
--- and that of the top
-abbrev pub rewritten_constraints : WboContent → List Constraint
-rewritten_constraints s = rows_of s ++ top_rows s.variables s.top s.soft
-
--- the constraint of the top of a problem whose objective has the weights alone: they sum to less
--- than the top, where this says anything
-abbrev pub top_row : ProblemContent → ℕ → List Constraint
-top_row p top =
-    if int_lt (own_upper p) (pos top)
-    then []
-    else record {
-      products = map negated p.objective;
-      bound = pos 1 -ℤ pos top;
-      exact = false;
-    } ∷ []
 
 -- a problem with more products in its objective
 abbrev pub with_products : ProblemContent → List Product → ProblemContent
@@ -118,19 +88,14 @@ with_products p ts = record p { objective = p.objective ++ ts }
 abbrev pub with_rows : ProblemContent → List Constraint → ProblemContent
 with_rows p ks = record p { constraints = p.constraints ++ ks }
 
--- the problem with a bit for each soft constraint
-abbrev pub rewritten : WboContent → ProblemContent
-rewritten s = record {
-  variables = s.variables + length s.soft;
-  constant = pos 0;
+-- the problem with a bit for each soft constraint, without what the top asks for
+abbrev pub untopped : WboContent → ProblemContent
+untopped s = record (with_variables blank (s.variables + length s.soft)) {
   objective = weighed_bits s.variables s.soft;
-  clauses = [];
-  constraints = rewritten_constraints s;
-  most = None;
-  penalties = no_penalties;
+  constraints = rows_of s;
 }
 
--- ---- the top as a bound
+-- ---- its top
 
 -- one less than the top, where a sum reaches it
 abbrev pub top_bound : Option ℕ → ℕ → Option ℤ
@@ -147,17 +112,19 @@ most_within p None = None
 most_within p (Some top) =
     if int_lt (own_upper p) (pos top) then None else Some (pos top -ℤ pos 1)
 
--- the problem with a bit for each soft constraint, without what the top asks for
-abbrev pub untopped : WboContent → ProblemContent
-untopped s = record {
-  variables = s.variables + length s.soft;
-  constant = pos 0;
-  objective = weighed_bits s.variables s.soft;
-  clauses = [];
-  constraints = rows_of s;
-  most = None;
-  penalties = no_penalties;
-}
+-- the constraint that products sum to at most this, where it is given
+abbrev pub at_most : Option ℤ → List Product → List Constraint
+at_most None products = []
+at_most (Some most) products = compared AtMost products most ∷ []
+
+-- the constraint of the top of a problem whose objective has the weights alone
+abbrev pub top_row : ProblemContent → ℕ → List Constraint
+top_row p top = at_most (most_within p (Some top)) p.objective
+
+-- the problem with a bit for each soft constraint, and last the constraint of the top, where it says
+-- anything
+abbrev pub rewritten : WboContent → ProblemContent
+rewritten s = with_rows (untopped s) (at_most (top_most s) (weighed_bits s.variables s.soft))
 
 -- the problem with a bit for each soft constraint, and a bound in place of the top's constraint
 abbrev pub rewritten_within : WboContent → ProblemContent
@@ -166,12 +133,6 @@ rewritten_within s = with_most (untopped s) (top_most s)
 -- the problem with a bit for each soft constraint, with the top as a bound or as a constraint
 abbrev pub topped : Bool → WboContent → ProblemContent
 topped within s = if within then rewritten_within s else rewritten s
-
--- the lesser of two bounds, where both are given, and else the one that is
-abbrev pub lesser_most : Option ℤ → Option ℤ → Option ℤ
-lesser_most None b = b
-lesser_most (Some a) None = Some a
-lesser_most (Some a) (Some b) = Some (if int_lt a b then a else b)
 
 -- ---- its assignments
 
@@ -198,8 +159,8 @@ abbrev pub CarriesAssignments : Type 0
 CarriesAssignments =
     (s : WboContent) → IsNormalSource s → (x : List Bool) → IsOf (form_of s) x → IsCarried s x
 
--- with the top as a bound the problem has the same variables and the same bounds of the costs without
--- a most; and with any most each assignment costs the same
+-- with the top as a bound the problem has the same variables and, without a most, the same bounds of the
+-- costs; and whatever the most is, each assignment costs the same
 pub record IsWithin (s : WboContent) : Type 0 where
   pub variables : (rewritten_within s).variables ≡ (rewritten s).variables
   pub size : cost_size (rewritten_within s) ≡ cost_size (rewritten s)

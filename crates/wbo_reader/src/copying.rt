@@ -2,7 +2,8 @@
 ghost use Rattle.std.specs.Prelude.{◌≡◌, ◌+◌, ◌-ℤ◌, ◌<◌, ◌≤◌, ◌^◌, ◌∷◌, [], false, unsigned_abs, OnOk};
 ghost use Rattle.problem_form.specs.Problems.{constraint_total, products_total};
 ghost use Rattle.problem_form.specs.Fields.{IsSound};
-ghost use Rattle.wbo_reader.specs.Rewriting.{eased, least_part, least_sum, with_rows};
+ghost use Rattle.wbo_reader.specs.Rewriting.{eased, least_part, with_rows};
+ghost use Rattle.problem_form.specs.Limits.{least_sum};
 
 use base::NoMemory;
 use problem_form::{Constraint, Literal, Problem, ProductList, ProductRef, Products};

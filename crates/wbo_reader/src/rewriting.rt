@@ -235,7 +235,8 @@ impl Wbo {
         Ok(problem)
     }
 
-    /// The same with a bound in place of the constraint of the top: an assignment may cost one less.
+    /// The same problem, but for the constraint of the top: in its place the most that an assignment
+    /// may cost is one less than the top.
     pub fn rewrite_within(&self, alloc: Global) -> Result<Problem, NoMemory>
         ensures { IfOk result (λ problem. problem ≡ rewritten_within self.now) }
     {

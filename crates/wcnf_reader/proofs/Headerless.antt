@@ -1,5 +1,5 @@
 -- Clauses up to the end of the words, put into a problem that is widened as they come.
-use Rattle.wcnf_reader.proofs.Common.{nat_tests, ◌≡◌, ℕ, zero, suc, ◌≤◌, max, cond, eqb, List, [], ◌∷◌, length, map, fold, Option, None, Result, Ok, refl, sym, ◌∙◌, arith, ℤ, nat_abs, flat_map, IfOk, fold-append, TextFault, TextAnswer, Word, ◌>>=◌, Fails, Clause, ProblemContent, blank, with_variables, with_clause, normal_form, clauses_add_up, ClauseLayout, Listed, Wcnf, first_of, literals_at, clause_at, clauses_within, clauses_to_end, WordsAreEnough, largest, headerless_of, clause_of, problem_of, clause_read, widened, headerless_read}
+use Rattle.wcnf_reader.proofs.Common.{ap, nat_tests, ◌≡◌, ℕ, zero, suc, ◌≤◌, max, cond, eqb, List, [], ◌∷◌, length, map, fold, Option, None, Result, Ok, refl, sym, ◌∙◌, arith, ℤ, nat_abs, flat_map, IfOk, fold-append, TextFault, TextAnswer, Word, ◌>>=◌, Fails, Clause, ProblemContent, blank, with_variables, with_clause, normal_form, clauses_add_up, ClauseLayout, Listed, Wcnf, first_of, literals_at, clause_at, clauses_within, clauses_to_end, WordsAreEnough, largest, headerless_of, clause_of, problem_of, clause_read, widened, headerless_read}
 use Rattle.wcnf_reader.specs.declared.layout.ClauseLayout.TheVariants.{WithoutHeader}
 use Rattle.wcnf_reader.proofs.Clauses.{as_clause}
 use Rattle.wcnf_reader.proofs.Widening.{AreLiterals, sizes_needed}
@@ -103,7 +103,9 @@ pub clause_goes_on : (end : ℕ) (p : ProblemContent) (after rest : List Word) (
     → read_into (widened_with p c) (clauses_to_end end rest) ≡ total
 unfolding clauses_within
 clause_goes_on end p after rest w c total read le so_far =
-    grind (arith, nat_tests, words_are_enough, clause_then)
+    let others = clauses_within (length after) end in
+    ap (read_into (widened_with p c)) (sym (words_are_enough (length after) end rest le))
+    ∙ sym (clause_then p c rest others (clause_at WithoutHeader None end w after) read) ∙ so_far
 
 pub clause_fails : (e : TextAnswer) (end : ℕ) (p : ProblemContent) (after : List Word) (w : Word)
     (total : Putting) → Fails e (clause_read WithoutHeader None end w after)

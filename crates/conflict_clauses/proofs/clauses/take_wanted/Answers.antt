@@ -9,8 +9,8 @@ kept test b t left rest e says = grind (arith, nat_tests)
 -- a product that passes puts its literal behind those so far
 passes : (test : Product → Bool) (ls new : List Literal) (w : Literal) (t : Product)
     (left rest : List Product) (whole : List (List Literal)) → left ≡ t ∷ rest → test t ≡ true
-    → w ∷ [] ≡ wanted t → new ≡ ls ++ w ∷ [] → map alone ls ++ map wanted (filter test left) ≡ whole
-    → map alone new ++ map wanted (filter test rest) ≡ whole
+    → w ∷ [] ≡ wanted true t → new ≡ ls ++ w ∷ [] → map alone ls ++ map (wanted true) (filter test left) ≡ whole
+    → map alone new ++ map (wanted true) (filter test rest) ≡ whole
 passes test ls new w t left rest whole e says own pushed so_far =
     let test_says = kept test true t left rest e says in
     grind (arith, nat_tests, map-append, append_assoc)
@@ -18,8 +18,8 @@ passes test ls new w t left rest whole e says own pushed so_far =
 -- one that does not pass adds none
 fails : (test : Product → Bool) (ls : List Literal) (t : Product) (left rest : List Product)
     (whole : List (List Literal)) → left ≡ t ∷ rest → test t ≡ false
-    → map alone ls ++ map wanted (filter test left) ≡ whole
-    → map alone ls ++ map wanted (filter test rest) ≡ whole
+    → map alone ls ++ map (wanted true) (filter test left) ≡ whole
+    → map alone ls ++ map (wanted true) (filter test rest) ≡ whole
 fails test ls t left rest whole e says so_far = grind (arith, nat_tests)
 
 -- the products that are left have one literal each

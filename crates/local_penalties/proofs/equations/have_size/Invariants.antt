@@ -1,4 +1,5 @@
-use Rattle.local_penalties.proofs.Common.{◌≡◌, list_all, has_size}
+use Rattle.local_penalties.proofs.Common.{◌≡◌, list_all}
+use Rattle.local_penalties.proofs.Sizes.{has_size}
 use Rattle.local_penalties.proofs.equations.have_size.Given as goal
 
 -- the products that are left have the size where all have

@@ -1,4 +1,5 @@
-use Rattle.local_penalties.proofs.Common.{◌≡◌, ◌≤◌, length, fold, min, true, filter, far, number_of, wanted_prices, suffices, HavePlaces}
+use Rattle.local_penalties.proofs.Common.{◌≡◌, ◌≤◌, length, fold, min, true, filter, far, number_of, wanted_prices, HavePlaces}
+use Rattle.local_penalties.proofs.Sizes.{suffices}
 use Rattle.local_penalties.proofs.local.price_alone.Given as goal
 
 -- the least so far, and of the products that are left, is that of all

@@ -1,4 +1,4 @@
-use Rattle.problem_form.proofs.Lemmas.{◌≡◌, ◌+◌, ◌<◌, ◌^◌, ◌+ℤ◌, to_z, of_z, subst, sym, ap, ◌∙◌, arith, w128, ints, Clause, IsSound, content_within, clause_constant, weight_constant, ProblemContent, problem_total, soft_weight, with_clause, kept_clause-size, with_clause-sound, at_view}
+use Rattle.problem_form.proofs.Lemmas.{◌≡◌, ◌+◌, ◌<◌, ◌^◌, ◌+ℤ◌, to_z, of_z, subst, sym, ap, ◌∙◌, arith, w128, ints, Clause, IsSound, content_within, clause_constant, List, Literal, ProblemContent, problem_total, soft_weight, with_clause, kept_clause-size, with_clause-sound, at_view}
 use Rattle.problem_form.proofs.problem.Problem.add_literals.Goals as goal
 
 pub invariant_of-self-2 : goal.invariant_of-self-2
@@ -6,7 +6,8 @@ invariant_of-self-2 c =
     let p = content_within c.self.inside in
     let written : Clause = record { literals = c.args.literals.now.items; weight = c.args.weight } in
     let small = subst (λ (f : ProblemContent). problem_total f + soft_weight written < 2 ^ 100) (sym c.self.view_is) c.requires.small in
-    let added = c.weight_constant-constant.ensures ∙ ap (weight_constant c.args.weight) c.deref.ensures.value in
+    let added = c.weight_constant-constant.ensures
+    ∙ ap (λ (ls : List Literal). clause_constant (record { literals = ls; weight = c.args.weight })) c.deref.ensures.value in
     let constant : to_z w128 (of_z w128 (to_z w128 (of_z w128 p.constant)
     +ℤ to_z w128 (of_z w128 c.from.result))) ≡ p.constant +ℤ clause_constant written =
     omega (arith, ints, added, c.from.ensures, kept_clause-size written, small) in
