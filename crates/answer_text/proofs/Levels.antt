@@ -1,11 +1,11 @@
 -- The least of sizes, taken one after another; and no size is above the sum of the sizes.
-use Rattle.answer_text.proofs.Common.{nat_tests, ℕ, ◌+◌, ◌≤◌, List, [], ◌∷◌, Option, Some, None, arith, min, max, fold, sum_by-cons, Entry, weight_total, greatest_size, least_of, least_size, size, sizes}
+use Rattle.answer_text.proofs.Common.{nat_tests, ℕ, ◌+◌, ◌≤◌, List, [], ◌∷◌, Option, Some, None, arith, min, max, fold, sum_by-cons, Entry, weight_total, greatest_size, reduce, least_size, size, sizes}
 
 -- ---- one size after another
 
 -- the least of a number, where there is one, and of others
 abbrev pub least_from : Option ℕ → List ℕ → Option ℕ
-least_from None ns = least_of ns
+least_from None ns = reduce min ns
 least_from (Some m) ns = Some (fold min m ns)
 
 -- ---- bounds

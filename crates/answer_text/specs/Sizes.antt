@@ -1,6 +1,6 @@
 -- The text that tells how large a model is: its summary, its variables and the levels of its weights.
 use Rattle.std.specs.Prelude.{ℕ, pos, unsigned_abs, nat_lt, min, max, List, [], ◌∷◌, ◌++◌, map, fold, codes, Option, Some, None, unwrap_or, if◌then◌else◌}
-use Rattle.std.specs.List.{filter}
+use Rattle.std.specs.List.{filter, reduce}
 use Rattle.bits_model.specs.declared.output.Entry.{Entry}
 use Rattle.bits_model.specs.Output.{Written}
 use Rattle.model_text.specs.Rows.{Row, rows_text}
@@ -17,14 +17,9 @@ size e = unsigned_abs e.weight
 abbrev pub sizes : List Entry → List ℕ
 sizes entries = filter (λ n. nat_lt 0 n) (map size entries)
 
--- the least of some numbers, where there are any
-abbrev pub least_of : List ℕ → Option ℕ
-least_of [] = None
-least_of (n ∷ ns) = Some (fold min n ns)
-
 -- the least size of a weight that is not 0, and 0 where there is none
 abbrev pub least_size : List Entry → ℕ
-least_size entries = unwrap_or (least_of (sizes entries)) 0
+least_size entries = unwrap_or (reduce min (sizes entries)) 0
 
 -- the greatest size of a weight, and 0 where there is none
 abbrev pub greatest_size : List Entry → ℕ

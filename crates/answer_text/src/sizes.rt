@@ -1,7 +1,8 @@
 //! The size of a model: its summary, its variables, and the levels of its weights.
-ghost use Rattle.std.specs.Prelude.{◌≡◌, ◌++◌, ◌<◌, ◌^◌, fold, max, IfOk, OnOk};
+ghost use Rattle.std.specs.Prelude.{◌≡◌, ◌++◌, ◌<◌, ◌^◌, fold, max, min, IfOk, OnOk};
+ghost use Rattle.std.specs.List.{reduce};
 ghost use Rattle.model_text.specs.Rows.{rows_text};
-ghost use Rattle.answer_text.specs.Sizes.{least_of, levels_with, size_rows, size_text, sizes};
+ghost use Rattle.answer_text.specs.Sizes.{levels_with, size_rows, size_text, sizes};
 
 use crate::rows::push_number_row;
 use base::NoMemory;
@@ -36,7 +37,7 @@ fn levels_with(levels: Levels, size: u128) -> Levels
 
 /// The levels of the weights.
 fn levels_of(entries: &EntryList) -> Levels
-    ensures least { result.least ≡ least_of (sizes entries.now) }
+    ensures least { result.least ≡ reduce min (sizes entries.now) }
     ensures greatest { result.greatest ≡ fold max 0 (sizes entries.now) }
 {
     let mut levels = Levels {

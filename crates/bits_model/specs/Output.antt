@@ -9,7 +9,7 @@ use Rattle.base.specs.declared.costs.Cost.TheVariants.{Whole}
 use Rattle.base.specs.declared.costs.Figures.{Figures}
 use Rattle.bits_model.specs.declared.output.Entry.{Entry}
 use Rattle.bits_model.specs.declared.output.Kind.{Kind}
-use Rattle.bits_model.specs.declared.output.Kind.TheVariants.{Qubo, Ising, Qubits}
+use Rattle.bits_model.specs.declared.output.Kind.TheVariants.{Qubo, Qubits}
 use Rattle.bits_model.specs.declared.output.Graph.{Graph}
 use Rattle.bits_model.specs.declared.output.Graph.TheVariants.{Chimera, Listed}
 use Rattle.base.specs.Costs.{Form}
@@ -77,9 +77,8 @@ qubits_of (Listed qubits) = qubits
 
 -- what is asked of each kind
 abbrev pub FitsKind : Kind → Written → Type 0
-FitsKind Qubo m = IsPlain m
-FitsKind Ising m = IsPlain m
 FitsKind (Qubits graph) m = IsChained (qubits_of graph) m
+FitsKind kind m = IsPlain m
 
 -- a well-formed model: a unit and a scale of at least 1, entries in order, none twice, of nodes
 -- that it has, and what its kind asks
@@ -122,8 +121,7 @@ spins_energy y e =
 -- what an entry of this kind adds to the energy
 abbrev pub entry_energy : Kind → List Bool → Entry → ℤ
 entry_energy Qubo y e = bits_energy y e
-entry_energy Ising y e = spins_energy y e
-entry_energy (Qubits graph) y e = spins_energy y e
+entry_energy kind y e = spins_energy y e
 
 -- the energies of its states
 abbrev pub form_of : Written → Form
@@ -149,9 +147,8 @@ majority y chain =
 
 -- the assignment of a state, read off the model alone
 abbrev pub read_off : Kind → ℕ → List (List ℕ) → List Bool → List Bool
-read_off Qubo variables chains y = take variables y
-read_off Ising variables chains y = take variables y
 read_off (Qubits graph) variables chains y = map (majority y) (take variables chains)
+read_off kind variables chains y = take variables y
 
 -- the decoding of a written model
 abbrev pub decoding_of : Written → Decoding

@@ -122,8 +122,7 @@ in_order (e ∷ es) = inserted e (in_order es)
 -- The split fields, the placed couplings, the ties, and the same constant. A model of it has a
 -- field for each qubit of the graph: 0 for those that are in no chain.
 abbrev pub image_by : (ℕ → ℕ → ℕ) → Embedding → IsingContent
-image_by strong e = record {
-  constant = e.ising.constant;
+image_by strong e = record e.ising {
   fields = map (field_at (all_shares e)) (range_with_len 0 e.qubits);
   couplings = in_order (placed e.ising.couplings e.places ++ ties_by strong e);
 }

@@ -30,9 +30,10 @@ pub use Rattle.whole_text.proofs.Pieces.{other_plain}
 pub use Rattle.whole_text.proofs.Slices.{slice_length, slice_at, slice_dropped, slice_taken, slice_none}
 pub use Rattle.whole_text.specs.declared.faults.TextAnswer.{TextAnswer}
 pub use Rattle.chain_map.specs.Maps.{node_at, after_front}
-unfoldable pub use Rattle.chain_map.specs.Maps.{rows_from, qubits_at, chain_at, chains_at, reading}
+unfoldable pub use Rattle.chain_map.specs.Maps.{rows_from, chain_at, chains_at, reading}
 pub use Rattle.std.proofs.lemmas.Result.{err_from_is_err_and}
 pub use Rattle.whole_text.proofs.Lines.{lines_from, line_cut, line_last}
 pub use Rattle.chain_map.specs.declared.spot.Spot.{Spot}
 pub use Rattle.whole_text.specs.declared.token.Style.TheVariants.{Plain}
 pub use Rattle.whole_text.specs.declared.faults.TextFault.{TextFault}
+unfoldable pub use Rattle.whole_text.specs.Rows.{each}

@@ -1,5 +1,5 @@
 -- The words of a text by lines, and what their readings are made of.
-use Rattle.chain_map.proofs.Common.{elements, nat_tests, ◌≡◌, ℕ, ◌+◌, ◌<◌, List, [], ◌∷◌, ◌++◌, length, get_or, Ok, Err, refl, ap, arith, Result, TextFault, Word, tokens_of_line, ◌>>=◌, natural_at, Fails, TextAnswer, append_assoc, append-nil, length-append, rows_from, node_at, qubits_at, chain_at, chains_at, after_front, Plain}
+use Rattle.chain_map.proofs.Common.{elements, nat_tests, ◌≡◌, ℕ, ◌+◌, ◌<◌, List, [], ◌∷◌, ◌++◌, length, get_or, Ok, Err, refl, ap, arith, Result, TextFault, Word, tokens_of_line, ◌>>=◌, natural_at, Fails, TextAnswer, append_assoc, append-nil, length-append, rows_from, node_at, each, chain_at, chains_at, after_front, Plain}
 use Rattle.whole_text.specs.declared.faults.TextAnswer.TheVariants.{Bad, NoMemory}
 
 -- ---- readings
@@ -10,17 +10,17 @@ joined_go front more rest = grind (arith, nat_tests, append_assoc)
 
 -- one qubit more
 pub qubits_more : (front : List ℕ) (w : Word) (ws : List Word) (q : ℕ) → natural_at 0 w ≡ Ok q
-    → after_front front (qubits_at (w ∷ ws)) ≡ after_front (front ++ q ∷ []) (qubits_at ws)
-unfolding qubits_at
-qubits_more front w ws q read = rw read (joined_go front (q ∷ []) (qubits_at ws))
+    → after_front front (each (natural_at 0) (w ∷ ws)) ≡ after_front (front ++ q ∷ []) (each (natural_at 0) ws)
+unfolding each
+qubits_more front w ws q read = rw read (joined_go front (q ∷ []) (each (natural_at 0) ws))
 
 pub qubits_fail : (front : List ℕ) (w : Word) (ws : List Word) (f : TextFault) → natural_at 0 w ≡ Err f
-    → after_front front (qubits_at (w ∷ ws)) ≡ Err f
-unfolding qubits_at
+    → after_front front (each (natural_at 0) (w ∷ ws)) ≡ Err f
+unfolding each
 qubits_fail front w ws f read = rw read refl
 
-pub qubits_end : (front : List ℕ) → after_front front (qubits_at []) ≡ Ok front
-unfolding qubits_at
+pub qubits_end : (front : List ℕ) → after_front front (each (natural_at 0) []) ≡ Ok front
+unfolding each
 qubits_end front = ap Ok (append-nil front)
 
 -- the chain of a line
@@ -35,14 +35,14 @@ chain_fail m node w ws f read = rw read refl
 
 -- its number is right, and its qubits cannot be read
 pub chain_unread : (m : List (List ℕ)) (node : ℕ) (w : Word) (ws : List Word) (e : TextAnswer)
-    → node_at node w ≡ Ok node → Fails e (qubits_at ws)
+    → node_at node w ≡ Ok node → Fails e (each (natural_at 0) ws)
     → Fails e (after_front m (chain_at node (w ∷ ws)))
 unfolding chain_at
 chain_unread m node w ws NoMemory read unread = tt
 chain_unread m node w ws (Bad f) read unread = rw (read, unread) refl
 
 pub chain_one : (m : List (List ℕ)) (node : ℕ) (w : Word) (ws : List Word) (qubits : List ℕ)
-    → node_at node w ≡ Ok node → qubits_at ws ≡ Ok qubits
+    → node_at node w ≡ Ok node → each (natural_at 0) ws ≡ Ok qubits
     → after_front m (chain_at node (w ∷ ws)) ≡ Ok (m ++ qubits ∷ [])
 unfolding chain_at
 chain_one m node w ws qubits read said = rw (read, said) refl

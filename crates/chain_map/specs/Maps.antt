@@ -6,6 +6,7 @@ use Rattle.whole_text.specs.declared.faults.TextFault.{TextFault}
 use Rattle.whole_text.specs.declared.token.Style.TheVariants.{Plain}
 use Rattle.whole_text.specs.Tokens.{Word, is_feed, tokens_of_line}
 use Rattle.whole_text.specs.Steps.{◌>>=◌, fault, natural_at}
+use Rattle.whole_text.specs.Rows.{each}
 
 -- the tokens of each line; the lines are numbered from n on
 unfoldable pub rows_from : ℕ → List (List ℕ) → List (List Word)
@@ -15,14 +16,6 @@ rows_from n (line ∷ lines) = tokens_of_line Plain n line ∷ rows_from (n + 1)
 -- the number of this node
 unfoldable pub node_at : ℕ → Word → Result ℕ TextFault
 node_at node w = natural_at 0 w >>= λ n. if n == node then Ok n else Err (fault kinds.Range w.line)
-
--- the numbers of qubits, each at least 0
-unfoldable pub qubits_at : List Word → Result (List ℕ) TextFault
-qubits_at [] = Ok []
-qubits_at (w ∷ ws) = do
-  q ← natural_at 0 w
-  others ← qubits_at ws
-  Ok (q ∷ others)
 
 -- a list in front of what is read
 abbrev pub after_front : {X : Type 0} → List X → Result (List X) TextFault → Result (List X) TextFault
@@ -34,7 +27,7 @@ unfoldable pub chain_at : ℕ → List Word → Result (List (List ℕ)) TextFau
 chain_at node [] = Ok []
 chain_at node (w ∷ ws) = do
   n ← node_at node w
-  qubits ← qubits_at ws
+  qubits ← each (natural_at 0) ws
   Ok (qubits ∷ [])
 
 -- the chains of this node and the next ones, line by line

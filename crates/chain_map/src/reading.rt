@@ -3,8 +3,9 @@ ghost use Rattle.std.specs.Prelude.{◌≡◌, ◌≤◌, length, map, take, sli
 ghost use Rattle.std.specs.List.{position_or_len};
 ghost use Rattle.whole_text.specs.declared.token.Style.TheVariants.{Plain};
 ghost use Rattle.whole_text.specs.Tokens.{is_blank, word, words, tokens_of_line};
-ghost use Rattle.whole_text.specs.Steps.{Gives, GivesAlways};
-ghost use Rattle.chain_map.specs.Maps.{node_at, qubits_at, after_front, chain_at, reading};
+ghost use Rattle.whole_text.specs.Steps.{Gives, GivesAlways, natural_at};
+ghost use Rattle.whole_text.specs.Rows.{each};
+ghost use Rattle.chain_map.specs.Maps.{node_at, after_front, chain_at, reading};
 
 use crate::digits::first_number;
 use crate::map::ChainMap;
@@ -38,7 +39,7 @@ fn fill_qubits(
     requires ordered { from ≤ end }
     requires within { end ≤ length text.now }
     ensures { Gives (λ _. qubits.new.items) result
-        (qubits_at (map (word line) (words (slice_range text.now from end)))) }
+        (each (natural_at 0) (map (word line) (words (slice_range text.now from end)))) }
 {
     qubits.clear();
     let mut at = from;

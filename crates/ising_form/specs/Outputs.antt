@@ -55,10 +55,9 @@ written_nodes (Qubits graph) chains fields =
 
 -- the entries of nodes, on a graph those of chained qubits alone, and then those of couplers
 abbrev pub written_entries : Kind → List (List ℕ) → IsingContent → List Entry
-written_entries Qubo chains f = entries_of f
-written_entries Ising chains f = entries_of f
 written_entries (Qubits graph) chains f =
     filter (is_on_chain chains) (node_entries 0 f.fields) ++ f.couplings
+written_entries kind chains f = entries_of f
 
 -- the model of a form, in a unit: entries carry no constant, and so it is taken off the offset and
 -- the threshold

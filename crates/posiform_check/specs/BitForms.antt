@@ -4,7 +4,7 @@ use Rattle.std.specs.Prelude.{◌≡◌, ℕ, ℤ, pos, ◌*ℤ◌, neg_ℤ, fal
 use Rattle.std.specs.List.{flat_map}
 use Rattle.bits_model.specs.declared.output.Entry.{Entry}
 use Rattle.bits_model.specs.declared.output.Kind.{Kind}
-use Rattle.bits_model.specs.declared.output.Kind.TheVariants.{Qubo, Ising, Qubits}
+use Rattle.bits_model.specs.declared.output.Kind.TheVariants.{Qubo}
 use Rattle.bits_model.specs.Output.{Written, is_node}
 use Rattle.literal_lists.specs.declared.literal.Literal.{Literal}
 use Rattle.base.specs.Sums.{total_by}
@@ -60,14 +60,12 @@ spin_sets e =
 -- the constant of an entry of this kind
 abbrev pub entry_constant : Kind → Entry → ℤ
 entry_constant Qubo e = pos 0
-entry_constant Ising e = spin_constant e
-entry_constant (Qubits graph) e = spin_constant e
+entry_constant kind e = spin_constant e
 
 -- its other terms
 abbrev pub entry_sets : Kind → Entry → List Term
 entry_sets Qubo e = bit_sets e
-entry_sets Ising e = spin_sets e
-entry_sets (Qubits graph) e = spin_sets e
+entry_sets kind e = spin_sets e
 
 -- those of all entries, one after another
 abbrev pub sets_of : Kind → List Entry → List Term

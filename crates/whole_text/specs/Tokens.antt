@@ -70,8 +70,7 @@ pieces_of_line style line = flat_map (pieces style) (words line)
 -- the byte that begins a comment: `c`, in the styles of OPB and WBO `*`
 abbrev pub comment_byte : Style → ℕ
 comment_byte Plain = 99
-comment_byte Opb = 42
-comment_byte Wbo = 42
+comment_byte style = 42
 
 -- the first word begins with this byte
 abbrev pub begins_with : ℕ → List (List ℕ) → Bool

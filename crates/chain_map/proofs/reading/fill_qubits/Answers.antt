@@ -1,11 +1,11 @@
-use Rattle.chain_map.proofs.Common.{◌≡◌, ◌+◌, false, [], map, get_or, refl, sym, ap, ◌∙◌, arith, slice_range, err_from_is_err_and, is_blank, word, words, words_none, slice_none, qubits_at, after_front}
+use Rattle.chain_map.proofs.Common.{◌≡◌, ◌+◌, false, [], map, get_or, refl, sym, ap, ◌∙◌, arith, slice_range, err_from_is_err_and, is_blank, word, words, words_none, slice_none, each, natural_at, after_front}
 use Rattle.chain_map.proofs.LineNumbers.{blank_passed, first_word}
 use Rattle.chain_map.proofs.Rows.{qubits_more, qubits_fail, qubits_end, front_none}
 use Rattle.chain_map.proofs.reading.fill_qubits.Goals as goal
 
 pub loop-at-init : goal.loop-at-init
 loop-at-init c =
-    let said = qubits_at (map (word c.args.line) (words (slice_range c.args.text.now c.args.from c.args.end))) in
+    let said = each (natural_at 0) (map (word c.args.line) (words (slice_range c.args.text.now c.args.from c.args.end))) in
     record {
       high = c.requires.ordered;
       read = ap (λ front. after_front front said) c.clear.ensures.items ∙ front_none said;
@@ -18,7 +18,7 @@ loop-at-preserved-then-is_blank c =
     (sym c.is_blank.ensures ∙ c.if-is_blank.true) in
     record {
       high = omega (arith, c.loop-at-test.true);
-      read = ap (λ ws. after_front front (qubits_at (map (word c.args.line) ws))) (sym passed) ∙ c.loop-at.invariant.read;
+      read = ap (λ ws. after_front front (each (natural_at 0) (map (word c.args.line) ws))) (sym passed) ∙ c.loop-at.invariant.read;
     }
 
 pub returns-in_err-qubit : goal.returns-in_err-qubit
