@@ -11,15 +11,14 @@ pub use Rattle.command_words.specs.declared.commands.NodeModel.{NodeModel}
 pub use Rattle.command_words.specs.declared.commands.TargetWord.{TargetWord}
 pub use Rattle.command_words.specs.declared.commands.Chaining.{Chaining}
 pub use Rattle.command_words.specs.declared.commands.ChainStrength.{ChainStrength}
-pub use Rattle.command_words.specs.declared.commands.WordAt.{WordAt}
 unfoldable pub use Rattle.whole_text.specs.Numbers.{digits_number}
 pub use Rattle.command_words.specs.declared.keys.Keys.{Keys}
 pub use Rattle.command_words.specs.declared.keys.Takers.{Takers}
 pub use Rattle.command_words.specs.declared.commands.Slack.{Slack}
 pub use Rattle.command_words.specs.declared.commands.Verb.{Verb}
-pub use Rattle.command_words.specs.Asked.{CannotStand, EachCommandIsAskedFor, EachGraphIsAskedFor, EachJobIsAskedFor, EachKeyIsAskedFor, EachKeyStands, EachNoticeIsAskedFor, EachSampleIsAskedFor, EachValueIsSaid, IsRefusedAfterAll, NoChainsStandTwice, NoGraphWithout, NoLargerGraph, NoOtherWordsAsk, Say, SayRequest, StandsOnce, chains_at, chains_key, dead_at, file_command, format_word, ground_word, key_word, long_word, optional, sample_words, short_word, target_word, ties_word, verb_for, verb_word, word_of}
+pub use Rattle.command_words.specs.Asked.{CannotStand, EachCommandIsAskedFor, EachGraphIsAskedFor, EachJobIsAskedFor, EachKeyIsAskedFor, EachKeyStands, EachNoticeIsAskedFor, EachSampleIsAskedFor, EachValueIsSaid, IsRefusedAfterAll, NoChainsStandTwice, NoGraphWithout, NoLargerGraph, NoOtherWordsAsk, Say, SayRequest, StandsOnce, chains_key, file_command, format_word, ground_word, key_word, long_word, optional, sample_words, short_word, target_word, ties_word, verb_for, verb_word, word_of}
 pub use Rattle.command_words.specs.Commands.{command_of, format_of, target_of, ◌>>=◌, alone, clauses_of, commanding, drawn_words, file_words, first_key, notice_of, request_of, source_words, verb_of, ask_by, chosen_target, first_notice, named, valued}
-pub use Rattle.command_words.specs.Keys.{Key, bound_of, cut, embed_of, graph_with, ground_by, file_key, is_equals, key, key_table, keys_from, listed, map_at, no_keys, passing, side_of, takes, target_by, ties_of, with_key, with_pair, with_word}
+pub use Rattle.command_words.specs.Keys.{Key, bound_of, cut, embed_of, file_of, graph_with, ground_by, is_equals, key, key_table, keys_from, listed, map_named, map_of, no_keys, passing, side_of, takes, target_by, ties_of, with_key, with_pair, with_word}
 pub use Rattle.std.proofs.lemmas.Bool.{eqb-true, lt-ltb, le-leb, leb-true, ltb-true, ne_eqb}
 pub use Rattle.command_words.specs.declared.commands.Bound.{Bound}
 pub use Rattle.chimera_graph.specs.Shape.{IsShape}
@@ -32,9 +31,7 @@ pub use Rattle.command_words.specs.Positions.{AskForTooLarge, CanGoOn, Positions
 pub use Rattle.command_words.specs.declared.commands.Ask.{Ask}
 pub use Rattle.command_words.specs.declared.commands.Command.{Command}
 pub use Rattle.command_words.specs.declared.commands.Request.{Request}
-pub use Rattle.command_words.specs.Names.{text_at}
 pub use Rattle.command_words.specs.declared.commands.ChainStrength.TheVariants.{Choi, Cut}
 pub use Rattle.command_words.specs.declared.commands.Chaining.TheVariants.{Clique, Map}
 pub use Rattle.command_words.specs.declared.commands.Origin.TheVariants.{Drawn, File}
-pub use Rattle.command_words.specs.declared.commands.WordAt.TheVariants.{Value, Whole}
 pub use Rattle.base.specs.declared.unit.UnitChoice.{UnitChoice}

@@ -1,5 +1,5 @@
 -- The table of keys: where the word of a key is cut, and what holds of each row.
-use Rattle.command_words.proofs.Common.{nat_tests, arith, ◌≡◌, ◌≢◌, ◌<◌, ◌≤◌, ◌+◌, ◌^◌, ℕ, suc, List, [], ◌∷◌, ◌++◌, length, take, drop, Bool, true, false, not, Option, Some, None, Ok, Err, refl, ap, sym, subst, ◌∙◌, ⊤, codes, bytes_eq, bytes_eq-Decides, if◌then◌else◌, option_map, option_map_or, option_and_then, cond, nat_lt, is_none, ◌&&◌, prefix_len, length-append, lt-ltb, le-leb, eqb-true, take-append_seam, drop-append-add, digits_number, Bound, Chaining, ChainStrength, Takers, TargetWord, Verb, WordAt, Keys, Key, bound_of, cut, embed_of, is_equals, file_key, key, key_table, keys_from, listed, side_of, takes, with_key, with_pair, with_word, EachKeyStands, EachValueIsSaid, NoChainsStandTwice, key_word, ties_word, Clique, Map, Value}
+use Rattle.command_words.proofs.Common.{nat_tests, arith, ◌≡◌, ◌≢◌, ◌<◌, ◌≤◌, ◌+◌, ◌^◌, ℕ, suc, List, [], ◌∷◌, ◌++◌, length, take, drop, Bool, true, false, not, Option, Some, None, Ok, Err, refl, ap, sym, subst, ◌∙◌, ⊤, codes, bytes_eq, bytes_eq-Decides, if◌then◌else◌, option_map, option_map_or, option_and_then, cond, nat_lt, is_none, ◌&&◌, prefix_len, length-append, lt-ltb, le-leb, eqb-true, take-append_seam, drop-append-add, digits_number, Bound, Chaining, ChainStrength, Takers, TargetWord, Verb, Keys, Key, bound_of, cut, embed_of, is_equals, file_of, key, key_table, keys_from, listed, map_named, side_of, takes, with_key, with_pair, with_word, EachKeyStands, EachValueIsSaid, NoChainsStandTwice, key_word, ties_word, Clique, Map}
 use Rattle.command_words.specs.declared.commands.TargetWord.TheVariants.{Chimera, Graph}
 use Rattle.command_words.specs.declared.keys.Takers.TheVariants.{OnChimera, OnQubits}
 
@@ -73,10 +73,10 @@ NoClique chains = ⊤
 -- graph in a file it chooses no clique.
 record IsRow (name : List ℕ) (key : Key) : Type 0 where
   cuts : (value : List ℕ) → cut (key_word name value) ≡ Some (name, value)
-  is_given : (keys : Keys) (at : ℕ) (value : List ℕ) (put : Keys → Keys)
-      → key.put at value ≡ Some put → key.is_free (put keys) ≡ false
-  chains : (verb : Verb) (keys : Keys) (at : ℕ) (value : List ℕ) (put : Keys → Keys)
-      → takes key.takers verb Graph ≡ true → key.put at value ≡ Some put → NoClique keys.chains
+  is_given : (keys : Keys) (value : List ℕ) (put : Keys → Keys)
+      → key.put value ≡ Some put → key.is_free (put keys) ≡ false
+  chains : (verb : Verb) (keys : Keys) (value : List ℕ) (put : Keys → Keys)
+      → takes key.takers verb Graph ≡ true → key.put value ≡ Some put → NoClique keys.chains
       → NoClique (put keys).chains
 
 -- a key with a value of its own that does not choose the chains
@@ -87,8 +87,8 @@ own : {A B : Type 0} {name : List ℕ} {who : Takers} (field : Keys → Option A
     → IsRow name (key who field value with)
 own {A} {B} {name} {who} field value with plain has same = record {
   cuts = λ text. cut_key name text plain;
-  is_given = λ keys at text put e. given keys put (value text) e;
-  chains = λ verb keys at text put t e safe. chains keys put (value text) e safe;
+  is_given = λ keys text put e. given keys put (value text) e;
+  chains = λ verb keys text put t e safe. chains keys put (value text) e safe;
 } where
   given : (keys : Keys) (put : Keys → Keys) (o : Option B) → option_map with o ≡ Some put
       → is_none (field (put keys)) ≡ false
@@ -107,8 +107,8 @@ own {A} {B} {name} {who} field value with plain has same = record {
 embed : IsRow (codes "embed") (key OnChimera (λ k. k.chains) embed_of (λ x k. record k { chains = Some x }))
 embed = record {
   cuts = λ text. cut_key (codes "embed") text refl;
-  is_given = λ keys at text put e. given keys put (embed_of text) e;
-  chains = λ verb keys at text put t e safe. absurd cc;
+  is_given = λ keys text put e. given keys put (embed_of text) e;
+  chains = λ verb keys text put t e safe. absurd cc;
 } where
   given : (keys : Keys) (put : Keys → Keys) (o : Option Chaining)
       → option_map (λ x (k : Keys). record k { chains = Some x }) o ≡ Some put
@@ -118,20 +118,16 @@ embed = record {
       let one : (λ (k : Keys). record k { chains = Some x }) ≡ put = cc in
       subst (λ (p : Keys → Keys). is_none (p keys).chains ≡ false) one refl
 
--- a key whose value is the name of a file
-file : {A : Type 0} {name : List ℕ} {who : Takers} (field : Keys → Option A)
-    (with : WordAt → Keys → Keys) → prefix_len is_plain name ≡ length name
-    → ((x : WordAt) (keys : Keys) → is_none (field (with x keys)) ≡ false)
-    → ((x : WordAt) (keys : Keys) → NoClique keys.chains → NoClique (with x keys).chains)
-    → IsRow name (file_key who field with)
-file {A} {name} {who} field with plain has keeps = record {
-  cuts = λ text. cut_key name text plain;
-  is_given = λ keys at text put e.
-      let one : with (Value at) ≡ put = cc in
-      subst (λ p. is_none (field (p keys)) ≡ false) one (has (Value at) keys);
-  chains = λ verb keys at text put t e safe.
-      let one : with (Value at) ≡ put = cc in
-      subst (λ p. NoClique (p keys).chains) one (keeps (Value at) keys safe);
+-- that of a map chooses no clique
+mapped : IsRow (codes "map") (key OnQubits (λ k. k.chains) map_named (λ x k. record k { chains = Some x }))
+mapped = record {
+  cuts = λ text. cut_key (codes "map") text refl;
+  is_given = λ keys text put e.
+      let one : (λ (k : Keys). record k { chains = Some (Map text) }) ≡ put = cc in
+      subst (λ (p : Keys → Keys). is_none (p keys).chains ≡ false) one refl;
+  chains = λ verb keys text put t e safe.
+      let one : (λ (k : Keys). record k { chains = Some (Map text) }) ≡ put = cc in
+      subst (λ (p : Keys → Keys). NoClique (p keys).chains) one tt;
 }
 
 and_rows : {A : Type 0} (P : List ℕ → A → Type 0) (first : List ℕ × A) (rows : List (List ℕ × A))
@@ -151,25 +147,25 @@ table =
     (and_rows _ _ _ (own _ _ _ refl (λ x k. refl) (λ x k. refl))
     (and_rows _ _ _ (own _ _ _ refl (λ x k. refl) (λ x k. refl))
     (and_rows _ _ _ (own _ _ _ refl (λ x k. refl) (λ x k. refl))
-    (and_rows _ _ _ (file (λ k. k.order) (λ x k. record k { order = Some x }) refl (λ x k. refl) (λ x k safe. safe))
+    (and_rows _ _ _ (own (λ k. k.order) file_of (λ x k. record k { order = Some x }) refl (λ x k. refl) (λ x k. refl))
     (and_rows _ _ _ (own _ _ _ refl (λ x k. refl) (λ x k. refl))
     (and_rows _ _ _ (own _ _ _ refl (λ x k. refl) (λ x k. refl))
     (and_rows _ _ _ (own _ _ _ refl (λ x k. refl) (λ x k. refl))
-    (and_rows _ _ _ (file (λ k. k.dead) (λ x k. record k { dead = Some x }) refl (λ x k. refl) (λ x k safe. safe))
+    (and_rows _ _ _ (own (λ k. k.dead) file_of (λ x k. record k { dead = Some x }) refl (λ x k. refl) (λ x k. refl))
     (and_rows _ _ _ embed
-    (and_rows _ _ _ (file (λ k. k.chains) (λ x k. record k { chains = Some (Map x) }) refl (λ x k. refl) (λ x k safe. tt))
+    (and_rows _ _ _ mapped
     (and_rows _ _ _ (own _ _ _ refl (λ x k. refl) (λ x k. refl))
-    (and_rows _ _ _ (file (λ k. k.graph) (λ x k. record k { graph = Some x }) refl (λ x k. refl) (λ x k safe. safe)) (no_rows IsRow)))))))))))))))
+    (and_rows _ _ _ (own (λ k. k.graph) file_of (λ x k. record k { graph = Some x }) refl (λ x k. refl) (λ x k. refl)) (no_rows IsRow)))))))))))))))
 
 -- ---- each key stands once
 
 -- a word goes by the row of its name
-by_row : (verb : Verb) (target : TargetWord) (keys : Keys) (at : ℕ) (word name value : List ℕ)
+by_row : (verb : Verb) (target : TargetWord) (keys : Keys) (word name value : List ℕ)
     (key : Option Key) → cut word ≡ Some (name, value) → listed key_table name ≡ key
-    → with_word verb target keys at word
-    ≡ option_and_then (with_key verb target keys at value) key
-by_row verb target keys at word name value key c e =
-    rw c (ap (option_and_then (with_key verb target keys at value)) e)
+    → with_word verb target keys word
+    ≡ option_and_then (with_key verb target keys value) key
+by_row verb target keys word name value key c e =
+    rw c (ap (option_and_then (with_key verb target keys value)) e)
 
 not_both : (taken : Bool) (value : Option Keys) → (if taken && false then value else None) ≡ None
 not_both true value = refl
@@ -188,28 +184,28 @@ or_none false value e = e
 pub each_key : EachKeyStands
 each_key = record {
   each = λ name key e. let holds = listed-has IsRow key_table name key table e in record {
-    stands = λ verb target keys at value put t f p.
-        by_row verb target keys at (key_word name value) name value (Some key) (holds.cuts value) e ∙ rw (t, f, p) refl;
+    stands = λ verb target keys value put t f p.
+        by_row verb target keys (key_word name value) name value (Some key) (holds.cuts value) e ∙ rw (t, f, p) refl;
     is_given = holds.is_given;
-    once = λ verb target keys at f word value c.
-        by_row verb target keys at word name value (Some key) c e
+    once = λ verb target keys f word value c.
+        by_row verb target keys word name value (Some key) c e
         ∙ rw f (not_both (takes key.takers verb target) _);
-    elsewhere = λ verb target keys at t word value c.
-        by_row verb target keys at word name value (Some key) c e ∙ rw t refl;
-    valued = λ verb target keys at value p.
-        by_row verb target keys at (key_word name value) name value (Some key) (holds.cuts value) e
+    elsewhere = λ verb target keys t word value c.
+        by_row verb target keys word name value (Some key) c e ∙ rw t refl;
+    valued = λ verb target keys value p.
+        by_row verb target keys (key_word name value) name value (Some key) (holds.cuts value) e
         ∙ neither (takes key.takers verb target && key.is_free keys) _ (rw p refl);
   };
-  others = λ name none verb target keys at word value c.
-      by_row verb target keys at word name value None c none;
+  others = λ name none verb target keys word value c.
+      by_row verb target keys word name value None c none;
 }
 
 pub no_chains_twice : NoChainsStandTwice
 no_chains_twice = record {
-  embed = λ verb target keys at first given.
-      (each_key.each (codes "embed") _ refl).once verb target keys at (rw given refl);
-  map = λ verb target keys at first given.
-      (each_key.each (codes "map") _ refl).once verb target keys at (rw given refl);
+  embed = λ verb target keys first given.
+      (each_key.each (codes "embed") _ refl).once verb target keys (rw given refl);
+  map = λ verb target keys first given.
+      (each_key.each (codes "map") _ refl).once verb target keys (rw given refl);
 }
 
 -- ---- values
@@ -253,72 +249,72 @@ each_value = record {
 
 -- ---- keys of graphs
 
-module _ (verb : Verb) (keys : Keys) (at : ℕ) where
+module _ (verb : Verb) (keys : Keys) where
   pub rows_stand : (value : List ℕ) (side : ℕ) → keys.rows ≡ None → side_of value ≡ Some side
-      → with_word verb Chimera keys at (key_word (codes "rows") value)
+      → with_word verb Chimera keys (key_word (codes "rows") value)
       ≡ Some (record keys { rows = Some side })
   rows_stand value side free said = rw (cut_key (codes "rows") value refl, free, said) refl
 
   pub cols_stand : (value : List ℕ) (side : ℕ) → keys.cols ≡ None → side_of value ≡ Some side
-      → with_word verb Chimera keys at (key_word (codes "cols") value)
+      → with_word verb Chimera keys (key_word (codes "cols") value)
       ≡ Some (record keys { cols = Some side })
   cols_stand value side free said = rw (cut_key (codes "cols") value refl, free, said) refl
 
   pub shore_stands : (value : List ℕ) (side : ℕ) → keys.shore ≡ None → side_of value ≡ Some side
-      → with_word verb Chimera keys at (key_word (codes "shore") value)
+      → with_word verb Chimera keys (key_word (codes "shore") value)
       ≡ Some (record keys { shore = Some side })
   shore_stands value side free said = rw (cut_key (codes "shore") value refl, free, said) refl
 
-  pub clique_stands : keys.chains ≡ None → with_word verb Chimera keys at (codes "embed=clique")
+  pub clique_stands : keys.chains ≡ None → with_word verb Chimera keys (codes "embed=clique")
       ≡ Some (record keys { chains = Some Clique })
   clique_stands free = rw free refl
 
   pub dead_stands : (name : List ℕ) → keys.dead ≡ None
-      → with_word verb Chimera keys at (key_word (codes "dead") name)
-      ≡ Some (record keys { dead = Some (Value at) })
+      → with_word verb Chimera keys (key_word (codes "dead") name)
+      ≡ Some (record keys { dead = Some name })
   dead_stands name free = rw (cut_key (codes "dead") name refl, free) refl
 
   pub graph_stands : (name : List ℕ) → keys.graph ≡ None
-      → with_word verb Graph keys at (key_word (codes "graph") name)
-      ≡ Some (record keys { graph = Some (Value at) })
+      → with_word verb Graph keys (key_word (codes "graph") name)
+      ≡ Some (record keys { graph = Some name })
   graph_stands name free = rw (cut_key (codes "graph") name refl, free) refl
 
   module _ (target : TargetWord) (taken : takes OnQubits verb target ≡ true) where
     pub map_stands : (name : List ℕ) → keys.chains ≡ None
-        → with_word verb target keys at (key_word (codes "map") name)
-        ≡ Some (record keys { chains = Some (Map (Value at)) })
+        → with_word verb target keys (key_word (codes "map") name)
+        ≡ Some (record keys { chains = Some (Map name) })
     map_stands name free = rw (cut_key (codes "map") name refl, taken, free) refl
 
     pub ties_stand : (ties : ChainStrength) → keys.ties ≡ None
-        → with_word verb target keys at (key_word (codes "chain") (ties_word ties))
+        → with_word verb target keys (key_word (codes "chain") (ties_word ties))
         ≡ Some (record keys { ties = Some ties })
     ties_stand ties free =
         rw (cut_key (codes "chain") (ties_word ties) refl, taken, free, each_value.ties ties) refl
 
 -- on a graph in a file no keys choose a clique
-word_no_clique : (verb : Verb) (keys more : Keys) (at : ℕ) (word : List ℕ)
-    → with_word verb Graph keys at word ≡ Some more → NoClique keys.chains → NoClique more.chains
-word_no_clique verb keys more at word e safe = by_cut (cut word) e
+word_no_clique : (verb : Verb) (keys more : Keys) (word : List ℕ)
+    → with_word verb Graph keys word ≡ Some more → NoClique keys.chains → NoClique more.chains
+word_no_clique verb keys more word e safe = by_cut (cut word) e
   where
     by_put : (name value : List ℕ) (key : Key) → listed key_table name ≡ Some key → (taken : Bool)
         → takes key.takers verb Graph ≡ taken → (free : Bool) (o : Option (Keys → Keys))
-        → key.put at value ≡ o
+        → key.put value ≡ o
         → (if taken && free then option_map (λ (put : Keys → Keys). put keys) o else None) ≡ Some more
         → NoClique more.chains
     by_put name value key is true t true (Some put) p f =
         let same : put keys ≡ more = cc in
         subst (λ k. NoClique k.chains) same
-        ((listed-has IsRow key_table name key table is).chains verb keys at value put t p safe)
+        ((listed-has IsRow key_table name key table is).chains verb keys value put t p safe)
     by_put name value key is taken t free o p f = absurd cc
 
     by_key : (name value : List ℕ) (o : Option Key) → listed key_table name ≡ o
-        → option_and_then (with_key verb Graph keys at value) o ≡ Some more → NoClique more.chains
+        → option_and_then (with_key verb Graph keys value) o ≡ Some more → NoClique more.chains
     by_key name value None is f = absurd cc
     by_key name value (Some key) is f =
-        by_put name value key is _ refl (key.is_free keys) (key.put at value) refl f
+        by_put name value key is _ refl (key.is_free keys) (key.put value) refl f
 
     by_cut : (o : Option (List ℕ × List ℕ))
-        → option_and_then (λ parts. with_pair verb Graph keys at parts.0 parts.1) o ≡ Some more
+        → option_and_then (λ parts. with_pair verb Graph keys parts.0 parts.1) o ≡ Some more
         → NoClique more.chains
     by_cut None f = absurd cc
     by_cut (Some parts) f = by_key parts.0 parts.1 (listed key_table parts.0) refl f
@@ -327,11 +323,19 @@ pub no_clique : (verb : Verb) (keys more : Keys) (at : ℕ) (words : List (List 
     → keys_from verb Graph keys at words ≡ Ok more → NoClique keys.chains → NoClique more.chains
 no_clique verb keys more at [] e safe = let same : keys ≡ more = cc in subst (λ k. NoClique k.chains) same safe
 no_clique verb keys more at (word ∷ words) e safe =
-    go (λ next kept f. no_clique verb next more (at + 1) words f kept) (with_word verb Graph keys at word) refl e
+    go (λ next kept f. no_clique verb next more (at + 1) words f kept) (with_word verb Graph keys word) refl e
   where
     go : ((next : Keys) → NoClique next.chains → keys_from verb Graph next (at + 1) words ≡ Ok more
-        → NoClique more.chains) → (o : Option Keys) → with_word verb Graph keys at word ≡ o
+        → NoClique more.chains) → (o : Option Keys) → with_word verb Graph keys word ≡ o
         → option_map_or (λ next. keys_from verb Graph next (at + 1) words) o (Err (at + 1)) ≡ Ok more
         → NoClique more.chains
     go rest None f g = absurd cc
-    go rest (Some next) f g = rest next (word_no_clique verb keys next at word f safe) g
+    go rest (Some next) f g = rest next (word_no_clique verb keys next word f safe) g
+
+-- a key is put once: keys with the value that it has are those that its row makes
+pub put_once : {A : Type 0} (keys more : Keys) (given taken free : Bool) (said value once : Option A)
+    (put : A → Keys → Keys) (x : A) → given ≡ taken → said ≡ value
+    → once ≡ (if given && free then said else None) → once ≡ Some x → more ≡ put x keys
+    → Some more ≡ (if taken && free then option_map (λ (f : Keys → Keys). f keys) (option_map put value)
+    else None)
+put_once keys more given taken free said value once put x t v o was same = grind (arith, nat_tests)

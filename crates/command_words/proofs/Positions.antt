@@ -1,5 +1,5 @@
 -- The position that is told is that of the first word that cannot stand.
-use Rattle.command_words.proofs.Common.{◌<◌, ◌≡◌, ℕ, suc, ◌+◌, List, [], ◌∷◌, ◌++◌, length, take, drop, Option, Some, None, Result, Ok, Err, refl, ap, sym, subst, ◌∙◌, ◌⊎◌, inl, inr, arith, ◌≤◌, codes, unwrap_or, option_map_or, ok_or, drop-take, length-drop, digits_number, Format, Notice, Origin, TargetWord, Verb, Keys, graph_with, keys_from, no_keys, ◌>>=◌, alone, ask_by, clauses_of, command_of, commanding, drawn_words, file_words, first_key, format_of, notice_of, request_of, source_words, target_of, verb_of, AskForTooLarge, CanGoOn, PositionsTellTheFirst, File, Drawn, Whole}
+use Rattle.command_words.proofs.Common.{◌<◌, ◌≡◌, ℕ, suc, ◌+◌, List, [], ◌∷◌, ◌++◌, length, take, drop, Option, Some, None, Result, Ok, Err, refl, ap, sym, subst, ◌∙◌, ◌⊎◌, inl, inr, arith, ◌≤◌, codes, unwrap_or, option_map_or, ok_or, drop-take, length-drop, digits_number, Format, Notice, Origin, TargetWord, Verb, Keys, graph_with, keys_from, no_keys, ◌>>=◌, alone, ask_by, clauses_of, command_of, commanding, drawn_words, file_words, first_key, format_of, notice_of, request_of, source_words, target_of, verb_of, AskForTooLarge, CanGoOn, PositionsTellTheFirst, File, Drawn}
 use Rattle.command_words.specs.declared.commands.Format.TheVariants as formats
 use Rattle.command_words.specs.declared.commands.NodeModel.TheVariants.{Qubo}
 use Rattle.command_words.specs.declared.commands.Notice.TheVariants as notices
@@ -70,7 +70,8 @@ module _ (verb : Verb) (n : ℕ) (first : List ℕ) (no_notice : notice_of first
         ∙ keys_behind verb target no_keys keys (first_key verb) ks more.words good
         ∙ more.filled in (
           pad n rest ++ more.words,
-          requests.Command (commanding origin more.chosen more.given (ask_by verb more.given.order)),
+          requests.Command (commanding origin more.chosen more.given
+              (ask_by verb (rest ++ (pad n rest ++ more.words)) more.given.order)),
           rw (
             no_notice,
             is_verb,
@@ -174,7 +175,7 @@ module _ (verb : Verb) (n : ℕ) (first : List ℕ) (no_notice : notice_of first
     (of_file : (words : List (List ℕ)) → source_words verb words ≡ file_words words) where
   says_file : (second third fourth : List ℕ) (format : Format) (target : TargetWord)
       → format_of second ≡ Some format → target_of third ≡ Some target
-      → Say verb n first no_notice is_verb behind second third fourth (File format (Whole 3)) target
+      → Say verb n first no_notice is_verb behind second third fourth (File format fourth) target
   says_file second third fourth format target e f rest =
       rw (of_file (first ∷ second ∷ third ∷ fourth ∷ rest), e, f) refl
 
@@ -182,7 +183,7 @@ module _ (verb : Verb) (n : ℕ) (first : List ℕ) (no_notice : notice_of first
       → format_of second ≡ Some format → target_of third ≡ Some target
       → CanGoOn (first ∷ second ∷ third ∷ [])
   third_goes_on second third format target e f =
-      let all = goes_on verb n first no_notice is_verb behind second third [] (File format (Whole 3))
+      let all = goes_on verb n first no_notice is_verb behind second third [] (File format [])
       target (says_file second third [] format target e f) in
       ([] ∷ all.0, all.1, all.2)
 
@@ -204,7 +205,7 @@ module _ (verb : Verb) (n : ℕ) (first : List ℕ) (no_notice : notice_of first
   on_target second third [] format target i e f g =
       at_index _ 3 i g (late _ 3 (omega arith) (inl (third_goes_on second third format target e f)))
   on_target second third (fourth ∷ rest) format target i e f g =
-      by_keys verb n first no_notice is_verb behind second third fourth (File format (Whole 3)) target
+      by_keys verb n first no_notice is_verb behind second third fourth (File format fourth) target
       (says_file second third fourth format target e f) rest i _ refl g
 
   by_target : (second third : List ℕ) (rest : List (List ℕ)) (format : Format) (i : ℕ)

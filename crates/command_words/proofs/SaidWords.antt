@@ -1,5 +1,5 @@
 -- Words that ask for a command or a notice say it.
-use Rattle.command_words.proofs.Common.{nat_tests, ◌≡◌, ◌≢◌, ◌≤◌, ℕ, suc, ◌+◌, map, false, List, [], ◌∷◌, ◌++◌, length, drop, Option, Some, None, Result, Ok, Err, refl, ap, sym, subst, ◌∙◌, ◌⊎◌, arith, IfOk, IfSome, ◌==◌, ◌||◌, bytes_eq, codes, slice_get, if◌then◌else◌, ⊤, option_map_or, drop_more, slice_get_within, get_or_from_slice_get, ne_eqb, bytes_eq-Decides, Format, Target, TargetWord, WordAt, Command, Origin, digits_number, Keys, Verb, Notice, Request, EachNoticeIsAskedFor, EachCommandIsAskedFor, NoOtherWordsAsk, Say, SayRequest, file_command, format_word, ground_word, long_word, short_word, target_word, verb_for, verb_word, word_of, ◌>>=◌, alone, ask_by, chosen_target, clauses_of, command_of, commanding, drawn_words, file_words, first_key, first_notice, format_of, named, notice_of, source_words, target_of, valued, verb_of, ground_by, keys_from, no_keys, target_by, text_at, File, Drawn}
+use Rattle.command_words.proofs.Common.{nat_tests, ◌≡◌, ◌≢◌, ◌≤◌, ℕ, suc, ◌+◌, false, List, [], ◌∷◌, ◌++◌, length, drop, Option, Some, None, Result, Ok, Err, refl, ap, sym, subst, ◌∙◌, ◌⊎◌, arith, IfOk, IfSome, ◌==◌, ◌||◌, bytes_eq, codes, slice_get, if◌then◌else◌, ⊤, option_map_or, drop_more, slice_get_within, get_or_from_slice_get, ne_eqb, bytes_eq-Decides, Format, Target, TargetWord, Command, Origin, digits_number, Keys, Verb, Notice, Request, EachNoticeIsAskedFor, EachCommandIsAskedFor, NoOtherWordsAsk, Say, SayRequest, file_command, format_word, ground_word, long_word, short_word, target_word, verb_for, verb_word, word_of, ◌>>=◌, alone, ask_by, chosen_target, clauses_of, command_of, commanding, drawn_words, file_words, first_key, first_notice, format_of, named, notice_of, source_words, target_of, valued, verb_of, ground_by, keys_from, no_keys, target_by, File, Drawn}
 use Rattle.command_words.specs.declared.commands.Verb.TheVariants as verbs
 use Rattle.command_words.specs.declared.commands.Notice.TheVariants.{Help, Version}
 use Rattle.command_words.specs.declared.commands.Request.TheVariants as requests
@@ -77,7 +77,7 @@ valued-word {A} value word_of each words i = go (valued value words i) (valued-H
         h.stands ∙ ap (λ w. w ∷ drop (i + 1) words) same
 
 named-word : (words : List (List ℕ)) (i : ℕ)
-    → IfOk (named words i) (λ file. StandsAt words i (text_at words file))
+    → IfOk (named words i) (StandsAt words i)
 named-word words i = grind (arith, nat_tests, slice_get-StandsAt)
 
 -- ---- the words in a row
@@ -85,7 +85,7 @@ named-word words i = grind (arith, nat_tests, slice_get-StandsAt)
 -- the words after the first one say this source and target
 abbrev SaysSource : List (List ℕ) → Origin → TargetWord → Type 0
 SaysSource words (File format file) target =
-    drop 1 words ≡ format_word format ∷ target_word target ∷ text_at words file ∷ drop 4 words
+    drop 1 words ≡ format_word format ∷ target_word target ∷ file ∷ drop 4 words
 SaysSource words (Drawn number clauses) target = (first second : List ℕ)
     × (digits_number first ≡ Some number) × (clauses_of second ≡ Some clauses)
     × (drop 1 words ≡ first ∷ second ∷ target_word target ∷ drop 4 words)
@@ -107,7 +107,7 @@ module _ (words : List (List ℕ)) where
   -- a source in a file, with this word of its target, is said
   pub record IsFileSaid (source : Origin × TargetWord) : Type 0 where
     pub format : Format
-    pub file : WordAt
+    pub file : List ℕ
     pub is : source ≡ (File format file, source.1)
     pub says : SaysSource words (File format file) source.1
 
@@ -155,7 +155,7 @@ IsAsked words command = (keys : List (List ℕ)) × Say words command keys
 module _ (verb : Verb) (words : List (List ℕ)) (origin : Origin) (word : TargetWord) where
   -- the steps after the three words, each with those after it
   abbrev pub with_chosen : Keys → Target → Result Command ℕ
-  with_chosen keys target = Ok (commanding origin target keys (ask_by verb keys.order))
+  with_chosen keys target = Ok (commanding origin target keys (ask_by verb (drop 4 words) keys.order))
 
   abbrev pub with_keys : Keys → Result Command ℕ
   with_keys keys = chosen_target verb words word keys >>= with_chosen keys
@@ -167,7 +167,7 @@ module _ (verb : Verb) (words : List (List ℕ)) (origin : Origin) (word : Targe
   -- it is asked for where the words say what is asked of this target
   with_source-asked : ((keys : Keys) (target : Target) → word_of target ≡ word
       → first_key verb ≤ length words
-      → IsAsked words (commanding origin target keys (ask_by verb keys.order)))
+      → IsAsked words (commanding origin target keys (ask_by verb (drop 4 words) keys.order)))
       → IfOk with_source (IsAsked words)
   with_source-asked asked =
       next (keys_from verb word no_keys (first_key verb) (drop (first_key verb) words)) with_keys
@@ -177,13 +177,13 @@ module _ (verb : Verb) (words : List (List ℕ)) (origin : Origin) (word : Targe
       (λ target chosen. asked keys target chosen.0 chosen.1))
 
 -- the files that a verb has behind FILE
-abbrev files : Verb → Option WordAt → List WordAt
-files verb order = (verb_for (ask_by verb order)).1
+abbrev files : Verb → List (List ℕ) → Option (List ℕ) → List (List ℕ)
+files verb words order = (verb_for (ask_by verb (drop 4 words) order)).1
 
 -- the words behind FILE are these, and keys
-files_behind : (verb : Verb) (order : Option WordAt) (words : List (List ℕ))
+files_behind : (verb : Verb) (order : Option (List ℕ)) (words : List (List ℕ))
     → first_key verb ≤ length words
-    → drop 4 words ≡ map (text_at words) (files verb order) ++ drop (first_key verb) words
+    → drop 4 words ≡ files verb words order ++ drop (first_key verb) words
 files_behind verbs.Compile order words enough = refl
 files_behind verbs.Size order words enough = refl
 files_behind verbs.Sample order words enough = refl
@@ -195,20 +195,20 @@ files_behind verbs.Prove order (a ∷ b ∷ c ∷ d ∷ e ∷ f ∷ words) enoug
 files_behind verb order words enough = absurd (omega (arith, enough))
 
 -- the words of a job and of the files behind it are those of a command on a file
-file_said : (verb : Verb) (words : List (List ℕ)) (format : Format) (file : WordAt)
-    (target : TargetWord) (order : Option WordAt) → words ≡ verb_word verb ∷ drop 1 words
+file_said : (verb : Verb) (words : List (List ℕ)) (format : Format) (file : List ℕ)
+    (target : TargetWord) (order : Option (List ℕ)) → words ≡ verb_word verb ∷ drop 1 words
     → SaysSource words (File format file) target → first_key verb ≤ length words
-    → words ≡ file_command verb format target (text_at words file)
-    (map (text_at words) (files verb order)) (drop (first_key verb) words)
+    → words ≡ file_command verb format target file (files verb words order)
+    (drop (first_key verb) words)
 file_said verb words format file target order first says enough =
     first ∙ ap (λ rest. verb_word verb ∷ rest) says
-    ∙ ap (λ rest. verb_word verb ∷ format_word format ∷ target_word target ∷ text_at words file ∷ rest)
+    ∙ ap (λ rest. verb_word verb ∷ format_word format ∷ target_word target ∷ file ∷ rest)
     (files_behind verb order words enough)
 
 file_asked : (verb : Verb) → verb ≢ verbs.Sample → (words : List (List ℕ)) (format : Format)
-    (file : WordAt) (target : Target) (keys : Keys) → words ≡ verb_word verb ∷ drop 1 words
+    (file : List ℕ) (target : Target) (keys : Keys) → words ≡ verb_word verb ∷ drop 1 words
     → SaysSource words (File format file) (word_of target) → first_key verb ≤ length words
-    → IsAsked words (commanding (File format file) target keys (ask_by verb keys.order))
+    → IsAsked words (commanding (File format file) target keys (ask_by verb (drop 4 words) keys.order))
 file_asked verbs.Sample other words format file target keys first says enough = absurd (other refl)
 file_asked verb other words format file target keys first says enough =
     (_, file_said verb words format file (word_of target) keys.order first says enough)

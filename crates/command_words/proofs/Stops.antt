@@ -1,5 +1,5 @@
 -- Where keys stop, how words go on, and what is told behind all words.
-use Rattle.command_words.proofs.Common.{nat_tests, ◌≡◌, ◌<◌, ℕ, zero, suc, ◌+◌, List, [], ◌∷◌, ◌++◌, length, take, drop, Option, Some, None, Result, Ok, Err, refl, ap, sym, subst, ◌∙◌, ◌⊎◌, arith, unwrap_or, ⊤, ◌≤◌, codes, option_map_or, take_all, digits_number, Chaining, Command, WordAt, Target, TargetWord, Verb, Keys, Origin, graph_with, keys_from, map_at, side_of, target_by, with_word, key_word, ◌>>=◌, request_of, AskForTooLarge, CanGoOn, Choi, Clique, Map, Value}
+use Rattle.command_words.proofs.Common.{nat_tests, ◌≡◌, ◌<◌, ℕ, zero, suc, ◌+◌, List, [], ◌∷◌, ◌++◌, length, take, drop, Option, Some, None, Result, Ok, Err, refl, ap, sym, subst, ◌∙◌, ◌⊎◌, arith, unwrap_or, ⊤, ◌≤◌, codes, option_map_or, take_all, digits_number, Chaining, Command, Target, TargetWord, Verb, Keys, Origin, graph_with, keys_from, map_of, side_of, target_by, with_word, key_word, ◌>>=◌, request_of, AskForTooLarge, CanGoOn, Choi, Clique, Map}
 use Rattle.command_words.specs.declared.commands.Request.TheVariants as requests
 use Rattle.command_words.specs.declared.commands.Ground.TheVariants as grounds
 use Rattle.command_words.specs.declared.commands.Target.TheVariants as targets
@@ -28,7 +28,7 @@ module _ (verb : Verb) (target : TargetWord) where
       → keys_from verb target keys at (a ++ b) ≡ keys_from verb target more (length a + at) b
   keys_behind keys more at [] b e = grind (arith, nat_tests)
   keys_behind keys more at (word ∷ a) b e =
-      go (λ next f. keys_behind next more (at + 1) a b f) (with_word verb target keys at word) e
+      go (λ next f. keys_behind next more (at + 1) a b f) (with_word verb target keys word) e
     where
       go : ((next : Keys) → keys_from verb target next (at + 1) a ≡ Ok more
           → keys_from verb target next (at + 1) (a ++ b)
@@ -45,11 +45,11 @@ module _ (verb : Verb) (target : TargetWord) where
       → keys_from verb target keys at words ≡ Err p → Stop verb target keys at p words
   stop keys at p [] e = absurd cc
   stop keys at p (word ∷ words) e =
-      go (λ next f. stop next (at + 1) p words f) (with_word verb target keys at word) refl e
+      go (λ next f. stop next (at + 1) p words f) (with_word verb target keys word) refl e
     where
       go : ((next : Keys) → keys_from verb target next (at + 1) words ≡ Err p
           → Stop verb target next (at + 1) p words)
-          → (o : Option Keys) → with_word verb target keys at word ≡ o
+          → (o : Option Keys) → with_word verb target keys word ≡ o
           → option_map_or (λ next. keys_from verb target next (at + 1) words) o (Err (at + 1)) ≡ Err p
           → Stop verb target keys at p (word ∷ words)
       go each None f g =
@@ -89,7 +89,7 @@ module _ (verb : Verb) (target : TargetWord) where
   -- a key is added where it is missing
   fill : {A : Type 0} (keys : Keys) (at : ℕ) (put : Option A → Keys) (given : Option A) (one : A)
       (word : List ℕ) → keys ≡ put given
-      → (given ≡ None → with_word verb target keys at word ≡ Some (put (Some one)))
+      → (given ≡ None → with_word verb target keys word ≡ Some (put (Some one)))
       → Fill verb target keys (put (Some (unwrap_or given one))) at
   fill keys at put None one word same next = record { words = word ∷ []; filled = rw (next refl) refl }
   fill keys at put (Some value) one word same next = record { words = []; filled = ap Ok same }
@@ -115,20 +115,19 @@ module _ (verb : Verb) where
   fill_graph keys at =
       let one = codes "1" in
       let rows = fill verb Chimera keys at (λ given. record keys { rows = given }) keys.rows 1
-      (key_word (codes "rows") one) refl (λ none. rows_stand verb keys at one 1 none side_one) in
+      (key_word (codes "rows") one) refl (λ none. rows_stand verb keys one 1 none side_one) in
       let second = record keys { rows = Some (unwrap_or keys.rows 1) } in
       let cols = fill verb Chimera second (length rows.words + at)
       (λ given. record second { cols = given }) keys.cols 1 (key_word (codes "cols") one) refl
-      (λ none. cols_stand verb second (length rows.words + at) one 1 none side_one) in
+      (λ none. cols_stand verb second one 1 none side_one) in
       let third = record second { cols = Some (unwrap_or keys.cols 1) } in
       let shore = fill verb Chimera third (length cols.words + (length rows.words + at))
       (λ given. record third { shore = given }) keys.shore 1 (key_word (codes "shore") one) refl
-      (λ none. shore_stands verb third (length cols.words + (length rows.words + at)) one 1 none
-      side_one) in
+      (λ none. shore_stands verb third one 1 none side_one) in
       let fourth = record third { shore = Some (unwrap_or keys.shore 1) } in
       let last = length shore.words + (length cols.words + (length rows.words + at)) in
       let chains = fill verb Chimera fourth last (λ given. record fourth { chains = given })
-      keys.chains Clique (codes "embed=clique") refl (clique_stands verb fourth last) in
+      keys.chains Clique (codes "embed=clique") refl (clique_stands verb fourth) in
       join verb Chimera rows (join verb Chimera cols (join verb Chimera shore chains))
 
 -- whether keys leave room for a graph: a Chimera graph with 1 for each number that is missing, or a
@@ -148,11 +147,11 @@ pub record Filled (verb : Verb) (target : TargetWord) (keys : Keys) (at : ℕ) :
   pub by : target_by target given ≡ Some chosen
 
 -- chains that are those of no clique are those of a map
-named_map : (chains : Option Chaining) (at : WordAt) → NoClique chains
-    → (place : WordAt) × (map_at (unwrap_or chains (Map at)) ≡ Some place)
-named_map None at safe = (at, refl)
-named_map (Some (Map place)) at safe = (place, refl)
-named_map (Some Clique) at safe = absurd safe
+named_map : (chains : Option Chaining) → NoClique chains
+    → (name : List ℕ) × (map_of (unwrap_or chains (Map [])) ≡ Some name)
+named_map None safe = ([], refl)
+named_map (Some (Map name)) safe = (name, refl)
+named_map (Some Clique) safe = absurd safe
 
 pub whole : (verb : Verb) (target : TargetWord) (keys : Keys) (at : ℕ) (graph : graphs.Chimera)
     → room_of target keys (Some graph) → Filled verb target keys at
@@ -165,27 +164,27 @@ whole verb Chimera keys at graph room =
       given = filled_keys verb keys;
       filled = more.filled;
       chosen = targets.Qubits (record {
-        ground = grounds.Chimera graph keys.dead (unwrap_or keys.chains Clique);
+        ground = grounds.Chimera graph keys.dead (map_of (unwrap_or keys.chains Clique));
         ties = unwrap_or keys.ties Choi;
       });
       by = rw room refl;
     }
 whole verb Graph keys at graph room =
-    let named = fill verb Graph keys at (λ given. record keys { graph = given }) keys.graph (Value at)
-    (key_word (codes "graph") []) refl (graph_stands verb keys at []) in
-    let second = record keys { graph = Some (unwrap_or keys.graph (Value at)) } in
+    let named = fill verb Graph keys at (λ given. record keys { graph = given }) keys.graph []
+    (key_word (codes "graph") []) refl (graph_stands verb keys []) in
+    let second = record keys { graph = Some (unwrap_or keys.graph []) } in
     let next = length named.words + at in
     let mapped = fill verb Graph second next (λ given. record second { chains = given })
-    keys.chains (Map (Value next)) (key_word (codes "map") []) refl
-    (map_stands verb second next Graph refl []) in
+    keys.chains (Map []) (key_word (codes "map") []) refl
+    (map_stands verb second Graph refl []) in
     let more = join verb Graph named mapped in
-    let map = named_map keys.chains (Value next) room in
+    let map = named_map keys.chains room in
     record {
       words = more.words;
-      given = record second { chains = Some (unwrap_or keys.chains (Map (Value next))) };
+      given = record second { chains = Some (unwrap_or keys.chains (Map [])) };
       filled = more.filled;
       chosen = targets.Qubits (record {
-        ground = grounds.Listed (unwrap_or keys.graph (Value at)) map.0;
+        ground = grounds.Listed (unwrap_or keys.graph []) map.0;
         ties = unwrap_or keys.ties Choi;
       });
       by = rw map.1 refl;

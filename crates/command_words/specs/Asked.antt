@@ -27,7 +27,7 @@ use Rattle.command_words.specs.declared.commands.NodeModel.TheVariants.{Qubo, Is
 use Rattle.command_words.specs.declared.commands.TargetWord.{TargetWord}
 use Rattle.command_words.specs.declared.commands.TargetWord.TheVariants.{Nodes, Chimera, Graph}
 use Rattle.command_words.specs.declared.commands.Chaining.{Chaining}
-use Rattle.command_words.specs.declared.commands.Chaining.TheVariants.{Clique, Map}
+use Rattle.command_words.specs.declared.commands.Chaining.TheVariants.{Clique}
 use Rattle.command_words.specs.declared.commands.ChainStrength.{ChainStrength}
 use Rattle.command_words.specs.declared.commands.ChainStrength.TheVariants.{Choi, Cut}
 use Rattle.command_words.specs.declared.commands.Slack.{Slack}
@@ -38,16 +38,15 @@ use Rattle.command_words.specs.declared.commands.Notice.{Notice}
 use Rattle.command_words.specs.declared.commands.Notice.TheVariants.{Help, Version}
 use Rattle.command_words.specs.declared.commands.Request.{Request}
 use Rattle.command_words.specs.declared.commands.Request.TheVariants as requests
-use Rattle.command_words.specs.declared.commands.WordAt.{WordAt}
-use Rattle.command_words.specs.declared.commands.WordAt.TheVariants.{Whole, Value}
 use Rattle.command_words.specs.declared.commands.Origin.{Origin}
 use Rattle.command_words.specs.declared.commands.Origin.TheVariants.{File, Drawn}
 use Rattle.command_words.specs.declared.commands.Ask.{Ask}
 use Rattle.command_words.specs.declared.commands.Ask.TheVariants as asks
+use Rattle.command_words.specs.declared.commands.Make.TheVariants as makes
+use Rattle.command_words.specs.declared.commands.OfState.TheVariants as of_states
 use Rattle.command_words.specs.declared.commands.Command.{Command}
 use Rattle.command_words.specs.Commands.{◌>>=◌, ask_by, clauses_of, command_of, commanding, first_key, first_notice, request_of, source_words, valued, verb_of}
 use Rattle.command_words.specs.Keys.{Key, bound_of, cut, embed_of, high_of, key_table, keys_from, listed, no_keys, normal_of, on_ground, penalty_of, side_of, slack_of, takes, target_by, ties_of, unit_of, with_word}
-use Rattle.command_words.specs.Names.{text_at}
 
 -- ---- words
 
@@ -80,7 +79,7 @@ target_word Graph = codes "graph"
 
 -- what the word of a ground says
 abbrev pub ground_word : Ground → TargetWord
-ground_word (grounds.Chimera graph dead chains) = Chimera
+ground_word (grounds.Chimera graph dead map) = Chimera
 ground_word (grounds.Listed graph map) = Graph
 
 -- what the word of a target says
@@ -155,7 +154,7 @@ EachJobIsAskedFor = (verb : Verb) (format : Format) (word : TargetWord) (file : 
     ≡ (keys_from verb word no_keys (first_key verb) keys
     >>= λ given. ok_or (target_by word given)
     (length (file_command verb format word file files keys) + 1)
-    >>= λ target. Ok (commanding (File format (Whole 3)) target given (ask_by verb given.order)))
+    >>= λ target. Ok (commanding (File format file) target given (ask_by verb (files ++ keys) given.order)))
 
 -- every sample can be asked for, with any words for its numbers, and with what the keys after them
 -- choose
@@ -165,7 +164,7 @@ EachSampleIsAskedFor = (number clauses : ℕ) (first second : List ℕ) (word : 
     → command_of (sample_words first second word keys)
     ≡ (keys_from verbs.Sample word no_keys 4 keys
     >>= λ given. ok_or (target_by word given) (length (sample_words first second word keys) + 1)
-    >>= λ target. Ok (commanding (Drawn number clauses) target given asks.Summary))
+    >>= λ target. Ok (commanding (Drawn number clauses) target given (asks.Make makes.Summary)))
 
 -- each key that can stand can be asked for alone, with every verb but `sample`, every format, file
 -- and model on nodes
@@ -173,9 +172,9 @@ abbrev pub EachKeyIsAskedFor : Type 0
 EachKeyIsAskedFor = (verb : Verb) (format : Format) (model : NodeModel) (file : List ℕ)
     (files : List (List ℕ)) (key : List ℕ) (given : Keys) → verb ≢ verbs.Sample
     → length files + 4 ≡ first_key verb
-    → with_word verb (Nodes model) no_keys (first_key verb) key ≡ Some given
+    → with_word verb (Nodes model) no_keys key ≡ Some given
     → command_of (file_command verb format (Nodes model) file files (key ∷ []))
-    ≡ Ok (commanding (File format (Whole 3)) (targets.Nodes model) given (ask_by verb given.order))
+    ≡ Ok (commanding (File format file) (targets.Nodes model) given (ask_by verb files given.order))
 
 -- the word of a key, where there is a value for it
 abbrev pub optional : List ℕ → Option (List ℕ) → List (List ℕ)
@@ -187,20 +186,10 @@ abbrev pub chains_key : Option (List ℕ) → List ℕ
 chains_key None = codes "embed=clique"
 chains_key (Some name) = key_word (codes "map") name
 
--- these chains, where the word of their key stands at an index
-abbrev pub chains_at : ℕ → Option (List ℕ) → Chaining
-chains_at i None = Clique
-chains_at i (Some name) = Map (Value i)
-
--- where the list of dead qubits is named, its name is the value of the key at this index
-abbrev pub dead_at : ℕ → Option (List ℕ) → Option WordAt
-dead_at i None = None
-dead_at i (Some name) = Some (Value i)
-
 -- the model of a file on the qubits of a ground, with ties as usual where none are given
-abbrev pub on_qubits : Format → Ground → Option ChainStrength → Command
-on_qubits format g ties =
-    commanding (File format (Whole 3)) (on_ground g ties) no_keys asks.Model
+abbrev pub on_qubits : Format → List ℕ → Ground → Option ChainStrength → Command
+on_qubits format file g ties =
+    commanding (File format file) (on_ground g ties) no_keys (asks.Make makes.Model)
 
 -- Each graph can be asked for, with every format and file: a Chimera graph with any words for its
 -- numbers, the chains of a clique or of any map, and with or without any list of dead qubits, and a
@@ -214,54 +203,54 @@ pub record EachGraphIsAskedFor : Type 0 where
       (key_word (codes "rows") first ∷ key_word (codes "cols") second
       ∷ key_word (codes "shore") third ∷ chains_key map
       ∷ optional (codes "dead") dead ++ optional (codes "chain") (option_map ties_word ties)))
-      ≡ Ok (on_qubits format (grounds.Chimera graph (dead_at 8 dead) (chains_at 7 map)) ties)
+      ≡ Ok (on_qubits format file (grounds.Chimera graph dead map) ties)
   pub in_a_file : (format : Format) (file name map : List ℕ) (ties : Option ChainStrength)
       → command_of (file_command verbs.Compile format Graph file []
       (key_word (codes "graph") name ∷ key_word (codes "map") map
       ∷ optional (codes "chain") (option_map ties_word ties)))
-      ≡ Ok (on_qubits format (grounds.Listed (Value 4) (Value 5)) ties)
+      ≡ Ok (on_qubits format file (grounds.Listed name map) ties)
 
 -- ---- keys
 
 -- No word of this name can stand. Whatever its value is, the word is refused at its position.
-abbrev pub CannotStand : Verb → TargetWord → Keys → ℕ → List ℕ → Type 0
-CannotStand verb target keys at name =
+abbrev pub CannotStand : Verb → TargetWord → Keys → List ℕ → Type 0
+CannotStand verb target keys name =
     (word value : List ℕ) → cut word ≡ Some (name, value)
-    → with_word verb target keys at word ≡ None
+    → with_word verb target keys word ≡ None
 
 -- A key of this name stands once. With each of its values it can stand where the verb and the
 -- target take it and it is not given yet, whatever others are; it is given then.
 pub record StandsOnce (name : List ℕ) (key : Key) : Type 0 where
-  pub stands : (verb : Verb) (target : TargetWord) (keys : Keys) (at : ℕ) (value : List ℕ)
+  pub stands : (verb : Verb) (target : TargetWord) (keys : Keys) (value : List ℕ)
       (put : Keys → Keys) → takes key.takers verb target ≡ true → key.is_free keys ≡ true
-      → key.put at value ≡ Some put
-      → with_word verb target keys at (key_word name value) ≡ Some (put keys)
-  pub is_given : (keys : Keys) (at : ℕ) (value : List ℕ) (put : Keys → Keys)
-      → key.put at value ≡ Some put → key.is_free (put keys) ≡ false
+      → key.put value ≡ Some put
+      → with_word verb target keys (key_word name value) ≡ Some (put keys)
+  pub is_given : (keys : Keys) (value : List ℕ) (put : Keys → Keys)
+      → key.put value ≡ Some put → key.is_free (put keys) ≡ false
   -- no key stands twice
-  pub once : (verb : Verb) (target : TargetWord) (keys : Keys) (at : ℕ)
-      → key.is_free keys ≡ false → CannotStand verb target keys at name
+  pub once : (verb : Verb) (target : TargetWord) (keys : Keys)
+      → key.is_free keys ≡ false → CannotStand verb target keys name
   -- it stands with no verb and target that do not take it, so it is refused and not passed over
-  pub elsewhere : (verb : Verb) (target : TargetWord) (keys : Keys) (at : ℕ)
-      → takes key.takers verb target ≡ false → CannotStand verb target keys at name
+  pub elsewhere : (verb : Verb) (target : TargetWord) (keys : Keys)
+      → takes key.takers verb target ≡ false → CannotStand verb target keys name
   -- it stands with no other value
-  pub valued : (verb : Verb) (target : TargetWord) (keys : Keys) (at : ℕ) (value : List ℕ)
-      → key.put at value ≡ None
-      → with_word verb target keys at (key_word name value) ≡ None
+  pub valued : (verb : Verb) (target : TargetWord) (keys : Keys) (value : List ℕ)
+      → key.put value ≡ None
+      → with_word verb target keys (key_word name value) ≡ None
 
 -- Each key of the table stands once, and no other name of a key stands. The table says for each key
 -- who takes it, which texts are its values, and what each of them makes of the keys.
 pub record EachKeyStands : Type 0 where
   pub each : (name : List ℕ) (key : Key) → listed key_table name ≡ Some key → StandsOnce name key
   pub others : (name : List ℕ) → listed key_table name ≡ None → (verb : Verb)
-      (target : TargetWord) (keys : Keys) (at : ℕ) → CannotStand verb target keys at name
+      (target : TargetWord) (keys : Keys) → CannotStand verb target keys name
 
 -- with the chains of a clique no map can stand, nor the other way round: both choose the chains
 pub record NoChainsStandTwice : Type 0 where
-  pub embed : (verb : Verb) (target : TargetWord) (keys : Keys) (at : ℕ) (first : Chaining)
-      → keys.chains ≡ Some first → CannotStand verb target keys at (codes "embed")
-  pub map : (verb : Verb) (target : TargetWord) (keys : Keys) (at : ℕ) (first : Chaining)
-      → keys.chains ≡ Some first → CannotStand verb target keys at (codes "map")
+  pub embed : (verb : Verb) (target : TargetWord) (keys : Keys) (first : Chaining)
+      → keys.chains ≡ Some first → CannotStand verb target keys (codes "embed")
+  pub map : (verb : Verb) (target : TargetWord) (keys : Keys) (first : Chaining)
+      → keys.chains ≡ Some first → CannotStand verb target keys (codes "map")
 
 -- each value of a key has its word, and a number any digits
 pub record EachValueIsSaid : Type 0 where
@@ -315,25 +304,24 @@ pub record SaySample (words : List (List ℕ)) (number clauses : ℕ) (target : 
   pub all : words ≡ sample_words first second target keys
 
 -- the verb that asks this, and the files that it has besides FILE
-abbrev pub verb_for : Ask → Verb × List WordAt
-verb_for asks.Model = (verbs.Compile, [])
-verb_for asks.Summary = (verbs.Sample, [])
-verb_for asks.Size = (verbs.Size, [])
+abbrev pub verb_for : Ask → Verb × List (List ℕ)
+verb_for (asks.Make makes.Model) = (verbs.Compile, [])
+verb_for (asks.Make makes.Summary) = (verbs.Sample, [])
+verb_for (asks.Make makes.Size) = (verbs.Size, [])
 verb_for (asks.Solve order) = (verbs.Solve, [])
-verb_for (asks.Decode state) = (verbs.Decode, state ∷ [])
 verb_for (asks.Evaluate states) = (verbs.Evaluate, states ∷ [])
-verb_for (asks.Extend assignment) = (verbs.Extend, assignment ∷ [])
-verb_for (asks.Prove state certificate) = (verbs.Prove, state ∷ certificate ∷ [])
+verb_for (asks.State state of_states.Decode) = (verbs.Decode, state ∷ [])
+verb_for (asks.State assignment of_states.Extend) = (verbs.Extend, assignment ∷ [])
+verb_for (asks.State state (of_states.Prove certificate)) =
+    (verbs.Prove, state ∷ certificate ∷ [])
 
 -- the words say what is asked of a source, before keys; a summary is asked of a sample alone, and
 -- of a sample nothing else
 abbrev pub SayOf : List (List ℕ) → Origin → Ask → TargetWord → List (List ℕ) → Type 0
-SayOf words (File format at) asks.Summary target keys = ⊥
-SayOf words (File format at) ask target keys =
-    words
-    ≡ file_command (verb_for ask).0 format target (text_at words at)
-    (map (text_at words) (verb_for ask).1) keys
-SayOf words (Drawn number clauses) asks.Summary target keys =
+SayOf words (File format file) (asks.Make makes.Summary) target keys = ⊥
+SayOf words (File format file) ask target keys =
+    words ≡ file_command (verb_for ask).0 format target file (verb_for ask).1 keys
+SayOf words (Drawn number clauses) (asks.Make makes.Summary) target keys =
     SaySample words number clauses target keys
 SayOf words (Drawn number clauses) ask target keys = ⊥
 

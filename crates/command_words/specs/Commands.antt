@@ -19,12 +19,12 @@ use Rattle.command_words.specs.declared.commands.Target.{Target}
 use Rattle.command_words.specs.declared.commands.NodeModel.TheVariants.{Qubo, Ising}
 use Rattle.command_words.specs.declared.commands.TargetWord.{TargetWord}
 use Rattle.command_words.specs.declared.commands.TargetWord.TheVariants.{Nodes, Chimera, Graph}
-use Rattle.command_words.specs.declared.commands.WordAt.{WordAt}
-use Rattle.command_words.specs.declared.commands.WordAt.TheVariants.{Whole}
 use Rattle.command_words.specs.declared.commands.Origin.{Origin}
 use Rattle.command_words.specs.declared.commands.Origin.TheVariants.{File, Drawn}
 use Rattle.command_words.specs.declared.commands.Ask.{Ask}
-use Rattle.command_words.specs.declared.commands.Ask.TheVariants.{Model, Summary, Size, Solve, Decode, Evaluate, Extend, Prove}
+use Rattle.command_words.specs.declared.commands.Ask.TheVariants.{Make, Solve, Evaluate, State}
+use Rattle.command_words.specs.declared.commands.Make.TheVariants.{Model, Summary, Size}
+use Rattle.command_words.specs.declared.commands.OfState.TheVariants.{Decode, Extend, Prove}
 use Rattle.command_words.specs.declared.commands.Command.{Command}
 use Rattle.command_words.specs.declared.commands.Verb.{Verb}
 use Rattle.command_words.specs.declared.commands.Verb.TheVariants as verbs
@@ -50,8 +50,8 @@ valued value words i =
 
 -- The name that is the whole word at an index, or its position where it is missing. Every word can
 -- be the name of a file, also an empty one.
-abbrev pub named : List (List ℕ) → ℕ → Result WordAt ℕ
-named words i = option_map_or (λ word. Ok (Whole i)) (slice_get words i) (Err (i + 1))
+abbrev pub named : List (List ℕ) → ℕ → Result (List ℕ) ℕ
+named words i = ok_or (slice_get words i) (i + 1)
 
 -- the words of the formats
 abbrev pub format_of : List ℕ → Option Format
@@ -145,17 +145,21 @@ commanding origin target keys ask = record {
   ask = ask;
 }
 
+-- the name that is the word at an index, empty where it is missing
+abbrev pub file_at : List (List ℕ) → ℕ → List ℕ
+file_at words i = unwrap_or (slice_get words i) []
+
 -- What a verb asks of the model of a source, with the names that stand behind FILE. `solve` takes
 -- an order of elimination, where a key names one.
-abbrev pub ask_by : Verb → Option WordAt → Ask
-ask_by verbs.Compile order = Model
-ask_by verbs.Size order = Size
-ask_by verbs.Sample order = Summary
-ask_by verbs.Solve order = Solve order
-ask_by verbs.Decode order = Decode (Whole 4)
-ask_by verbs.Evaluate order = Evaluate (Whole 4)
-ask_by verbs.Extend order = Extend (Whole 4)
-ask_by verbs.Prove order = Prove (Whole 4) (Whole 5)
+abbrev pub ask_by : Verb → List (List ℕ) → Option (List ℕ) → Ask
+ask_by verbs.Compile files order = Make Model
+ask_by verbs.Size files order = Make Size
+ask_by verbs.Sample files order = Make Summary
+ask_by verbs.Solve files order = Solve order
+ask_by verbs.Evaluate files order = Evaluate (file_at files 0)
+ask_by verbs.Decode files order = State (file_at files 0) Decode
+ask_by verbs.Extend files order = State (file_at files 0) Extend
+ask_by verbs.Prove files order = State (file_at files 0) (Prove (file_at files 1))
 
 -- all words of a command: a verb, its source and target, the files that it has besides, and keys
 abbrev pub command_of : List (List ℕ) → Result Command ℕ
@@ -164,7 +168,7 @@ command_of words = do
   source ← source_words verb words
   keys ← keys_from verb source.1 no_keys (first_key verb) (drop (first_key verb) words)
   target ← chosen_target verb words source.1 keys
-  Ok (commanding source.0 target keys (ask_by verb keys.order))
+  Ok (commanding source.0 target keys (ask_by verb (drop 4 words) keys.order))
 
 -- the words of the notices, each long or short
 abbrev pub notice_of : List ℕ → Option Notice
@@ -199,6 +203,10 @@ HasFewClauses (Drawn number clauses) = clauses ≤ 100000
 abbrev pub AsksForFewClauses : Request → Type 0
 AsksForFewClauses (requests.Notice notice) = ⊤
 AsksForFewClauses (requests.Command command) = HasFewClauses command.origin
+
+-- a command is asked for
+abbrev pub by_command : Command → Result Request ℕ
+by_command command = Ok (requests.Command command)
 
 -- what the given words ask for
 abbrev pub asked : {A : Type 0} → List (String A) → Result Request ℕ

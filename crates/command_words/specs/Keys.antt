@@ -21,8 +21,6 @@ use Rattle.command_words.specs.declared.commands.Slack.{Slack}
 use Rattle.command_words.specs.declared.commands.Slack.TheVariants.{Bits, Pairs, Clauses}
 use Rattle.command_words.specs.declared.commands.Verb.{Verb}
 use Rattle.command_words.specs.declared.commands.Verb.TheVariants as verbs
-use Rattle.command_words.specs.declared.commands.WordAt.{WordAt}
-use Rattle.command_words.specs.declared.commands.WordAt.TheVariants.{Value}
 use Rattle.command_words.specs.declared.commands.Chaining.{Chaining}
 use Rattle.command_words.specs.declared.commands.Chaining.TheVariants.{Clique, Map}
 use Rattle.command_words.specs.declared.commands.ChainStrength.{ChainStrength}
@@ -95,10 +93,10 @@ abbrev pub graph_of : Keys → Option graphs.Chimera
 graph_of keys =
     given keys.rows (λ rows. given keys.cols (λ cols. given keys.shore (graph_with rows cols)))
 
--- the place of the name of a map of chains
-abbrev pub map_at : Chaining → Option WordAt
-map_at Clique = None
-map_at (Map at) = Some at
+-- the name of a map of chains, unless they are those of a clique
+abbrev pub map_of : Chaining → Option (List ℕ)
+map_of Clique = None
+map_of (Map name) = Some name
 
 -- The ground that a word and the keys choose, or none where a key is missing that it needs, or the
 -- graph were too large. A Chimera graph needs its rows, its columns, its shore, and chains, and a
@@ -107,10 +105,10 @@ abbrev pub ground_by : TargetWord → Keys → Option Ground
 ground_by (Nodes model) keys = None
 ground_by Chimera keys =
     given (graph_of keys) (λ graph.
-    given keys.chains (λ chains. Some (grounds.Chimera graph keys.dead chains)))
+    given keys.chains (λ chains. Some (grounds.Chimera graph keys.dead (map_of chains))))
 ground_by Graph keys =
     given keys.graph (λ graph.
-    given (given keys.chains map_at) (λ map. Some (grounds.Listed graph map)))
+    given (given keys.chains map_of) (λ map. Some (grounds.Listed graph map)))
 
 -- the target on a ground, with ties by the simple bound where none are given
 abbrev pub on_ground : (ground : Ground) → Option ChainStrength → Target
@@ -171,6 +169,10 @@ side_of value =
 abbrev pub embed_of : List ℕ → Option Chaining
 embed_of = listed ((codes "clique", Clique) ∷ [])
 
+-- the chains of the map in a file, whose name is any text
+abbrev pub map_named : List ℕ → Option Chaining
+map_named name = Some (Map name)
+
 -- the words of the ties of chains
 abbrev pub ties_of : List ℕ → Option ChainStrength
 ties_of = listed ((codes "choi", Choi) ∷ (codes "cut", Cut) ∷ [])
@@ -187,12 +189,12 @@ takes OnQubits verb Graph = true
 takes OnGraph verb Graph = true
 takes takers verb target = false
 
--- a key: who takes it, whether keys do not have it yet, and what keys become with a value of it,
--- whose word stands at an index, where it is one
+-- a key: who takes it, whether keys do not have it yet, and what keys become with a value of it, where
+-- it is one
 pub record Key : Type 0 where
   pub takers : Takers
   pub is_free : Keys → Bool
-  pub put : ℕ → List ℕ → Option (Keys → Keys)
+  pub put : List ℕ → Option (Keys → Keys)
 
 -- the key that chooses a field of keys by a value of its own
 abbrev pub key : {A B : Type 0} → Takers → (Keys → Option A) → (List ℕ → Option B)
@@ -200,16 +202,12 @@ abbrev pub key : {A B : Type 0} → Takers → (Keys → Option A) → (List ℕ
 key takers field value put = record {
   takers = takers;
   is_free = λ keys. is_none (field keys);
-  put = λ at text. option_map put (value text);
+  put = λ text. option_map put (value text);
 }
 
--- the key that chooses it by a file, whose name is any text
-abbrev pub file_key : {A : Type 0} → Takers → (Keys → Option A) → (WordAt → Keys → Keys) → Key
-file_key takers field put = record {
-  takers = takers;
-  is_free = λ keys. is_none (field keys);
-  put = λ at text. Some (put (Value at));
-}
+-- the name of a file, which is any text
+abbrev pub file_of : List ℕ → Option (List ℕ)
+file_of = Some
 
 -- The keys, each with its name. `embed` and `map` both choose the chains, so one of them keeps out
 -- the other.
@@ -221,39 +219,38 @@ key_table =
     ∷ (codes "bound", key All (λ k. k.bound) bound_of (λ x k. record k { bound = Some x }))
     ∷ (codes "slack", key All (λ k. k.slack) slack_of (λ x k. record k { slack = Some x }))
     ∷ (codes "penalty", key All (λ k. k.penalty) penalty_of (λ x k. record k { penalty = Some x }))
-    ∷ (codes "order", file_key Solver (λ k. k.order) (λ x k. record k { order = Some x }))
+    ∷ (codes "order", key Solver (λ k. k.order) file_of (λ x k. record k { order = Some x }))
     ∷ (codes "rows", key OnChimera (λ k. k.rows) side_of (λ x k. record k { rows = Some x }))
     ∷ (codes "cols", key OnChimera (λ k. k.cols) side_of (λ x k. record k { cols = Some x }))
     ∷ (codes "shore", key OnChimera (λ k. k.shore) side_of (λ x k. record k { shore = Some x }))
-    ∷ (codes "dead", file_key OnChimera (λ k. k.dead) (λ x k. record k { dead = Some x }))
+    ∷ (codes "dead", key OnChimera (λ k. k.dead) file_of (λ x k. record k { dead = Some x }))
     ∷ (codes "embed", key OnChimera (λ k. k.chains) embed_of (λ x k. record k { chains = Some x }))
-    ∷ (codes "map", file_key OnQubits (λ k. k.chains) (λ x k. record k { chains = Some (Map x) }))
+    ∷ (codes "map", key OnQubits (λ k. k.chains) map_named (λ x k. record k { chains = Some x }))
     ∷ (codes "chain", key OnQubits (λ k. k.ties) ties_of (λ x k. record k { ties = Some x }))
-    ∷ (codes "graph", file_key OnGraph (λ k. k.graph) (λ x k. record k { graph = Some x }))
+    ∷ (codes "graph", key OnGraph (λ k. k.graph) file_of (λ x k. record k { graph = Some x }))
     ∷ []
 
--- The keys with a value of a key more, whose word stands at an index, or none where verb or target
--- do not take the key, it is given already, or the value is none of it. So the second word of a key
--- is the one that cannot stand.
-abbrev pub with_key : Verb → TargetWord → Keys → ℕ → List ℕ → Key → Option Keys
-with_key verb target keys at value key =
+-- The keys with a value of a key more, or none where verb or target do not take the key, it is given
+-- already, or the value is none of it. So the second word of a key is the one that cannot stand.
+abbrev pub with_key : Verb → TargetWord → Keys → List ℕ → Key → Option Keys
+with_key verb target keys value key =
     if takes key.takers verb target && key.is_free keys
-    then option_map (λ put. put keys) (key.put at value)
+    then option_map (λ put. put keys) (key.put value)
     else None
 
 -- the keys with that of one name and value more, or none where there is no such key
-abbrev pub with_pair : Verb → TargetWord → Keys → ℕ → List ℕ → List ℕ → Option Keys
-with_pair verb target keys at name value =
-    option_and_then (with_key verb target keys at value) (listed key_table name)
+abbrev pub with_pair : Verb → TargetWord → Keys → List ℕ → List ℕ → Option Keys
+with_pair verb target keys name value =
+    option_and_then (with_key verb target keys value) (listed key_table name)
 
 -- the keys with that of one word more, or none where the word cannot stand
-abbrev pub with_word : Verb → TargetWord → Keys → ℕ → List ℕ → Option Keys
-with_word verb target keys at word =
-    option_and_then (λ parts. with_pair verb target keys at parts.0 parts.1) (cut word)
+abbrev pub with_word : Verb → TargetWord → Keys → List ℕ → Option Keys
+with_word verb target keys word =
+    option_and_then (λ parts. with_pair verb target keys parts.0 parts.1) (cut word)
 
 -- the keys of words from an index on, or the position of the first word that cannot stand
 abbrev pub keys_from : Verb → TargetWord → Keys → ℕ → List (List ℕ) → Result Keys ℕ
 keys_from verb target keys at [] = Ok keys
 keys_from verb target keys at (word ∷ words) =
     option_map_or (λ more. keys_from verb target more (at + 1) words)
-    (with_word verb target keys at word) (Err (at + 1))
+    (with_word verb target keys word) (Err (at + 1))

@@ -1,7 +1,8 @@
-//! Commands. All of one is `Copy`, since a name stands in it as its place in the words.
+//! Commands. The names of files stand in one as they do in the words.
 ghost use Rattle.std.specs.Prelude.{◌≡◌, ◌<◌, ◌^◌, IfSome, unsigned_abs};
 ghost use Rattle.command_words.specs.Bounds.{most_of, number_of};
 
+use crate::name::Name;
 use base::UnitChoice;
 use chimera_graph::Chimera;
 use form_steps::PenaltyScope;
@@ -25,12 +26,12 @@ pub enum NodeModel {
     Ising,
 }
 
-/// How the nodes of a form get chains of the qubits of a Chimera graph: as those of a clique, or by
-/// the map in a file of this name.
-#[derive(Clone, Copy, Debug, PartialEq, Eq)]
-pub enum Chaining {
+/// What a key says of the chains of the nodes of a form: they are those of a clique, or of the map in
+/// a file of this name.
+#[derive(Drop)]
+pub enum Chaining<'a> {
     Clique,
-    Map(WordAt),
+    Map(Name<'a>),
 }
 
 /// How strongly the qubits of a chain are tied: by the simple bound of Choi, which is one for the
@@ -42,33 +43,33 @@ pub enum ChainStrength {
 }
 
 /// The qubits of a graph, and how the nodes of a form get chains of them: those of a Chimera graph
-/// without those in a file of dead ones, where there is one, or those of a graph in a file, with the
-/// map in another.
-#[derive(Clone, Copy, Debug, PartialEq, Eq)]
-pub enum Ground {
+/// without those in a file of dead ones, where there is one, with the map in a file or else the chains
+/// of a clique, or those of a graph in a file, with the map in another.
+#[derive(PartialEq, Eq, Drop)]
+pub enum Ground<'a> {
     Chimera {
         graph: Chimera,
-        dead: Option<WordAt>,
-        chains: Chaining,
+        dead: Option<Name<'a>>,
+        map: Option<Name<'a>>,
     },
     Listed {
-        graph: WordAt,
-        map: WordAt,
+        graph: Name<'a>,
+        map: Name<'a>,
     },
 }
 
 /// The qubits of a graph with chains of them, and how these are tied.
-#[derive(Clone, Copy, Debug, PartialEq, Eq)]
-pub struct Board {
-    pub ground: Ground,
+#[derive(PartialEq, Eq, Drop)]
+pub struct Board<'a> {
+    pub ground: Ground<'a>,
     pub ties: ChainStrength,
 }
 
 /// What a model stands on: the nodes of a form, or the qubits of a graph.
-#[derive(Clone, Copy, Debug, PartialEq, Eq)]
-pub enum Target {
+#[derive(PartialEq, Eq, Drop)]
+pub enum Target<'a> {
     Nodes(NodeModel),
-    Qubits(Board),
+    Qubits(Board<'a>),
 }
 
 /// What the word of a target says.
@@ -77,13 +78,6 @@ pub enum TargetWord {
     Nodes(NodeModel),
     Chimera,
     Graph,
-}
-
-/// A text in the words: the word at an index, or what stands in it after its first `=`.
-#[derive(Clone, Copy, Debug, PartialEq, Eq)]
-pub enum WordAt {
-    Whole(usize),
-    Value(usize),
 }
 
 /// How conflicts, the constraints of which no two products may miss, and covers, those that one
@@ -126,10 +120,10 @@ pub fn most_of(bound: Option<Bound>) -> Option<i128>
 }
 
 /// Where a source comes from.
-#[derive(Clone, Copy, Debug, PartialEq, Eq)]
-pub enum Origin {
+#[derive(PartialEq, Eq, Drop)]
+pub enum Origin<'a> {
     /// A file of this name, in this format.
-    File(Format, WordAt),
+    File(Format, Name<'a>),
     /// The text that a number draws, with so many clauses.
     Drawn(u64, u64),
 }
@@ -147,41 +141,54 @@ pub enum Verb {
     Prove,
 }
 
-/// What is asked of the model of a source.
+/// What is asked that the model of a source alone tells.
 #[derive(Clone, Copy, Debug, PartialEq, Eq)]
-pub enum Ask {
+pub enum Make {
     /// The model itself.
     Model,
     /// Its summary.
     Summary,
     /// Its summary, the variables of the source, and the sizes of its weights.
     Size,
+}
+
+/// What is asked of a state of a model, or of an assignment of its source.
+#[derive(PartialEq, Eq, Drop)]
+pub enum OfState<'a> {
+    /// The assignment of the source that the state stands for.
+    Decode,
+    /// The state that the assignment extends to.
+    Extend,
+    /// Whether the state is a least one, by the certificate in the file of this name.
+    Prove(Name<'a>),
+}
+
+/// What is asked of the model of a source.
+#[derive(PartialEq, Eq, Drop)]
+pub enum Ask<'a> {
+    /// What it alone tells.
+    Make(Make),
     /// Its first least state, and what that tells of the source; by the order of elimination in the
     /// file of this name, where there is one.
-    Solve(Option<WordAt>),
-    /// The assignment of the source that a state of it, in the file of this name, stands for.
-    Decode(WordAt),
+    Solve(Option<Name<'a>>),
     /// What each of the states of it, in the file of this name, stands for, and the best of them.
-    Evaluate(WordAt),
-    /// The state of it that an assignment of the source, in the file of this name, extends to.
-    Extend(WordAt),
-    /// Whether a state of it, in the file of the first name, is a least one, by the certificate in
-    /// the file of the second.
-    Prove(WordAt, WordAt),
+    Evaluate(Name<'a>),
+    /// What the state or the assignment in the file of this name is asked for.
+    State(Name<'a>, OfState<'a>),
 }
 
 /// What a run does: a source, the most that an assignment of it may cost, how it becomes a model,
 /// whose penalties are of this scope, and what is asked of that model.
-#[derive(Clone, Copy, Debug, PartialEq, Eq)]
-pub struct Command {
-    pub origin: Origin,
-    pub target: Target,
+#[derive(PartialEq, Eq, Drop)]
+pub struct Command<'a> {
+    pub origin: Origin<'a>,
+    pub target: Target<'a>,
     pub choices: Choices,
     pub unit: UnitChoice,
     pub bound: Option<Bound>,
     pub slack: Slack,
     pub penalty: PenaltyScope,
-    pub ask: Ask,
+    pub ask: Ask<'a>,
 }
 
 /// What the program tells of itself: its help, or its version.
@@ -192,8 +199,8 @@ pub enum Notice {
 }
 
 /// What the words of a run ask for.
-#[derive(Clone, Copy, Debug, PartialEq, Eq)]
-pub enum Request {
+#[derive(PartialEq, Eq, Drop)]
+pub enum Request<'a> {
     Notice(Notice),
-    Command(Command),
+    Command(Command<'a>),
 }

@@ -1,10 +1,11 @@
 //! The keys of a command, in any order, each at most once: words of the form `NAME=VALUE`.
 ghost use Rattle.std.specs.Prelude.{◌≡◌, ◌+◌, ◌<◌, ◌^◌, ◌&&◌, length, map, string_bytes, Some, None, MatchOption, is_none, if◌then◌else◌};
-ghost use Rattle.command_words.specs.Keys.{bound_of, cut, embed_of, graph_of, ground_by, high_of, keys_from, map_at, no_keys, normal_of, penalty_of, side_of, slack_of, takes, target_by, ties_of, unit_of, with_pair, with_word};
+ghost use Rattle.command_words.specs.Keys.{bound_of, cut, embed_of, graph_of, ground_by, high_of, keys_from, map_of, no_keys, normal_of, penalty_of, side_of, slack_of, takes, target_by, ties_of, unit_of, with_pair, with_word};
 
 use crate::commands::{
-    Board, Bound, ChainStrength, Chaining, Ground, Slack, Target, TargetWord, Verb, WordAt,
+    Board, Bound, ChainStrength, Chaining, Ground, Slack, Target, TargetWord, Verb,
 };
+use crate::name::{Name, again};
 use base::UnitChoice;
 use chimera_graph::Chimera;
 use form_steps::PenaltyScope;
@@ -15,22 +16,22 @@ use whole_text::digits;
 const MOST_SIDE: u64 = 1 << 20;
 
 /// The keys that were given, each with its value.
-#[derive(Clone, Copy)]
-pub struct Keys {
+#[derive(Drop)]
+pub struct Keys<'a> {
     pub normal: Option<Normal>,
     pub high: Option<High>,
     pub unit: Option<UnitChoice>,
     pub bound: Option<Bound>,
     pub slack: Option<Slack>,
     pub penalty: Option<PenaltyScope>,
-    pub order: Option<WordAt>,
+    pub order: Option<Name<'a>>,
     pub rows: Option<u32>,
     pub cols: Option<u32>,
     pub shore: Option<u32>,
-    pub dead: Option<WordAt>,
-    pub chains: Option<Chaining>,
+    pub dead: Option<Name<'a>>,
+    pub chains: Option<Chaining<'a>>,
     pub ties: Option<ChainStrength>,
-    pub graph: Option<WordAt>,
+    pub graph: Option<Name<'a>>,
 }
 
 /// The commands that take a key: all, those with a verb, or those with a target.
@@ -57,7 +58,7 @@ fn takes(takers: Takers, verb: Verb, target: TargetWord) -> bool
 }
 
 /// No key is given.
-pub(crate) fn no_keys() -> Keys
+pub(crate) fn no_keys<'a>() -> Keys<'a>
     ensures { result ≡ no_keys }
 {
     Keys {
@@ -79,8 +80,8 @@ pub(crate) fn no_keys() -> Keys
 }
 
 /// The graph that the keys choose, or none where a number is missing or it were too large.
-fn graph_of(keys: Keys) -> Option<Chimera>
-    ensures { result ≡ graph_of keys }
+fn graph_of(keys: &Keys<'_>) -> Option<Chimera>
+    ensures { result ≡ graph_of keys.now }
 {
     let rows = keys.rows?;
     let cols = keys.cols?;
@@ -88,43 +89,43 @@ fn graph_of(keys: Keys) -> Option<Chimera>
     Chimera::new(rows, cols, shore)
 }
 
-/// The place of the name of a map of chains.
-pub(crate) fn map_at(chains: Chaining) -> Option<WordAt>
-    ensures { result ≡ map_at chains }
+/// The name of the map of chains, unless they are those of a clique.
+fn map_of<'a>(chains: &Chaining<'a>) -> Option<Name<'a>>
+    ensures { result ≡ map_of chains.now }
 {
     match chains {
         Chaining::Clique => None,
-        Chaining::Map(at) => Some(at),
+        Chaining::Map(name) => Some(name.again()),
     }
 }
 
 /// The ground that a word and the keys choose, or none where a key is missing that it needs, or the
 /// graph were too large.
-fn ground_by(target: TargetWord, keys: Keys) -> Option<Ground>
-    ensures { result ≡ ground_by target keys }
+fn ground_by<'a>(target: TargetWord, keys: &Keys<'a>) -> Option<Ground<'a>>
+    ensures { result ≡ ground_by target keys.now }
 {
     match target {
         TargetWord::Nodes(_) => None,
         TargetWord::Chimera => {
             let graph = graph_of(keys)?;
-            let chains = keys.chains?;
+            let chains = keys.chains.as_ref()?;
             Some(Ground::Chimera {
                 graph,
-                dead: keys.dead,
-                chains,
+                dead: again(&keys.dead),
+                map: map_of(chains),
             })
         }
         TargetWord::Graph => {
-            let graph = keys.graph?;
-            let map = map_at(keys.chains?)?;
+            let graph = again(&keys.graph)?;
+            let map = map_of(keys.chains.as_ref()?)?;
             Some(Ground::Listed { graph, map })
         }
     }
 }
 
 /// The target that a word and the keys choose, or none where its ground is.
-pub(crate) fn target_by(target: TargetWord, keys: Keys) -> Option<Target>
-    ensures { result ≡ target_by target keys }
+pub(crate) fn target_by<'a>(target: TargetWord, keys: &Keys<'a>) -> Option<Target<'a>>
+    ensures { result ≡ target_by target keys.now }
 {
     match target {
         TargetWord::Nodes(model) => Some(Target::Nodes(model)),
@@ -234,7 +235,7 @@ fn side_of(value: &str) -> Option<u32>
     }
 }
 
-fn embed_of(value: &str) -> Option<Chaining>
+fn embed_of(value: &str) -> Option<Chaining<'_>>
     ensures { result ≡ embed_of value.now }
 {
     match value {
@@ -254,8 +255,8 @@ fn ties_of(value: &str) -> Option<ChainStrength>
 }
 
 /// The value of a key: none where it is not taken, or there is one already.
-fn once<T: Copy>(taken: bool, given: Option<T>, value: Option<T>) -> Option<T>
-    ensures { result ≡ (if taken && is_none given then value else None) }
+fn once<T: Drop>(taken: bool, given: &Option<T>, value: Option<T>) -> Option<T>
+    ensures { result ≡ (if taken && is_none given.now then value else None) }
 {
     match given {
         None if taken => value,
@@ -263,73 +264,67 @@ fn once<T: Copy>(taken: bool, given: Option<T>, value: Option<T>) -> Option<T>
     }
 }
 
-/// The table of keys: the keys with one more, whose word stands at the index `at`, or none where
-/// it cannot stand.
-fn with_pair(
+/// The table of keys: the keys with one more, or none where it cannot stand.
+fn with_pair<'a>(
     verb: Verb,
     target: TargetWord,
-    mut keys: Keys,
-    at: usize,
+    mut keys: Keys<'a>,
     name: &str,
-    value: &str,
-) -> Option<Keys>
-    ensures { result ≡ with_pair verb target keys at name.now value.now }
+    value: &'a str,
+) -> Option<Keys<'a>>
+    ensures { result ≡ with_pair verb target keys.entry name.now value.now }
 {
     let solve = takes(Takers::Solver, verb, target);
     let chimera = takes(Takers::OnChimera, verb, target);
     let qubits = takes(Takers::OnQubits, verb, target);
     let graph = takes(Takers::OnGraph, verb, target);
-    let file = WordAt::Value(at);
+    let file = Name::new(value);
     match name {
-        "normal" => keys.normal = Some(once(true, keys.normal, normal_of(value))?),
-        "high" => keys.high = Some(once(true, keys.high, high_of(value))?),
-        "unit" => keys.unit = Some(once(true, keys.unit, unit_of(value))?),
-        "bound" => keys.bound = Some(once(true, keys.bound, bound_of(value))?),
-        "slack" => keys.slack = Some(once(true, keys.slack, slack_of(value))?),
-        "penalty" => keys.penalty = Some(once(true, keys.penalty, penalty_of(value))?),
-        "order" => keys.order = Some(once(solve, keys.order, Some(file))?),
-        "rows" => keys.rows = Some(once(chimera, keys.rows, side_of(value))?),
-        "cols" => keys.cols = Some(once(chimera, keys.cols, side_of(value))?),
-        "shore" => keys.shore = Some(once(chimera, keys.shore, side_of(value))?),
-        "dead" => keys.dead = Some(once(chimera, keys.dead, Some(file))?),
-        "embed" => keys.chains = Some(once(chimera, keys.chains, embed_of(value))?),
-        "map" => keys.chains = Some(once(qubits, keys.chains, Some(Chaining::Map(file)))?),
-        "chain" => keys.ties = Some(once(qubits, keys.ties, ties_of(value))?),
-        "graph" => keys.graph = Some(once(graph, keys.graph, Some(file))?),
+        "normal" => keys.normal = Some(once(true, &keys.normal, normal_of(value))?),
+        "high" => keys.high = Some(once(true, &keys.high, high_of(value))?),
+        "unit" => keys.unit = Some(once(true, &keys.unit, unit_of(value))?),
+        "bound" => keys.bound = Some(once(true, &keys.bound, bound_of(value))?),
+        "slack" => keys.slack = Some(once(true, &keys.slack, slack_of(value))?),
+        "penalty" => keys.penalty = Some(once(true, &keys.penalty, penalty_of(value))?),
+        "order" => keys.order = Some(once(solve, &keys.order, Some(file))?),
+        "rows" => keys.rows = Some(once(chimera, &keys.rows, side_of(value))?),
+        "cols" => keys.cols = Some(once(chimera, &keys.cols, side_of(value))?),
+        "shore" => keys.shore = Some(once(chimera, &keys.shore, side_of(value))?),
+        "dead" => keys.dead = Some(once(chimera, &keys.dead, Some(file))?),
+        "embed" => keys.chains = Some(once(chimera, &keys.chains, embed_of(value))?),
+        "map" => keys.chains = Some(once(qubits, &keys.chains, Some(Chaining::Map(file)))?),
+        "chain" => keys.ties = Some(once(qubits, &keys.ties, ties_of(value))?),
+        "graph" => keys.graph = Some(once(graph, &keys.graph, Some(file))?),
         _ => return None,
     }
     Some(keys)
 }
 
 /// The keys with that of one word more, or none where the word cannot stand.
-fn with_word(verb: Verb, target: TargetWord, keys: Keys, at: usize, word: &str) -> Option<Keys>
-    ensures { result ≡ with_word verb target keys at word.now }
+fn with_word<'a>(verb: Verb, target: TargetWord, keys: Keys<'a>, word: &'a str) -> Option<Keys<'a>>
+    ensures { result ≡ with_word verb target keys.entry word.now }
 {
     let (name, value) = cut(word)?;
-    with_pair(verb, target, keys, at, name, value)
+    with_pair(verb, target, keys, name, value)
 }
 
-/// The keys of words of which the first stands at the index `first`, or the position of the first
-/// word that cannot stand, counted from 1.
-pub(crate) fn keys_from(
+/// The keys with those of words from the index `at` on, or the position of the first word that cannot
+/// stand, counted from 1. At most one word a key goes on.
+pub(crate) fn keys_from<'a>(
     verb: Verb,
     target: TargetWord,
-    first: usize,
-    words: &[String],
-) -> Result<Keys, usize>
-    requires { first + length words.now < 2 ^ 64 }
-    ensures { result ≡ keys_from verb target no_keys first (map string_bytes words.now) }
+    keys: Keys<'a>,
+    at: usize,
+    words: &'a [String],
+) -> Result<Keys<'a>, usize>
+    requires { at + length words.now < 2 ^ 64 }
+    ensures { result ≡ keys_from verb target keys.entry at (map string_bytes words.now) }
 {
-    let mut keys = no_keys();
-    let mut at = first;
-    let mut left = words;
-    while let [word, rest @ ..] = left {
-        match with_word(verb, target, keys, at, word.as_str()) {
-            Some(more) => keys = more,
-            None => return Err(at + 1),
+    match words {
+        [] => Ok(keys),
+        [word, rest @ ..] => {
+            let more = with_word(verb, target, keys, word.as_str()).ok_or(at + 1)?;
+            keys_from(verb, target, more, at + 1, rest)
         }
-        at += 1;
-        left = rest;
     }
-    Ok(keys)
 }

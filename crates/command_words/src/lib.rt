@@ -5,15 +5,17 @@
 mod commands;
 mod keys;
 mod laws;
+mod name;
 mod names;
 mod notices;
 mod words;
 
 pub use commands::{
-    Ask, Board, Bound, ChainStrength, Chaining, Command, Format, Ground, NodeModel, Notice, Origin,
-    Request, Slack, Target, WordAt, most_of,
+    Ask, Board, Bound, ChainStrength, Command, Format, Ground, Make, NodeModel, Notice, OfState,
+    Origin, Request, Slack, Target, most_of,
 };
 pub use laws::{laws_of_words, positions_tell_the_first};
-pub use names::{Which, name_of, text_at};
+pub use name::Name;
+pub use names::{Which, name_of, named};
 pub use notices::notice_text;
 pub use words::request;

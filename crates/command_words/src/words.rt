@@ -1,14 +1,14 @@
 //! The words of a command, one after another. Nothing here takes memory.
-ghost use Rattle.std.specs.Prelude.{◌≡◌, ◌<◌, ◌≤◌, ◌^◌, IfOk, IfSome, length, map, drop, string_bytes};
+ghost use Rattle.std.specs.Prelude.{◌≡◌, ◌<◌, ◌≤◌, ◌^◌, Some, None, MatchOption, IfOk, IfSome, length, map, drop, slice_get, string_bytes};
 ghost use Rattle.whole_text.specs.Numbers.{digits_number};
-ghost use Rattle.command_words.specs.Commands.{HasFewClauses, AsksForFewClauses, alone, ask_by, chosen_target, clauses_of, command_of, drawn_words, file_words, first_key, first_notice, format_of, named, notice_of, request_of, source_words, target_of, valued, verb_of};
+ghost use Rattle.command_words.specs.Commands.{HasFewClauses, AsksForFewClauses, alone, ask_by, chosen_target, clauses_of, command_of, drawn_words, file_at, file_words, first_key, first_notice, format_of, named, notice_of, request_of, source_words, target_of, valued, verb_of};
 
 use crate::commands::{
-    Ask, Command, Format, NodeModel, Notice, Origin, Request, Slack, Target, TargetWord, Verb,
-    WordAt,
+    Ask, Command, Format, Make, NodeModel, Notice, OfState, Origin, Request, Slack, Target,
+    TargetWord, Verb,
 };
-use crate::keys::{Keys, keys_from, target_by};
-use crate::names::word_at;
+use crate::keys::{Keys, keys_from, no_keys, target_by};
+use crate::name::{Name, again};
 use base::UnitChoice;
 use form_steps::PenaltyScope;
 use problem_form::{Choices, High, Normal};
@@ -56,6 +56,18 @@ fn target_of(word: &str) -> Option<TargetWord>
         "chimera" => Some(TargetWord::Chimera),
         "graph" => Some(TargetWord::Graph),
         _ => None,
+    }
+}
+
+/// The word at an index, where there is one.
+fn word_at(words: &[String], i: usize) -> Option<&str>
+    ensures { MatchOption result
+        (slice_get (map string_bytes words.now) i ≡ None)
+        (λ word. slice_get (map string_bytes words.now) i ≡ Some word.now) }
+{
+    match words.get(i) {
+        Some(word) => Some(word.as_str()),
+        None => None,
     }
 }
 
@@ -120,14 +132,24 @@ fn clauses_word(words: &[String]) -> Result<u64, usize>
     }
 }
 
-/// The name that is the whole word at an index.
-fn named(words: &[String], i: usize) -> Result<WordAt, usize>
+/// The name that is the word at an index.
+fn named(words: &[String], i: usize) -> Result<Name<'_>, usize>
     requires { i < 2 ^ 32 }
     ensures { result ≡ named (map string_bytes words.now) i }
 {
     match word_at(words, i) {
-        Some(_) => Ok(WordAt::Whole(i)),
+        Some(word) => Ok(Name::new(word)),
         None => Err(i + 1),
+    }
+}
+
+/// The same, and an empty name where the word is missing.
+fn name_at(words: &[String], i: usize) -> Name<'_>
+    ensures { result ≡ file_at (map string_bytes words.now) i }
+{
+    match word_at(words, i) {
+        Some(word) => Name::new(word),
+        None => Name::new(""),
     }
 }
 
@@ -155,7 +177,7 @@ fn first_key(verb: Verb) -> usize
 }
 
 /// The words FORMAT TARGET FILE.
-fn file_words(words: &[String]) -> Result<(Origin, TargetWord), usize>
+fn file_words(words: &[String]) -> Result<(Origin<'_>, TargetWord), usize>
     ensures said { result ≡ file_words (map string_bytes words.now) }
     ensures few { IfOk result (λ source. HasFewClauses source.0) }
 {
@@ -166,7 +188,7 @@ fn file_words(words: &[String]) -> Result<(Origin, TargetWord), usize>
 }
 
 /// The words NUMBER CLAUSES TARGET.
-fn drawn_words(words: &[String]) -> Result<(Origin, TargetWord), usize>
+fn drawn_words(words: &[String]) -> Result<(Origin<'_>, TargetWord), usize>
     ensures said { result ≡ drawn_words (map string_bytes words.now) }
     ensures few { IfOk result (λ source. HasFewClauses source.0) }
 {
@@ -178,7 +200,7 @@ fn drawn_words(words: &[String]) -> Result<(Origin, TargetWord), usize>
 
 /// The source and the word of its target: FORMAT TARGET FILE, or NUMBER CLAUSES TARGET for a
 /// source that is drawn.
-fn source_words(verb: Verb, words: &[String]) -> Result<(Origin, TargetWord), usize>
+fn source_words(verb: Verb, words: &[String]) -> Result<(Origin<'_>, TargetWord), usize>
     ensures said { result ≡ source_words verb (map string_bytes words.now) }
     ensures few { IfOk result (λ source. HasFewClauses source.0) }
 {
@@ -189,32 +211,32 @@ fn source_words(verb: Verb, words: &[String]) -> Result<(Origin, TargetWord), us
 }
 
 /// What a verb asks of the model of a source, by the words behind FILE.
-fn ask_by(verb: Verb, order: Option<WordAt>) -> Ask
-    ensures { result ≡ ask_by verb order }
+fn ask_by<'a>(verb: Verb, files: &'a [String], order: Option<Name<'a>>) -> Ask<'a>
+    ensures { result ≡ ask_by verb (map string_bytes files.now) order.entry }
 {
-    let first = WordAt::Whole(4);
+    let file = name_at(files, 0);
     match verb {
-        Verb::Compile => Ask::Model,
-        Verb::Size => Ask::Size,
-        Verb::Sample => Ask::Summary,
+        Verb::Compile => Ask::Make(Make::Model),
+        Verb::Size => Ask::Make(Make::Size),
+        Verb::Sample => Ask::Make(Make::Summary),
         Verb::Solve => Ask::Solve(order),
-        Verb::Decode => Ask::Decode(first),
-        Verb::Evaluate => Ask::Evaluate(first),
-        Verb::Extend => Ask::Extend(first),
-        Verb::Prove => Ask::Prove(first, WordAt::Whole(5)),
+        Verb::Evaluate => Ask::Evaluate(file),
+        Verb::Decode => Ask::State(file, OfState::Decode),
+        Verb::Extend => Ask::State(file, OfState::Extend),
+        Verb::Prove => Ask::State(file, OfState::Prove(name_at(files, 1))),
     }
 }
 
 /// The target that a word and the keys choose, or the position after all words where a word behind
 /// FILE or a key that it needs is missing, or the graph were too large.
-fn chosen_target(
+fn chosen_target<'a>(
     verb: Verb,
     words: &[String],
     target: TargetWord,
-    keys: Keys,
-) -> Result<Target, usize>
+    keys: &Keys<'a>,
+) -> Result<Target<'a>, usize>
     requires { length words.now < 2 ^ 60 }
-    ensures { result ≡ chosen_target verb (map string_bytes words.now) target keys }
+    ensures { result ≡ chosen_target verb (map string_bytes words.now) target keys.now }
 {
     let missing = words.len() + 1;
     if words.len() < first_key(verb) {
@@ -226,15 +248,15 @@ fn chosen_target(
 /// The command of the words, or the position of the first word that cannot stand, counted from 1;
 /// where no word is wrong but one is missing, or the graph were too large, it is the number of
 /// words and one.
-fn command(words: &[String]) -> Result<Command, usize>
+fn command(words: &[String]) -> Result<Command<'_>, usize>
     ensures asked { result ≡ command_of (map string_bytes words.now) }
     ensures few { IfOk result (λ command. HasFewClauses command.origin) }
 {
     let verb = verb_word(words)?;
     let (origin, word) = source_words(verb, words)?;
     let first = first_key(verb);
-    let keys = keys_from(verb, word, first, words_from(words, first))?;
-    let target = chosen_target(verb, words, word, keys)?;
+    let keys = keys_from(verb, word, no_keys(), first, words_from(words, first))?;
+    let target = chosen_target(verb, words, word, &keys)?;
     Ok(Command {
         origin,
         target,
@@ -246,7 +268,7 @@ fn command(words: &[String]) -> Result<Command, usize>
         bound: keys.bound,
         slack: keys.slack.unwrap_or(Slack::Bits),
         penalty: keys.penalty.unwrap_or(PenaltyScope::Global),
-        ask: ask_by(verb, keys.order),
+        ask: ask_by(verb, words_from(words, 4), again(&keys.order)),
     })
 }
 
@@ -271,7 +293,7 @@ fn first_notice(words: &[String]) -> Option<Notice>
 }
 
 /// A notice that the first word names. A further word cannot stand.
-fn alone(words: &[String], notice: Notice) -> Result<Request, usize>
+fn alone(words: &[String], notice: Notice) -> Result<Request<'static>, usize>
     ensures { result ≡ alone (map string_bytes words.now) notice }
 {
     if words.len() == 1 {
@@ -284,7 +306,7 @@ fn alone(words: &[String], notice: Notice) -> Result<Request, usize>
 /// What the words ask for, or the position of the first word that cannot stand, counted from 1;
 /// where no word is wrong but one is missing, or the graph were too large, it is the number of
 /// words and one.
-pub fn request(words: &[String]) -> Result<Request, usize>
+pub fn request(words: &[String]) -> Result<Request<'_>, usize>
     ensures asked { result ≡ request_of (map string_bytes words.now) }
     ensures few { IfOk result AsksForFewClauses }
 {
