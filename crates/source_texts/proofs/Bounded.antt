@@ -1,6 +1,7 @@
 -- What stands for a source stands for it still where assignments of both may cost at most the same.
 use Rattle.source_texts.proofs.Common.{nat_tests, ◌≡◌, ℤ, None, Option, arith, subst, sym, Cost, Form, Source, Rewrites, ProblemContent, IsGlobal, cut_off, own_cost, lesser_of, upper, with_most, lesser_most, Read, bounded_read, StandsBounded, CostsAs}
 use Rattle.problem_form.specs.Problems as problems
+use Rattle.source_texts.specs.Prepared.{bounded_form}
 
 -- ---- the lesser of two bounds
 
@@ -14,11 +15,7 @@ lesser_of-lesser most own u = grind (arith, nat_tests)
 
 -- ---- forms
 
--- a form whose costs are cut off
-abbrev cut : Option ℤ → Form → Form
-cut most f = record { bits = f.bits; cost = λ x. cut_off most (f.cost x) }
-
-rewrites_cut : (most : Option ℤ) (f f' : Form) → Rewrites f f' → Rewrites (cut most f) (cut most f')
+rewrites_cut : (most : Option ℤ) (f f' : Form) → Rewrites f f' → Rewrites (bounded_form most f) (bounded_form most f')
 rewrites_cut most f f' r = record {
   more = r.more;
   bound = λ x w v whole. grind (arith, nat_tests);
@@ -26,7 +23,7 @@ rewrites_cut most f f' r = record {
 }
 
 -- a problem whose costs are cut off twice
-cut_twice : (most : Option ℤ) (p : ProblemContent) → cut most (problems.form_of p)
+pub cut_twice : (most : Option ℤ) (p : ProblemContent) → bounded_form most (problems.form_of p)
     ≡ problems.form_of (with_most p (lesser_most most p.most))
 cut_twice most p = λ i. record {
   bits = p.variables;
@@ -43,7 +40,7 @@ rewritten_stand s r variables bound alike rewrites most = record {
   variables = variables;
   own = omega (arith, variables, rewrites.more);
   upper = grind (arith, nat_tests, lesser_of-lesser);
-  rewrites = subst (Rewrites (cut most s.form)) (cut_twice most r.problem)
+  rewrites = subst (Rewrites (bounded_form most s.form)) (cut_twice most r.problem)
       (rewrites_cut most s.form (problems.form_of r.problem) rewrites);
   penalties = alike;
 }

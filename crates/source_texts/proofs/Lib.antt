@@ -2,6 +2,7 @@ pub mod Common
 pub mod Bounded
 pub mod Penalized
 pub mod Slacked
+pub mod Prepared
 pub mod Readings
 pub mod WcnfTexts
 pub mod OpbTexts

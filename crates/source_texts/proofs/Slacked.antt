@@ -3,7 +3,7 @@
 use Rattle.source_texts.proofs.Common.{nat_tests, arith, ◌≡◌, Bool, List, None, refl, ProblemContent, own_cost, with_most, CostsAlike, IsGlobal, covers-alike, without-alike, Slack, Read, slacked, with_slack, SlackedCostsAsSources, SlackedStandsForSources, KeepsSoft}
 use Rattle.command_words.specs.declared.commands.Slack.TheVariants.{Bits, Pairs, Clauses}
 
-slack-alike : (slack : Slack) (p : ProblemContent) → CostsAlike (with_slack slack p) p
+pub slack-alike : (slack : Slack) (p : ProblemContent) → CostsAlike (with_slack slack p) p
 slack-alike Bits p = record {
   variables = refl;
   most = refl;
@@ -19,7 +19,7 @@ slack-alike Clauses p = covers-alike p
 most-slack : (slack : Slack) (p : ProblemContent) → (with_slack slack p).most ≡ p.most
 most-slack slack p = (slack-alike slack p).most
 
-global-slack : (slack : Slack) (p : ProblemContent) → IsGlobal p → IsGlobal (with_slack slack p)
+pub global-slack : (slack : Slack) (p : ProblemContent) → IsGlobal p → IsGlobal (with_slack slack p)
 global-slack slack p global = grind (arith, nat_tests)
 
 -- without a most nothing is cut off

@@ -1,5 +1,5 @@
 -- WBO texts: the problems that they are rewritten to stand for what they say.
-use Rattle.source_texts.proofs.Common.{ℤ, ◌≤◌, Bool, Option, Some, sym, ap, ◌∙◌, subst, inl, inr, ◌⊎◌, Cost, Infinite, Whole, IsOf, Rewrites, ProblemContent, IsGlobal, cut_off, own_cost, problem_cost, WboContent, rewritten, extended, top_is_a_bound, KeepsSoft, rewritten_for, arith, nat_tests, ◌≡◌, List, Ok, refl, Word, ◌>>=◌, WboText, content_of, content_of_words, reading_keeps_costs_of_text, carries_assignments, content_is_normal, rewrites_its_text, Read, None, Slack, eased, StandsBounded, CostsAs}
+use Rattle.source_texts.proofs.Common.{ℤ, Bool, Option, sym, ap, ◌∙◌, subst, Cost, IsOf, Rewrites, ProblemContent, IsGlobal, cut_off, own_cost, problem_cost, WboContent, rewritten, extended, top_is_a_bound, rewritten_for, arith, nat_tests, ◌≡◌, List, Ok, refl, Word, ◌>>=◌, WboText, content_of, content_of_words, reading_keeps_costs_of_text, carries_assignments, content_is_normal, rewrites_its_text, Read, None, Slack, eased, StandsBounded, CostsAs}
 use Rattle.command_words.specs.declared.commands.Format.TheVariants as formats
 use Rattle.command_words.specs.declared.commands.Slack.TheVariants.{Bits, Pairs, Clauses}
 use Rattle.problem_form.specs.Problems as problems

@@ -21,7 +21,7 @@ use Rattle.problem_form.specs.NormalForm.{normal_form, with_most, with_penalties
 use Rattle.penalty_layer.specs.Penalty.{Allows}
 use Rattle.local_penalties.specs.Rounds.{penalties_of}
 use Rattle.conflict_clauses.specs.Conflicts.{without_conflicts, without_covers}
-use Rattle.problem_form.specs.Limits.{lesser_of, upper}
+use Rattle.problem_form.specs.Limits.{lesser_of, upper, lesser_most}
 use Rattle.command_words.specs.declared.commands.Format.{Format}
 use Rattle.command_words.specs.declared.commands.Format.TheVariants.{Wcnf, Opb, Wbo, Poly, Ising, Qubo}
 use Rattle.command_words.specs.declared.commands.Slack.{Slack}
@@ -39,7 +39,7 @@ use Rattle.entry_reader.specs.Entries as entries
 use Rattle.entry_reader.specs.Problems as entry_problems
 use Rattle.entry_reader.specs.Cost as entry_cost
 use Rattle.wbo_reader.specs.Wbo.{WboContent}
-use Rattle.wbo_reader.specs.Rewriting.{rewritten, rewritten_within, extended, lesser_most}
+use Rattle.wbo_reader.specs.Rewriting.{rewritten, rewritten_within, extended}
 use Rattle.wbo_reader.specs.Reading as wbo
 use Rattle.source_texts.specs.declared.reading.Read.{Read}
 

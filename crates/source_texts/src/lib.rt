@@ -6,6 +6,7 @@
 
 mod carrying;
 mod laws;
+mod preparing;
 mod reading;
 
 pub use carrying::{carried, cost_of};
@@ -13,4 +14,5 @@ pub use laws::{
     penalties_keep_sources, problems_cost_as_sources, problems_stand_for_sources,
     slack_keeps_sources, words_are_read_as_texts,
 };
+pub use preparing::{Preparation, PrepareAnswer, prepare};
 pub use reading::{Read, read_source, read_source_words, style_of};

@@ -3,7 +3,6 @@ ghost use Rattle.std.specs.Prelude.{◌≡◌, ◌<◌, ◌≤◌, ◌^◌, leng
 ghost use Rattle.local_penalties.specs.Kept.{IsWithinLimits};
 ghost use Rattle.whole_text.specs.Steps.{Gives};
 ghost use Rattle.whole_text.specs.TokenTexts.{words_of};
-ghost use Rattle.wbo_reader.specs.Rewriting.{lesser_most};
 ghost use Rattle.source_texts.specs.Sources.{
   AreEnoughIn,
   bounded_read,
@@ -16,15 +15,13 @@ ghost use Rattle.source_texts.specs.Sources.{
   problem_of_words,
   slacked,
   style_of,
-  with_slack,
 };
 
+use crate::preparing::{bound_costs, penalize, with_slack};
 use base::NoMemory;
 use command_words::{Format, Slack};
-use conflict_clauses::{without_conflicts, without_covers};
 use form_steps::PenaltyScope;
 use ising_file::read_ising_tokens;
-use local_penalties::local_penalties;
 use opb_reader::read_opb_tokens;
 use poly_reader::{Names, Polynomial, read_poly_tokens};
 use problem_form::Problem;
@@ -75,8 +72,7 @@ impl Read {
         ensures value { self.new ≡ bounded_read most self.old }
         ensures kept { KeepsSoft self.old → KeepsSoft self.new }
     {
-        let most = lesser_most(most, self.problem.most);
-        self.problem.cut_off(most);
+        bound_costs(&mut self.problem, most);
     }
 
     /// The same where the constraints of the problem get their slack so, which costs what it did. The
@@ -107,36 +103,7 @@ impl Read {
         ensures kept { KeepsSoft self.old → KeepsSoft self.new }
         ensures enough { OnOk result (AreEnoughIn scope self.new) }
     {
-        match scope {
-            PenaltyScope::Global => {}
-            PenaltyScope::Local => {
-                let penalties = local_penalties(alloc, &self.problem)?;
-                self.problem.set_penalties(penalties);
-            }
-        }
-        Ok(())
-    }
-}
-
-/// A problem whose constraints get their slack so: from bits alone, or with clauses in place of
-/// conflicts, or of conflicts and covers.
-fn with_slack(alloc: Global, slack: Slack, problem: Problem) -> Result<Problem, NoMemory>
-    ensures { IfOk result (λ given. given ≡ with_slack slack problem) }
-{
-    match slack {
-        Slack::Bits => Ok(problem),
-        Slack::Pairs => without_conflicts(alloc, problem),
-        Slack::Clauses => without_covers(alloc, problem),
-    }
-}
-
-/// The lesser of two bounds, where they are given.
-fn lesser_most(most: Option<i128>, own: Option<i128>) -> Option<i128>
-    ensures { result ≡ lesser_most most own }
-{
-    match (most, own) {
-        (Some(most), Some(own)) => Some(if most < own { most } else { own }),
-        (None, most) | (most, None) => most,
+        penalize(alloc, scope, &mut self.problem)
     }
 }
 
