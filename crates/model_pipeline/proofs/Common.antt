@@ -39,7 +39,7 @@ pub use Rattle.bits_model.specs.declared.output.Graph.{Graph}
 pub use Rattle.bits_model.specs.Output.{qubits_of}
 pub use Rattle.model_pipeline.specs.Sites.{chains_of, fabric_in, graph_in, in_numbers, CanStandBy, clique_in, places_in, whole_fabric, listed_fabric, CanStandAt, IsFaultBy}
 pub use Rattle.model_pipeline.specs.QubitStanding.{AreSmall, IsQubitModelOf, HasChainRoom, StandsForWhat, LeastStandBy, StandsBy, StaysForWhat, StaysBy}
-pub use Rattle.model_pipeline.specs.GraphModels.{ising_of, site_chains, IsGraphModelOf, IsFormAt, IsOnQubits}
+pub use Rattle.model_pipeline.specs.GraphModels.{ising_of, site_chains, IsGraphModelOf, IsFormAt, StandsAt}
 pub use Rattle.problem_form.specs.declared.limits.Normal.{Normal}
 pub use Rattle.monomial_layer.specs.laws.Kept.{mono_reaches, mono_keeps}
 pub use Rattle.penalty_layer.proofs.Sizes.{AreShort, length-slack_form, slack_form-short}

@@ -1,25 +1,41 @@
 -- What is known of the qubits that there are, and of chains that can stand on them.
-use Rattle.model_pipeline.proofs.Common.{◌≡◌, ◌≤◌, ◌<◌, ℕ, ◌^◌, true, List, [], length, All, refl, arith, nat_tests, IsingContent, IsIsing, Chimera, Graph, HasNumbers, qubits_of, place_of, are_joined-comm, clique_valid, IsValidOn, joined_in-comm, working_clique_valid, Qubits, ChainSource, chains_of, clique_in, fabric_in, graph_in, in_numbers, places_in, listed_fabric, Part, CanStandAt, inr, ℤ, ◌*ℤ◌, ap, sym, subst, ◌∙◌, IfOk, Result, ints, Figures, UnitChoice, Written, scale_of, Choices, ProblemContent, form_of, upper, figures, QuadContent, IsQuad, coupled, length-fields, image_is_ising, total-image, ChainStrength, Fabric, Site, CanStandBy, AreSmall, IsQubitModelOf, ising_figures, IsQuadratized, IsIsingOf, ising_of, site_chains, IsGraphModelOf, IsFormAt, IsOnQubits, IsMadeOf}
+use Rattle.model_pipeline.proofs.Common.{◌≡◌, ◌≤◌, ◌<◌, ℕ, ◌^◌, true, List, [], length, refl, arith, nat_tests, IsingContent, IsIsing, Chimera, Graph, HasNumbers, qubits_of, place_of, are_joined-comm, clique_valid, IsValidOn, joined_in-comm, working_clique_valid, Qubits, ChainSource, chains_of, clique_in, fabric_in, graph_in, in_numbers, places_in, listed_fabric, Part, CanStandAt, inr, ℤ, ◌*ℤ◌, ap, sym, subst, ◌∙◌, ints, Figures, UnitChoice, Written, scale_of, Choices, ProblemContent, form_of, upper, figures, QuadContent, IsQuad, coupled, length-fields, image_is_ising, total-image, ChainStrength, Fabric, Site, CanStandBy, AreSmall, IsQubitModelOf, ising_figures, IsQuadratized, IsIsingOf, ising_of, site_chains, IsGraphModelOf, IsFormAt, StandsAt, IsMadeOf}
 use Rattle.model_pipeline.specs.declared.site.ChainSource.TheVariants.{Clique, Map}
 use Rattle.ising_form.proofs.Images.{size-image}
 use Rattle.model_pipeline.proofs.Standing.{ising_figures_are_stated, spins_stand}
 use Rattle.model_pipeline.specs.declared.site.Qubits.TheVariants as which
 use Rattle.ising_form.specs.Spins as spins
+use Rattle.listed_graph.specs.Parts as listed
+use Rattle.listed_graph.specs.Parts.{exists_in, joined_in}
 use Rattle.listed_graph.specs.laws.ListedJoins as listed_joins
+use Rattle.listed_graph.specs.laws.ListedJoins.{exists_in-below}
+use Rattle.chimera_graph.specs.Graph as chimeras
+use Rattle.std.proofs.Math.Nat.{min-le_right, min-eq_left, le-min}
+use Rattle.std.proofs.lemmas.Bool.{and_parts, lt-ltb, ltb-true}
+use Rattle.std.specs.Prelude.{Bool, false, ◌&&◌, nat_lt}
 
 -- ---- the qubits
 
 pub sized_in : (qubits : Qubits) → (fabric_in qubits).qubits ≡ qubits_of (graph_in qubits)
 sized_in qubits = grind (arith, nat_tests)
 
+-- there are few of them
+chimera_few : (graph : Chimera) → chimeras.qubits_of graph ≤ 2 ^ 20
+chimera_few graph = grind (arith, nat_tests)
+
+pub few_in : (qubits : Qubits) → (fabric_in qubits).qubits ≤ 2 ^ 20
+few_in (which.All graph) = chimera_few graph
+few_in (which.Working w) = chimera_few w.graph
+few_in (which.Listed parts) = min-le_right (listed.qubits_of parts) (2 ^ 20)
+
 -- the numbers of a graph fit their fields: none of them is greater than the number of qubits
 chimera_numbers : (graph : Chimera) → HasNumbers (in_numbers graph)
 chimera_numbers graph = grind (arith, nat_tests)
 
-pub numbers_in : (qubits : Qubits) → (fabric_in qubits).qubits ≤ 2 ^ 20 → HasNumbers (graph_in qubits)
-numbers_in (which.All graph) few = chimera_numbers graph
-numbers_in (which.Working w) few = chimera_numbers w.graph
-numbers_in (which.Listed parts) few = omega (arith, few)
+pub numbers_in : (qubits : Qubits) → HasNumbers (graph_in qubits)
+numbers_in (which.All graph) = chimera_numbers graph
+numbers_in (which.Working w) = chimera_numbers w.graph
+numbers_in (which.Listed parts) = omega (arith, few_in (which.Listed parts))
 
 pub joined_both_ways : (qubits : Qubits) (a b : ℕ)
     → (fabric_in qubits).joined a b ≡ (fabric_in qubits).joined b a
@@ -30,7 +46,31 @@ joined_both_ways (which.Listed parts) a b = listed_joins.joined_in-comm parts a 
 pub below_in : (qubits : Qubits) (q : ℕ) → (fabric_in qubits).exists q ≡ true → q < (fabric_in qubits).qubits
 below_in (which.All graph) q h = grind (arith, nat_tests)
 below_in (which.Working w) q h = grind (arith, nat_tests)
-below_in (which.Listed parts) q h = listed_joins.exists_in-below parts q h
+below_in (which.Listed parts) q h =
+    let both = and_parts (exists_in parts q) (nat_lt q (2 ^ 20)) h in
+    le-min (exists_in-below parts q both.0) (ltb-true q (2 ^ 20) both.1)
+
+-- the qubits that parts name, and the joins that they are
+abbrev named_fabric : List Part → Fabric
+named_fabric parts = record {
+  qubits = listed.qubits_of parts;
+  exists = exists_in parts;
+  joined = joined_in parts;
+}
+
+both_of : (b c : Bool) → (b ≡ true → c ≡ true) → b ≡ (b && c)
+both_of true c h = sym (h refl)
+both_of false c h = refl
+
+-- of parts that name no qubit of 2 ^ 20 or more these are all
+pub listed_is : (parts : List Part) → listed.qubits_of parts ≤ 2 ^ 20
+    → named_fabric parts ≡ listed_fabric parts
+listed_is parts few = λ i. record {
+  qubits = sym (min-eq_left few) i;
+  exists = λ q. both_of (exists_in parts q) (nat_lt q (2 ^ 20))
+      (λ here. lt-ltb q (2 ^ 20) (omega (arith, exists_in-below parts q here, few))) i;
+  joined = joined_in parts;
+}
 
 -- ---- chains that can stand
 
@@ -127,16 +167,6 @@ module _ (p : ProblemContent) (own : ℕ) (choice : UnitChoice) (ties : ChainStr
 
 -- ---- a model at a site
 
--- what is true of a result's value by two facts
-pub if_ok-both : {T E : Type 0} (r : Result T E) (P Q : T → Type 0) → IfOk r P → IfOk r Q
-    → IfOk r (λ y. P y × Q y)
-if_ok-both r P Q p q = grind (arith, nat_tests)
-
--- and so are two
-pub if_ok-by_two : {T E : Type 0} (r : Result T E) {P Q R : T → Type 0} → IfOk r P → IfOk r Q
-    → ((y : T) → P y → Q y → R y) → IfOk r R
-if_ok-by_two r p q f = grind (arith, nat_tests)
-
 -- it stands for what the form relaxes
 abbrev FormStandsAt : Site → UnitChoice → ℕ → Written → IsingContent → Figures → Type 0
 FormStandsAt site unit own m f n =
@@ -147,30 +177,28 @@ module _ (site : Site) (choices : Choices) (unit : UnitChoice) (own : ℕ) (p : 
   -- of the problem's form it is the problem's
   pub form_at_site : (m : Written) (f : IsingContent) (n : Figures) → f ≡ ising_of choices p
       → IsIsingOf p f n → IsFormAt site unit f own n m → FormStandsAt site unit own m f n
-      → IsOnQubits site choices unit own p m
+      → IsFormAt site unit (ising_of choices p) own (ising_figures (figures p)) m
+      × StandsAt site choices unit own p m
   form_at_site m f n form spun by stands =
       let graph = graph_in site.qubits in
       let fabric = fabric_in site.qubits in
-      let chains = λ (g : IsingContent). chains_of site.qubits site.chain_source (length g.fields) in
-      record {
-        by = subst (λ g. IsFormAt site unit g own (ising_figures (figures p)) m) form
-            (subst (λ r. IsFormAt site unit f own r m) spun.figures by);
-        stands =
-            subst (λ g. IsGraphModelOf p own unit site.ties graph fabric (chains g) m) form
-            (graph_model p own unit site.ties graph fabric (chains f) m f n spun stands);
-      }
+      let chains = λ (g : IsingContent). chains_of site.qubits site.chain_source (length g.fields) in (
+        subst (λ g. IsFormAt site unit g own (ising_figures (figures p)) m) form
+            (subst (λ r. IsFormAt site unit f own r m) spun.figures by),
+        subst (λ g. IsGraphModelOf p own unit site.ties graph fabric (chains g) m) form
+            (graph_model p own unit site.ties graph fabric (chains f) m f n spun stands),
+      )
 
   pub made_at_site : (m : Written) → IsIsing (ising_of choices p) → own ≤ p.variables
-      → (fabric_in site.qubits).qubits ≤ 2 ^ 20 → CanStandBy site (ising_of choices p)
+      → CanStandBy site (ising_of choices p)
       → IsFormAt site unit (ising_of choices p) own (ising_figures (figures p)) m
       → IsMadeOf site.ties own choices p m
-  made_at_site m ising few room can by = (
+  made_at_site m ising few can by = (
     few,
     inr (
       unit,
       site.qubits,
       site_chains site choices p,
-      room,
       site_valid site.qubits site.chain_source (ising_of choices p) ising can,
       by,
     ),

@@ -8,3 +8,5 @@ pub mod FewNodes
 pub mod WrittenStates
 pub mod Tied
 pub mod QubitModels
+pub mod Compiled
+pub mod KeptSteps

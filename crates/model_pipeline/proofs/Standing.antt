@@ -1,6 +1,6 @@
 -- From additions that are small to their quadratic form: all that is made on the way is well formed
 -- and has room.
-use Rattle.model_pipeline.proofs.Common.{◌≤◌, ◌+◌, ◌^◌, refl, sym, ap, subst, arith, BitsLink, High, TableContent, IsTable, table_size, terms_total-with_additions, all_nodes-le, IsSound-run, IsLow-image, size-image, QuadContent, IsQuad, quad_size, quad_total, quad_total-image, quad_size-image, IsQuad-image, table_of, IsTable-table_of, IsTable-low_of, image-quad, nodes-table, IsWithin, low_terms_of, LowFits, AddTo, nat_tests, ◌≡◌, ◌++◌, None, List, [], length, All, ◌∙◌, append-nil, recursion_from_All, ProblemContent, IsNormal, limit_fault, Normal, Term, IsTermSet, with_additions, coefficient_of-with_additions, OfSet, All-with_additions, AreTerms-with_additions, contributions-sets, same_tables, contribution_sets, multiplied, IsSmall, penalty_admits, AreAdditions-multiplied_out, small-additions, total-multiplied, size_within, image_size, AreAdditions-contributions, total-additions, additions_of, HeldContent, HasPlaces, sum_for-with_additions, places_at_first, terms_of, ◌<◌, ◌*◌, ℕ, ℤ, pos, ◌+ℤ◌, ◌*ℤ◌, FitsSigned, unsigned_abs, w128, ints, take-take, Figures, UnitChoice, Decoding, Keeps, PenaltyScope, RelaxesBy, StaysAbove, decoding_after, figures_after, keeps_after_by, keeps_stays_above, first_bits, Choices, form_of, upper, NodeModel, figures, node_count, penalty_relaxes, penalty_stays, threshold_within, multilinear_relaxes, multilinear_stays, mono_keeps, rosen_keeps, width-run-le, same_bits, length-image, flat_keeps, coupled, length-fields, spins_keeps, image_is_ising, total-image, IsModelOf, form_model, take, Bool, Stands, ising_figures, quad_by, quad_of, HaveRoom, HasRoom, IsQuadratized, Monomial, Rosenberg, Qubo, Ising}
+use Rattle.model_pipeline.proofs.Common.{◌≤◌, ◌+◌, ◌^◌, refl, sym, ap, subst, arith, BitsLink, High, TableContent, IsTable, table_size, terms_total-with_additions, all_nodes-le, IsSound-run, IsLow-image, size-image, QuadContent, IsQuad, quad_size, quad_total, quad_total-image, quad_size-image, IsQuad-image, table_of, IsTable-table_of, IsTable-low_of, image-quad, nodes-table, IsWithin, low_terms_of, LowFits, AddTo, nat_tests, ◌≡◌, ◌++◌, None, List, [], length, All, ◌∙◌, append-nil, recursion_from_All, ProblemContent, IsNormal, limit_fault, Normal, Term, IsTermSet, with_additions, coefficient_of-with_additions, OfSet, All-with_additions, AreTerms-with_additions, contributions-sets, same_tables, contribution_sets, multiplied, IsSmall, penalty_admits, AreAdditions-multiplied_out, small-additions, total-multiplied, size_within, image_size, AreAdditions-contributions, total-additions, additions_of, HeldContent, HasPlaces, sum_for-with_additions, places_at_first, terms_of, ◌<◌, ◌*◌, ℕ, ℤ, pos, ◌+ℤ◌, ◌*ℤ◌, FitsSigned, unsigned_abs, w128, ints, take-take, Figures, UnitChoice, Decoding, Keeps, PenaltyScope, RelaxesBy, StaysAbove, decoding_after, figures_after, keeps_after_by, keeps_stays_above, first_bits, Choices, form_of, upper, NodeModel, figures, node_count, penalty_relaxes, penalty_stays, threshold_within, multilinear_relaxes, multilinear_stays, mono_keeps, rosen_keeps, width-run-le, same_bits, length-image, flat_keeps, coupled, length-fields, spins_keeps, image_is_ising, total-image, IsModelOf, form_model, take, Bool, Stands, ising_figures, quad_by, quad_of, HasRoom, IsQuadratized, Monomial, Rosenberg, Qubo, Ising}
 use Rattle.term_table.specs.Tables.{IsLow}
 use Rattle.rosenberg_layer.proofs.Growth.{total-image as total-rosenberg}
 use Rattle.problem_form.specs.declared.limits.Normal.TheVariants.{Literal, Multilinear}
@@ -176,20 +176,6 @@ problem_has_quad normal high p is_normal within =
     has_quad high (terms_of normal p) (additions_by normal p) (added normal p is_normal within)
 
 -- The model of a problem: what it promises of the problem.
-
--- the figures of a problem's form have room for those of an Ising form
-pub formed_have_room : (p : ProblemContent) (q : QuadContent) (n : Figures) → IsQuadratized p q n
-    → HaveRoom n
-formed_have_room p q n formed = record {
-  scale_low = omega (arith, ints, ap (λ (m : Figures). m.scale) formed.figures);
-  small = record {
-    scale = omega (arith, ints, ap (λ (m : Figures). unsigned_abs m.scale) formed.figures);
-    offset = omega (arith, ints, ap (λ (m : Figures). unsigned_abs m.offset) formed.figures);
-    threshold =
-        let figures_is = ap (λ (m : Figures). unsigned_abs m.threshold) formed.figures in
-        omega (arith, formed.threshold);
-  };
-}
 
 -- the same form, with the same figures
 pub formed_as : (p : ProblemContent) (q r : QuadContent) (n : Figures) → q ≡ r → n ≡ figures p

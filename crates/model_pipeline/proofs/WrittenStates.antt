@@ -1,10 +1,10 @@
 -- A written model has the energies of its form, counted in its unit and moved: so a state that is
 -- least for the form is least for the model, and what the form stands for the model does.
-use Rattle.model_pipeline.proofs.Common.{nat_tests, ◌^◌, ◌≡◌, ◌⊎◌, inl, inr, ℕ, ℤ, pos, negsuc, ◌+ℤ◌, ◌*ℤ◌, ◌≤ℤ◌, ◌<ℤ◌, Bool, List, take, refl, sym, ap, ◌∙◌, subst, arith, neg_ℤ, ints, total_by, times-lt, Figures, Kind, UnitChoice, Form, IsOf, energy, Written, bits_energy, read_off, spins_energy, Decoding, ExtendsLeast, Reaches, Reduces, decoding_after, figures_after, figures_moved, QuadContent, one_le_quad_unit, IsingContent, FitsOutput, ising_unit, reduced, one_le_ising_unit, made_reduces, written_energy, ChainStrength, decoding_to, chained_model, qubo_model, StandsBy, ExtendsTo, IsLeastTo, ◌≤◌, ◌<◌, [], length, map, All, length-map, first_bits, least-trans, Choices, ProblemContent, NodeModel, figures, same_bits, counted_in, coupled, length-fields, spins_keeps, spins_reaches, image_is_ising, Graph, qubits_of, Embedding, IsEmbedding, IsChecked, checked_embeds, chains_keep, chains_reach, read_off_the_chains, IsValidOn, Qubits, fabric_in, graph_in, chained_figures, image_tied, offset_tied, qubit_model, ising_figures, model, quad_of, HasRoom, ising_of, FitsState, IsLeastExtension, IsMade, IsMadeOf, link_by, state_on, One, Reduce, Qubo, Ising, Choi, PenaltyScope, StaysBy}
+use Rattle.model_pipeline.proofs.Common.{nat_tests, ◌≡◌, ◌⊎◌, inl, inr, ℕ, ℤ, pos, negsuc, ◌+ℤ◌, ◌*ℤ◌, ◌≤ℤ◌, ◌<ℤ◌, Bool, List, take, refl, sym, ap, ◌∙◌, subst, arith, neg_ℤ, ints, total_by, times-lt, Figures, Kind, UnitChoice, Form, IsOf, energy, Written, bits_energy, read_off, spins_energy, Decoding, ExtendsLeast, Reaches, Reduces, decoding_after, figures_after, figures_moved, QuadContent, one_le_quad_unit, IsingContent, FitsOutput, ising_unit, reduced, one_le_ising_unit, made_reduces, written_energy, ChainStrength, decoding_to, chained_model, qubo_model, StandsBy, ExtendsTo, IsLeastTo, ◌≤◌, ◌<◌, [], length, map, All, length-map, first_bits, least-trans, Choices, ProblemContent, NodeModel, figures, same_bits, counted_in, coupled, length-fields, spins_keeps, spins_reaches, image_is_ising, Graph, qubits_of, Embedding, IsEmbedding, IsChecked, checked_embeds, chains_keep, chains_reach, read_off_the_chains, IsValidOn, Qubits, fabric_in, graph_in, chained_figures, image_tied, offset_tied, qubit_model, ising_figures, model, quad_of, HasRoom, ising_of, FitsState, IsLeastExtension, IsMade, IsMadeOf, link_by, state_on, One, Reduce, Qubo, Ising, Choi, PenaltyScope, StaysBy}
 use Rattle.base.specs.declared.costs.Cost.TheVariants.{Whole}
 use Rattle.bits_model.specs.Output.{form_of}
 use Rattle.model_pipeline.proofs.Tied.{reduced_fits, stands_alike, stands_reduced, link_fits, link_of, tied_fits_output, tied_reach, tied_width, stays_alike, stays_reduced}
-use Rattle.model_pipeline.proofs.GraphModels.{below_in, sized_in}
+use Rattle.model_pipeline.proofs.GraphModels.{few_in, below_in, sized_in}
 use Rattle.model_pipeline.proofs.Standing.{spins_fit, spins_link, steps_enough}
 use Rattle.quad_form.specs.Quads as quads
 use Rattle.quad_form.specs.Units as units
@@ -375,34 +375,34 @@ module _ (choices : Choices) (p : ProblemContent) (room : HasRoom (quad_of choic
 
   -- what a check gives of a valid map is an embedding
   embeds : (qubits : Qubits) (map : List (List ℕ)) (e : Embedding)
-      → (fabric_in qubits).qubits ≤ 2 ^ 20 → IsValidOn (fabric_in qubits) ising map
+      → IsValidOn (fabric_in qubits) ising map
       → IsChecked (fabric_in qubits).joined (fabric_in qubits).qubits ising map e → IsEmbedding e
-  embeds qubits map e room_for valid checked =
-      checked_embeds (fabric_in qubits).joined (fabric_in qubits).exists (fabric_in qubits).qubits ising map e room_for
+  embeds qubits map e valid checked =
+      checked_embeds (fabric_in qubits).joined (fabric_in qubits).exists (fabric_in qubits).qubits ising map e (few_in qubits)
       (below_in qubits) (image_is_ising (quad_of choices p) room.quad room.total) valid checked
 
   pub made_extends : (m : Written) (x y : List Bool) → IsMade choices p m
       → IsLeastExtension choices p x y → ExtendsTo p.variables source m x (state_on m y)
   made_extends m x y (ties, own, (few, inl (target, unit, same))) least =
       grind (arith, nat_tests, on_nodes own few target unit x y least)
-  made_extends m x y (ties, own, (few, inr (unit, qubits, all, room_for, valid, (e, checked, same)))) least =
+  made_extends m x y (ties, own, (few, inr (unit, qubits, all, valid, (e, checked, same)))) least =
       subst (λ w. ExtendsTo p.variables source w x (state_on w y)) (sym same)
-      (on_chains own few ties (graph_in qubits) e (embeds qubits all e room_for valid checked) checked.ising
+      (on_chains own few ties (graph_in qubits) e (embeds qubits all e valid checked) checked.ising
       (checked.qubits ∙ sized_in qubits) x y least unit)
 
   pub made_least : (m : Written) (x y : List Bool) (own : ℕ) → IsMadeOf Choi own choices p m
       → IsLeastExtension choices p x y → IsLeastTo p.variables m x (state_on m y)
   made_least m x y own (few, inl (target, unit, same)) least =
       grind (arith, nat_tests, on_nodes own few target unit x y least)
-  made_least m x y own (few, inr (unit, qubits, all, room_for, valid, (e, checked, same))) least =
+  made_least m x y own (few, inr (unit, qubits, all, valid, (e, checked, same))) least =
       subst (λ w. IsLeastTo p.variables w x (state_on w y)) (sym same)
-      (least_on_chains own few (graph_in qubits) e (embeds qubits all e room_for valid checked) checked.ising
+      (least_on_chains own few (graph_in qubits) e (embeds qubits all e valid checked) checked.ising
       (checked.qubits ∙ sized_in qubits) x y least unit)
 
   pub made_fits : (m : Written) (x y : List Bool) → IsMade choices p m
       → IsLeastExtension choices p x y → FitsState m y
   made_fits m x y (ties, own, (few, inl (target, unit, same))) least = grind (arith, nat_tests)
-  made_fits m x y (ties, own, (few, inr (unit, qubits, all, room_for, valid, (e, checked, same)))) least =
+  made_fits m x y (ties, own, (few, inr (unit, qubits, all, valid, (e, checked, same)))) least =
       subst (λ w. FitsState w y) (sym same)
-      (fits_chains own few ties (graph_in qubits) e (embeds qubits all e room_for valid checked)
+      (fits_chains own few ties (graph_in qubits) e (embeds qubits all e valid checked)
       checked.ising (checked.qubits ∙ sized_in qubits) x y least unit)

@@ -1,6 +1,6 @@
 -- The extension of an assignment: the bits of all nodes that the steps add to a problem, and the
 -- state of a written model.
-use Rattle.std.specs.Prelude.{◌≡◌, ◌^◌, ◌⊎◌, ⊤, ℕ, ◌<◌, ◌≤◌, ℤ, ◌+ℤ◌, ◌*ℤ◌, ◌≤ℤ◌, Bool, List, length, take, All}
+use Rattle.std.specs.Prelude.{◌≡◌, ◌⊎◌, ⊤, ℕ, ◌<◌, ◌≤◌, ℤ, ◌+ℤ◌, ◌*ℤ◌, ◌≤ℤ◌, Bool, List, length, take, All}
 use Rattle.base.specs.declared.costs.Cost.TheVariants.{Whole}
 use Rattle.form_steps.specs.declared.layer.BitsLink.{BitsLink}
 use Rattle.bits_model.specs.declared.output.Kind.{Kind}
@@ -110,11 +110,10 @@ IsMadeOnNodes own choices p m =
     (target : NodeModel) × (unit : UnitChoice) × (m ≡ model choices target unit own p)
 
 -- the model of a problem, with so many variables, on the chains of a valid map that are tied so, on
--- some qubits, at most 2 ^ 20, and in some unit
+-- some qubits and in some unit
 abbrev pub IsMadeOnChains : ChainStrength → ℕ → Choices → ProblemContent → Written → Type 0
 IsMadeOnChains ties own choices p m =
     (unit : UnitChoice) × (qubits : Qubits) × (map : List (List ℕ))
-    × ((fabric_in qubits).qubits ≤ 2 ^ 20)
     × IsValidOn (fabric_in qubits) (ising_of choices p) map
     × IsFormAt (record { qubits = qubits; chain_source = Map map; ties = ties }) unit (ising_of choices p)
     own (ising_figures (penalty.figures p)) m

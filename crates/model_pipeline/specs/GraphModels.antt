@@ -22,7 +22,7 @@ use Rattle.embedding_check.specs.Embeddings.{Embedding}
 use Rattle.embedding_check.specs.Checked.{IsChecked}
 use Rattle.hardware.specs.Fabrics.{Fabric}
 use Rattle.model_pipeline.specs.declared.site.Site.{Site}
-use Rattle.model_pipeline.specs.Models.{quad_of, decoding_to, ising_figures}
+use Rattle.model_pipeline.specs.Models.{quad_of, decoding_to}
 use Rattle.model_pipeline.specs.Sites.{chains_of, fabric_in, graph_in}
 use Rattle.model_pipeline.specs.QubitModels.{qubit_model}
 use Rattle.model_pipeline.specs.QubitStanding.{demand_of, StandsBy, IsQubitModelOf, StaysBy}
@@ -74,9 +74,3 @@ abbrev pub StandsAt : Site → Choices → UnitChoice → ℕ → ProblemContent
 StandsAt site choices unit variables p m =
     IsGraphModelOf p variables unit site.ties (graph_in site.qubits) (fabric_in site.qubits)
     (site_chains site choices p) m
-
--- the model of a problem at a site, which stands for the problem
-pub record IsOnQubits (site : Site) (choices : Choices) (unit : UnitChoice) (variables : ℕ)
-    (p : ProblemContent) (m : Written) : Type 0 where
-  pub by : IsFormAt site unit (ising_of choices p) variables (ising_figures (penalty.figures p)) m
-  pub stands : StandsAt site choices unit variables p m

@@ -9,3 +9,5 @@ pub mod Sizes
 pub mod Extensions
 pub mod Decoders
 pub mod Kept
+pub mod Targets
+pub mod Compiled

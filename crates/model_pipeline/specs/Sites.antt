@@ -1,6 +1,6 @@
 -- Where chains stand: the qubits that there are, the chains on them, and whether a form has a place
 -- there.
-use Rattle.std.specs.Prelude.{◌≡◌, ℕ, ◌<◌, ◌≤◌, List, [], length, nat_lt}
+use Rattle.std.specs.Prelude.{◌≡◌, ℕ, ◌<◌, ◌≤◌, ◌^◌, ◌&&◌, List, [], length, min, nat_lt}
 use Rattle.bits_model.specs.declared.output.Graph.{Graph}
 use Rattle.bits_model.specs.declared.output.Graph.TheVariants as graphs
 use Rattle.ising_form.specs.Isings.{IsingContent}
@@ -33,11 +33,11 @@ whole_fabric graph = record {
   joined = λ a b. are_joined (place_of graph a) (place_of graph b);
 }
 
--- the qubits that parts name, and the joins that they are
+-- the qubits below 2 ^ 20 that parts name, and the joins that they are
 abbrev pub listed_fabric : List Part → Fabric
 listed_fabric parts = record {
-  qubits = listed.qubits_of parts;
-  exists = exists_in parts;
+  qubits = min (listed.qubits_of parts) (2 ^ 20);
+  exists = λ q. exists_in parts q && nat_lt q (2 ^ 20);
   joined = joined_in parts;
 }
 
@@ -49,7 +49,7 @@ in_numbers graph = graphs.Chimera graph.rows graph.cols graph.shore
 abbrev pub graph_in : Qubits → Graph
 graph_in (which.All graph) = in_numbers graph
 graph_in (which.Working w) = in_numbers w.graph
-graph_in (which.Listed parts) = graphs.Listed (listed.qubits_of parts)
+graph_in (which.Listed parts) = graphs.Listed (listed_fabric parts).qubits
 
 -- which qubits there are, and which two of them are joined
 abbrev pub fabric_in : Qubits → Fabric

@@ -6,7 +6,7 @@ ghost use Rattle.model_pipeline.specs.Formed.{HasRoom};
 ghost use Rattle.model_pipeline.specs.Extensions.{extension_of, IsLeastExtension};
 ghost use Rattle.model_pipeline.specs.Kept.{AreNewOf};
 
-use crate::kept::FormSteps;
+use crate::made::FormSteps;
 use base::NoMemory;
 use form_steps::{BitsLink, Guard};
 use penalty_layer::{Penalty, node_count};

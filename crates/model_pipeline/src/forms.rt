@@ -1,5 +1,5 @@
 //! The quadratic form of a problem, by the steps that a command chooses.
-ghost use Rattle.std.specs.Prelude.{◌≡◌, Bool, List, None, IfOk, OnOk};
+ghost use Rattle.std.specs.Prelude.{◌≡◌, Bool, List, None, IfOk};
 ghost use Rattle.problem_form.specs.Limits.{limit_fault};
 ghost use Rattle.problem_form.specs.Problems.{IsNormal};
 ghost use Rattle.term_table.specs.Tables.{TableContent};
@@ -12,10 +12,10 @@ ghost use Rattle.quadratization.specs.NewNodes.{with_new_bits};
 ghost use Rattle.model_pipeline.specs.Models.{low_terms_of, quad_of, terms_of};
 ghost use Rattle.model_pipeline.specs.Extensions.{low_extension};
 ghost use Rattle.model_pipeline.specs.Formed.{AreHeldFor, IsQuadratized};
-ghost use Rattle.model_pipeline.specs.Kept.{Keeps};
+ghost use Rattle.model_pipeline.specs.Kept.{AreKept};
 
 use crate::held::Held;
-use crate::kept::{FormSteps, Keeping, keep};
+use crate::made::FormSteps;
 use crate::scaled::Scaled;
 use base::{Figures, NoMemory};
 use normal_form::PlainTerms;
@@ -76,18 +76,18 @@ fn low_form(alloc: Global, terms: DirectTerms, high: High) -> Result<DirectForm,
 }
 
 /// The quadratic form of a problem within the limits. The problem is let go as soon as its terms are
-/// gathered, and the steps as soon as the form stands, unless they are wanted.
+/// gathered, and the steps as soon as the form stands, unless they are kept.
 pub fn quadratized<P: Held>(
     alloc: Global,
     problem: P,
     choices: &Choices,
-    kept: &mut Keeping,
-) -> Result<Scaled<Quad>, NoMemory>
+    keep: bool,
+) -> Result<(Scaled<Quad>, Option<FormSteps>), NoMemory>
     requires { limit_fault choices.now.normal (P.problem problem) ≡ None }
-    ensures image { IfOk result (λ made. made.target ≡ quad_of choices.now (P.problem problem)) }
+    ensures image { IfOk result (λ made. made.0.target ≡ quad_of choices.now (P.problem problem)) }
     ensures stands { IfOk result (λ made.
-        IsQuadratized (P.problem problem) made.target made.figures) }
-    ensures kept { OnOk result (Keeps choices.now (P.problem problem) kept.old kept.new) }
+        IsQuadratized (P.problem problem) made.0.target made.0.figures) }
+    ensures kept { IfOk result (λ made. AreKept keep choices.now (P.problem problem) made.1) }
 {
     let source = problem.problem();
     let terms = normal_terms(alloc, source, choices.normal)?;
@@ -98,9 +98,9 @@ pub fn quadratized<P: Held>(
         choices: *choices,
         new_nodes,
     };
-    keep(kept, steps);
-    Ok(Scaled {
+    let form = Scaled {
         target: quad,
         figures,
-    })
+    };
+    Ok((form, keep.then_some(steps)))
 }

@@ -6,14 +6,15 @@
 #![tactic(auto)]
 
 mod chained;
+mod compiling;
 mod embedding;
 mod extending;
 mod forms;
 mod held;
-mod kept;
 mod laws;
-mod model;
+mod made;
 mod on_qubits;
+mod options;
 mod promise;
 mod scaled;
 mod site;
@@ -22,18 +23,17 @@ mod spins;
 mod states;
 mod written;
 
+pub use compiling::compile;
 pub use extending::extended;
-pub use forms::quadratized;
 pub use held::Held;
-pub use kept::{FormSteps, Keeping};
 pub use laws::{decoders_of_steps, laws_of_decoding, laws_of_extensions, laws_of_ties};
-pub use model::model_of;
-pub use on_qubits::{form_on_qubits, model_on_qubits};
+pub use made::{FormSteps, Made};
+pub use on_qubits::form_on_qubits;
+pub use options::{ModelTarget, Options};
 pub use promise::{
     energies_are_bounded, least_states_compose, least_states_tell, relaxed_is_faithful,
     standing_is_faithful,
 };
-pub use scaled::Scaled;
 pub use site::{ChainSource, GivenGraph, Qubits, Site};
 pub use size_laws::laws_of_sizes;
 pub use states::extended_state;

@@ -1,20 +1,13 @@
-//! The Ising form of a problem, by the steps that a command chooses.
-ghost use Rattle.std.specs.Prelude.{◌≡◌, ◌≤◌, ◌+◌, ◌*◌, ◌^◌, None, IfOk, OnOk};
-ghost use Rattle.problem_form.specs.Limits.{limit_fault};
+//! The Ising form of a quadratic form.
+ghost use Rattle.std.specs.Prelude.{◌≡◌, ◌≤◌, ◌+◌, ◌*◌, ◌^◌, IfOk};
 ghost use Rattle.quad_form.specs.Quads.{IsQuad, quad_total};
 ghost use Rattle.ising_form.specs.Spins.{image};
 ghost use Rattle.model_pipeline.specs.Models.{ising_figures};
-ghost use Rattle.model_pipeline.specs.Formed.{HaveRoom, IsIsingOf};
-ghost use Rattle.model_pipeline.specs.GraphModels.{ising_of};
-ghost use Rattle.model_pipeline.specs.Kept.{Keeps};
+ghost use Rattle.model_pipeline.specs.Formed.{HaveRoom};
 
-use crate::forms::quadratized;
-use crate::held::Held;
-use crate::kept::Keeping;
 use crate::scaled::Scaled;
 use base::NoMemory;
 use ising_form::Ising;
-use problem_form::Choices;
 use quad_form::Quad;
 use std::alloc::Global;
 
@@ -33,21 +26,4 @@ pub fn quad_to_ising(alloc: Global, form: Scaled<Quad>) -> Result<Scaled<Ising>,
         target,
         figures: form.figures.after(4, 0),
     })
-}
-
-/// The Ising form of a problem within the limits. The problem is let go as soon as a form stands in
-/// its place.
-pub fn to_ising<P: Held>(
-    alloc: Global,
-    problem: P,
-    choices: &Choices,
-    kept: &mut Keeping,
-) -> Result<Scaled<Ising>, NoMemory>
-    requires { limit_fault choices.now.normal (P.problem problem) ≡ None }
-    ensures image { IfOk result (λ made. made.target ≡ ising_of choices.now (P.problem problem)) }
-    ensures stands { IfOk result (λ made. IsIsingOf (P.problem problem) made.target made.figures) }
-    ensures kept { OnOk result (Keeps choices.now (P.problem problem) kept.old kept.new) }
-{
-    let made = quadratized(alloc, problem, choices, kept)?;
-    quad_to_ising(alloc, made)
 }

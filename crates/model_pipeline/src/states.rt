@@ -15,7 +15,7 @@ ghost use Rattle.model_pipeline.specs.Kept.{AreNewOf};
 ghost use Rattle.command_words.specs.declared.commands.ChainStrength.TheVariants.{Choi};
 
 use crate::extending::extended;
-use crate::kept::FormSteps;
+use crate::made::FormSteps;
 use base::NoMemory;
 use bits_model::{Kind, OutputModel};
 use chain_layer::on_chains;

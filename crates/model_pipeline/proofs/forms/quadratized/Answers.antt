@@ -1,5 +1,7 @@
-use Rattle.model_pipeline.proofs.Common.{arith, nat_tests, ◌∙◌, ap, subst, sym, limit_fault, IsNormal, figures, quad_of, terms_of}
+use Rattle.model_pipeline.proofs.Common.{refl, ◌∙◌, ap, subst, sym, limit_fault, IsNormal, figures, quad_of, terms_of}
+use Rattle.model_pipeline.specs.Kept.{AreNewOf}
 use Rattle.model_pipeline.proofs.Standing.{formed_as, problem_formed}
+use Rattle.model_pipeline.proofs.KeptSteps.{kept_as}
 use Rattle.model_pipeline.proofs.forms.quadratized.Goals as goal
 
 pub normal_terms-requires : goal.normal_terms-requires
@@ -22,5 +24,9 @@ returns g c =
       image = image;
       stands = formed_as (g.P.Held.problem c.args.problem) _ _ _ image (c.problem_figures-figures.ensures
           ∙ ap figures source.same) (problem_formed choices _ source.normal c.requires);
-      kept = rw (c.keep.ensures, ← source.same) (let nodes = c.in_ok-quad.ensures.new_nodes (terms_of choices.normal c.problem-source.result.now) c.in_ok-terms.ensures in grind (arith, nat_tests));
+      kept = kept_as c.args.keep choices _ _ c.then_some.result c.then_some.ensures (record {
+        chosen = refl;
+        nodes = subst (λ p. AreNewOf choices p c.in_ok-quad.field-0.new_nodes) source.same
+            (c.in_ok-quad.ensures.new_nodes (terms_of choices.normal c.problem-source.result.now) c.in_ok-terms.ensures);
+      });
     }

@@ -22,20 +22,17 @@ returns c =
     let fits : FitsSigned w128 n.scale = search rules in
     let total : (ising_total e.ising + 1) * 2 ^ 21 ≤ 2 ^ 124 =
     omega (arith, ap ising_total embedded.checked.ising, c.requires.total) in
-    let few : (fabric_in site.qubits).qubits ≤ 2 ^ 20 =
-    omega (arith, embedded.checked.qubits, made.kept.few) in
     let same = made.model
     ∙ ap (λ g. qubit_model unit site.ties e own n (kinds.Qubits g)) c.graph_in-graph.ensures in
     record {
       model = (e, embedded.checked, same);
       stands = subst (λ m. IsQubitModelOf f n own unit site.ties graph fabric map m) (sym same)
           (model_stands f n own site.ties graph fabric map e made.kept (sized_in site.qubits)
-          (numbers_in site.qubits few) (joined_both_ways site.qubits) embedded.checked
+          (numbers_in site.qubits) (joined_both_ways site.qubits) embedded.checked
           (site_valid site.qubits site.chain_source f kept embedded.can_stand) c.requires.own
           (size_fits n.scale fits) c.requires.scale unit total
           (moved_by_ties site.ties n e made.kept total c.requires.offset c.requires.threshold));
       can_stand = embedded.can_stand;
-      few = few;
       fault = tt;
       refused = tt;
     }
@@ -44,4 +41,4 @@ pub returns-in_err-embedded : goal.returns-in_err-embedded
 returns-in_err-embedded c =
     let p = err_from_is_err_and c.from_residual.result c.from_residual.ensures.1 in
     let embedded = c.in_err-embedded.ensures in
-    rw (p.1, p.2) (record { model = tt; stands = tt; can_stand = tt; few = tt; fault = embedded.fault; refused = embedded.refused })
+    rw (p.1, p.2) (record { model = tt; stands = tt; can_stand = tt; fault = embedded.fault; refused = embedded.refused })
