@@ -1,9 +1,11 @@
 -- What is asked of the model of a command's plan answers the command.
-use Rattle.program_run.proofs.Common.{nat_tests, ◌≡◌, ℕ, ℤ, pos, ◌*ℤ◌, ◌≤ℤ◌, Bool, List, length, take, Ok, Some, None, refl, sym, ap, ◌∙◌, subst, arith, ints, by_lt_z, Option, NamedFiles, UnitChoice, IsOf, Source, energy, times-lt, Relaxes, Written, IsWellFormed, form_of, decoding_of, Demand, Faithful, HasChains, IsLeastState, least_states_tell, length-read_off, Choices, FitsFields, model_text, IsTextOf, texts_tell_models, decoding_text, extension_text, proof_text, Format, Ask, WordAt, ChainStrength, most_of, text_at, Command, PenaltyScope, Read, AreEnoughIn, CostsAs, KeepsSoft, StandsFor, bounded, carried, names_of, names_read, problem_stands, problem_costs, ising_of, ExtendsTo, IsLeastTo, IsMadeOf, Placement, Plan, ties_of, demand_of, form_in, StandsOn, Last, Nothing, Bits, InOrder, Several, bits_step, gives, checking, placing, planning, last_step, format_in, IsSmall, bounded_cost, judgement_by, said_cost, IsExtendedBy, IsModelled, IsModelText, IsOfModel, IsSolvedBy, IsTold, IsMadeText, EveryStateStands, EveryStateStays, judgement_of, Extends, IsAnswer, IsAskedOf, IsDecoded, IsExtended, IsLeastAsked, IsLeastExtension, IsLeastWhereWhole, IsModelFor, IsProved, IsSolved, TellsSource, bits_were, bound, Model, Summary, Size, Solve, Decode, Evaluate, Extend, Prove, Choi, Cut, Global, Local, ◌>>=◌}
+use Rattle.program_run.proofs.Common.{nat_tests, ◌≡◌, ℕ, ℤ, pos, ◌*ℤ◌, ◌≤ℤ◌, Bool, List, length, take, Ok, Some, None, refl, sym, ap, ◌∙◌, subst, arith, ints, by_lt_z, Option, NamedFiles, IsOf, Source, energy, times-lt, Relaxes, Written, IsWellFormed, form_of, decoding_of, Demand, Faithful, HasChains, IsLeastState, least_states_tell, length-read_off, Choices, FitsFields, model_text, IsTextOf, texts_tell_models, decoding_text, extension_text, proof_text, Format, Ask, ChainStrength, most_of, Command, PenaltyScope, Read, AreEnoughIn, CostsAs, KeepsSoft, StandsFor, bounded, carried, names_of, names_read, problem_stands, problem_costs, ising_of, ExtendsTo, IsLeastTo, IsMadeOf, Plan, ties_of, demand_of, form_in, StandsOn, Last, Bits, InOrder, Several, gives, checking, placing, planning, last_step, format_in, IsSmall, bounded_cost, judgement_by, said_cost, IsExtendedBy, IsModelled, IsModelText, IsSolvedBy, IsTold, IsToldOf, OfState, asked_width, proving, stating, IsMadeText, EveryStateStands, EveryStateStays, judgement_of, Extends, IsAnswer, IsAskedOf, IsDecoded, IsExtended, IsLeastAsked, IsLeastExtension, IsLeastWhereWhole, IsModelFor, IsProved, IsSolved, TellsSource, bits_were, bound, Decode, Extend, Prove, Choi, Cut, Global, Local, ◌>>=◌, ModelTarget}
+use Rattle.command_words.specs.declared.commands.Make.{Make}
+use Rattle.command_words.specs.declared.commands.Ask.TheVariants as asks
 use Rattle.problem_form.specs.Problems as problems
 use Rattle.command_words.specs.declared.commands.Format.TheVariants as formats
 use Rattle.model_pipeline.specs.Models as models
-use Rattle.run_steps.specs.declared.placements.Placement.TheVariants.{Nodes, Qubits}
+use Rattle.model_pipeline.specs.declared.options.ModelTarget.TheVariants.{Nodes, Qubits}
 use Rattle.program_run.proofs.Scored.{alike_where_wide, scanned_widths, scored_alike}
 use Rattle.program_run.proofs.SmallCosts.{said_is_small}
 use Rattle.program_run.proofs.Wanted.{HasSoft, costs_wanted, soft_read, soft_wanted, stands_wanted, wanted_names}
@@ -14,25 +16,21 @@ use Rattle.program_run.proofs.Stood.{alike, model_stands, state_stays}
 
 -- ---- what a plan is of
 
--- the plan of what is read and chosen
-abbrev plan_of : Read → Choices → UnitChoice → Placement → Plan
-plan_of read choices unit base = record { read = read; choices = choices; unit = unit; base = base }
-
 -- the plan has what was read and chosen
-pub record IsPlanned (words : List (List ℕ)) (held : NamedFiles) (command : Command) (plan : Plan)
+pub record IsPlanned (held : NamedFiles) (command : Command) (plan : Plan)
     : Type 0 where
-  pub checked : (checking words held command).end ≡ Some (Ok plan.read)
-  pub placed : (placing words held command.target).end ≡ Some (Ok plan.base)
-  pub unit : plan.unit ≡ command.unit
+  pub checked : (checking held command).end ≡ Some (Ok plan.read)
+  pub placed : (placing held command.target).end ≡ Some (Ok plan.options.target)
+  pub unit : plan.options.unit ≡ command.unit
 
-pub planned_is : (words : List (List ℕ)) (held : NamedFiles) (command : Command) (plan : Plan)
-    → (planning words held command).end ≡ Some (Ok plan) → IsPlanned words held command plan
+pub planned_is : (held : NamedFiles) (command : Command) (plan : Plan)
+    → (planning held command).end ≡ Some (Ok plan) → IsPlanned held command plan
 unfolding planning
-planned_is words held command plan e = grind (arith, nat_tests, bound)
+planned_is held command plan e = grind (arith, nat_tests, bound)
 
 -- ---- the model stands for the source
 
-stands_on : (base : Placement) (choices : Choices) (command : Command) (s : Source) (r : Read)
+stands_on : (base : ModelTarget) (choices : Choices) (command : Command) (s : Source) (r : Read)
     (m : Written) → StandsFor command.penalty s r
     → StandsOn base choices command.unit r.variables r.problem m
     → IsModelFor base command (length (ising_of choices r.problem).fields) s m
@@ -63,7 +61,7 @@ stands_on (Qubits site) choices command s r m stands made =
     (subst (λ k. HasChains k (demand_of command.unit (Qubits site) nodes) m) (sym made.kind)
     made.embedded)
 
-stays_on : (base : Placement) (choices : Choices) (command : Command) (s : Source) (r : Read)
+stays_on : (base : ModelTarget) (choices : Choices) (command : Command) (s : Source) (r : Read)
     (m : Written) → StandsFor command.penalty (bounded (most_of command.bound) s) r
     → CostsAs (most_of command.bound) s r → (format : Format) → HasSoft format r.soft
     → StandsOn base choices command.unit r.variables r.problem m
@@ -105,7 +103,7 @@ module _ (command : Command) (plan : Plan) (s : Source) (m : Written)
     (stands : StandsFor command.penalty (bounded (most_of command.bound) s) plan.read)
     (costs : CostsAs (most_of command.bound) s plan.read)
     (soft : HasSoft (format_in command.origin) plan.read.soft) (named : names ≡ plan.read.names)
-    (its : IsModelFor plan.base command (length (form_in plan).fields)
+    (its : IsModelFor plan.options.target command (length (form_in plan).fields)
     (bounded (most_of command.bound) s) m) where
   -- the most that an assignment may cost
   abbrev most : Option ℤ
@@ -140,7 +138,7 @@ module _ (command : Command) (plan : Plan) (s : Source) (m : Written)
   proved bits text is told =
       let x = (decoding_of m).decoded bits in
       let value = energy (form_of m) bits in
-      let demand = demand_of command.unit plan.base (length (form_in plan).fields) in
+      let demand = demand_of command.unit plan.options.target (length (form_in plan).fields) in
       let least = proved_least m bits is in
       record {
         least = least;
@@ -196,17 +194,17 @@ module _ (command : Command) (plan : Plan) (s : Source) (m : Written)
   ByPlan x text = IsExtended command s plan m x text
 
   extended : (x : List Bool) (text : List ℕ) → IsOf s.form x
-      → IsExtendedBy plan.choices plan.read m x text → ByPlan x text
+      → IsExtendedBy plan.options.choices plan.read m x text → ByPlan x text
   extended x text w told =
       let extends = source_extends x told.state w told.extends in
       record {
         extension = record {
           state = told.state;
           extends = extends;
-          least = least_by (ties_of plan.base) command.penalty (format_in command.origin) x told.state w
+          least = least_by (ties_of plan.options.target) command.penalty (format_in command.origin) x told.state w
               soft its.every extends
               (λ choi. told.least plan.read.variables
-              (subst (λ ties. IsMadeOf ties plan.read.variables plan.choices plan.read.problem m) choi
+              (subst (λ ties. IsMadeOf ties plan.read.variables plan.options.choices plan.read.problem m) choi
               made.made));
           said = told.said ∙ ap (λ c. extension_text told.state c (energy (form_of m) told.state))
               (costs.same x w);
@@ -214,75 +212,77 @@ module _ (command : Command) (plan : Plan) (s : Source) (m : Written)
         exact = told.exact;
       }
 
-  model_asked : (ask : Ask) (last : Last) (text : List ℕ) → IsModelText ask m text
-      → IsAskedOf ask s most names ByPlan m last text
-  model_asked other last text told = grind (arith, nat_tests, text_is_its)
+  model_asked : (make : Make) (last : Last) (text : List ℕ) → IsModelText make m text
+      → IsAskedOf (asks.Make make) s most names ByPlan m last text
+  model_asked make last text told = grind (arith, nat_tests, text_is_its)
 
-  bits_asked : (words : List (List ℕ)) (held : NamedFiles) (ask : Ask) (bits : List Bool)
-      (text : List ℕ) → (bits_step words held ask plan.read.variables m).end ≡ Some (Ok bits)
-      → IsTold ask plan.read plan.choices m (Bits bits) text
-      → IsAskedOf ask s most names ByPlan m (Bits bits) text
-  bits_asked words held (Decode at) bits text e told =
-      decoded bits text (stated_width held (text_at words at) m.nodes bits e) told
-  bits_asked words held (Extend at) bits text e told =
+  -- bits that were read, and proved where a certificate is asked for
+  bits_asked : (held : NamedFiles) (name : List ℕ) (of : OfState) (read bits : List Bool)
+      (text : List ℕ) → (stating held name (asked_width of plan.read.variables m)).end ≡ Some (Ok read)
+      → (proving held of m read).end ≡ Some (Ok bits)
+      → IsToldOf of plan.read plan.options.choices m bits text
+      → IsAskedOf (asks.State name of) s most names ByPlan m (Bits bits) text
+  bits_asked held name Decode read bits text e f told =
+      let same : read ≡ bits = cc in
+      decoded bits text
+      (subst (λ y. length y ≡ m.nodes) same (stated_width held name m.nodes read e)) told
+  bits_asked held name Extend read bits text e f told =
+      let same : read ≡ bits = cc in
       extended bits text
-      (stated_width held (text_at words at) plan.read.variables bits e ∙ stands.variables) told
-  bits_asked words held (Prove state certificate) bits text e told =
-      proved bits text (proved_is words held state certificate m bits e) told
-  bits_asked words held last bits text e told = absurd told
+      (subst (λ x. length x ≡ plan.read.variables) same
+      (stated_width held name plan.read.variables read e) ∙ stands.variables) told
+  bits_asked held name (Prove certificate) read bits text e f told =
+      proved bits text (proved_is held name certificate m read bits e f) told
 
   -- what the step that reads bits gives
-  stepped : (words : List (List ℕ)) (held : NamedFiles) (ask : Ask) (last : Last) (text : List ℕ)
-      → (bits_step words held ask plan.read.variables m >>= λ bits. gives (Bits bits)).end ≡ Some (Ok last)
-      → IsTold ask plan.read plan.choices m last text
-      → IsAskedOf ask s most names ByPlan m last text
-  stepped words held ask last text e told =
-      let were = bits_were (bits_step words held ask plan.read.variables m) last e in
-      grind (arith, nat_tests, bits_asked)
+  stepped : (held : NamedFiles) (name : List ℕ) (of : OfState) (last : Last) (text : List ℕ)
+      → (last_step held (asks.State name of) plan.read.variables m).end ≡ Some (Ok last)
+      → IsTold (asks.State name of) plan.read plan.options.choices m last text
+      → IsAskedOf (asks.State name of) s most names ByPlan m last text
+  stepped held name of last text e told =
+      let read = bound (stating held name (asked_width of plan.read.variables m))
+      (λ r. proving held of m r >>= λ bits. gives (Bits bits)) last e in
+      let were = bits_were (proving held of m read.0) last read.2 in
+      subst (λ l. IsAskedOf (asks.State name of) s most names ByPlan m l text) were.2
+      (bits_asked held name of read.0 were.0 text read.1 were.1
+      (subst (λ l. IsTold (asks.State name of) plan.read plan.options.choices m l text) (sym were.2) told))
 
-  solved_asked : (order : Option WordAt) (last : Last) (text : List ℕ)
-      → IsTold (Solve order) plan.read plan.choices m last text
-      → IsAskedOf (Solve order) s most names ByPlan m last text
+  solved_asked : (order : Option (List ℕ)) (last : Last) (text : List ℕ)
+      → IsTold (asks.Solve order) plan.read plan.options.choices m last text
+      → IsAskedOf (asks.Solve order) s most names ByPlan m last text
   solved_asked order (InOrder nodes) text told = solved nodes text told
   solved_asked order last text told = absurd told
 
   -- the states that are read have the model's width
-  scored_asked : (words : List (List ℕ)) (held : NamedFiles) (at : WordAt) (last : Last)
-      (text : List ℕ) → (last_step words held (Evaluate at) plan.read.variables m).end ≡ Some (Ok last)
-      → IsTold (Evaluate at) plan.read plan.choices m last text
-      → IsAskedOf (Evaluate at) s most names ByPlan m last text
-  scored_asked words held at (Several states) text e told =
-      let wide = scanned_widths held (text_at words at) m.nodes states e in
+  scored_asked : (held : NamedFiles) (name : List ℕ) (last : Last) (text : List ℕ)
+      → (last_step held (asks.Evaluate name) plan.read.variables m).end ≡ Some (Ok last)
+      → IsTold (asks.Evaluate name) plan.read plan.options.choices m last text
+      → IsAskedOf (asks.Evaluate name) s most names ByPlan m last text
+  scored_asked held name (Several states) text e told =
+      let wide = scanned_widths held name m.nodes states e in
       scored_alike (judgement_by plan.read m) (judgement_of s m) m plan.read.names names states text
       (sym named) (grind (arith, nat_tests, alike_where_wide, decoded_cost)) told
-  scored_asked words held at last text e told = absurd told
+  scored_asked held name last text e told = absurd told
 
-  alone_asked : (ask : Ask) (last : Last) (text : List ℕ) → IsOfModel ask → Nothing ≡ last
-      → IsTold ask plan.read plan.choices m last text
+  asked_of : (held : NamedFiles) (ask : Ask) (last : Last) (text : List ℕ)
+      → (last_step held ask plan.read.variables m).end ≡ Some (Ok last)
+      → IsTold ask plan.read plan.options.choices m last text
       → IsAskedOf ask s most names ByPlan m last text
-  alone_asked ask last text is nothing told = grind (arith, nat_tests, model_asked)
-
-  asked_of : (words : List (List ℕ)) (held : NamedFiles) (ask : Ask) (last : Last)
-      (text : List ℕ) → (last_step words held ask plan.read.variables m).end ≡ Some (Ok last)
-      → IsTold ask plan.read plan.choices m last text
-      → IsAskedOf ask s most names ByPlan m last text
-  asked_of words held Model last text e told = alone_asked Model last text tt (let two = e in cc) told
-  asked_of words held Summary last text e told = grind (arith, nat_tests)
-  asked_of words held Size last text e told = alone_asked Size last text tt (let two = e in cc) told
-  asked_of words held (Solve order) last text e told = solved_asked order last text told
-  asked_of words held (Evaluate at) last text e told = scored_asked words held at last text e told
-  asked_of words held ask last text e told = stepped words held ask last text e told
+  asked_of held (asks.Make make) last text e told = model_asked make last text told
+  asked_of held (asks.Solve order) last text e told = solved_asked order last text told
+  asked_of held (asks.Evaluate name) last text e told = scored_asked held name last text e told
+  asked_of held (asks.State name of) last text e told = stepped held name of last text e told
 
 -- ---- the answer
 
-pub made_answers : (words : List (List ℕ)) (held : NamedFiles) (command : Command) (plan : Plan)
-    (text : List ℕ) → (planning words held command).end ≡ Some (Ok plan)
+pub made_answers : (held : NamedFiles) (command : Command) (plan : Plan) (text : List ℕ)
+    → (planning held command).end ≡ Some (Ok plan)
     → KeepsSoft plan.read → AreEnoughIn command.penalty plan.read
-    → IsMadeText command.ask plan (last_step words held command.ask plan.read.variables) text
-    → IsAnswer words held command text
-made_answers words held command plan text e kept enough made =
-    let planned = planned_is words held command plan e in
-    let taken = source_is_taken words held command plan.read planned.checked in
+    → IsMadeText command.ask plan (last_step held command.ask plan.read.variables) text
+    → IsAnswer held command text
+made_answers held command plan text e kept enough made =
+    let planned = planned_is held command plan e in
+    let taken = source_is_taken held command plan.read planned.checked in
     let format = format_in command.origin in
     let most = most_of command.bound in
     let slack = command.slack in
@@ -298,10 +298,10 @@ made_answers words held command plan text e kept enough made =
     ∙ ap (λ (r : Read). r.names) taken.given in
     let soft = soft_wanted format command taken.own plan.read taken.given
     (soft_read slack format taken.text taken.own taken.read) in
-    let stands_there = subst (λ u. StandsOn plan.base plan.choices u plan.read.variables plan.read.problem m)
+    let stands_there = subst (λ u. StandsOn plan.options.target plan.options.choices u plan.read.variables plan.read.problem m)
     planned.unit made.made.stands in
     let stands =
-    stands_on plan.base plan.choices command (bounded most s.0) plan.read m own_stands stands_there in
+    stands_on plan.options.target plan.options.choices command (bounded most s.0) plan.read m own_stands stands_there in
     record {
       source = s.0;
       from = record { text = taken.text; found = taken.found; says = s.1 };
@@ -310,15 +310,15 @@ made_answers words held command plan text e kept enough made =
       model = m;
       by = made.made.by;
       stands = stands;
-      stays = stays_on plan.base plan.choices command s.0 plan.read m own_stands costs format soft stands_there;
+      stays = stays_on plan.options.target plan.options.choices command s.0 plan.read m own_stands costs format soft stands_there;
       small = λ x wide. subst IsSmall (costs.same x wide)
           (said_is_small command.choices.normal plan.read x kept taken.within);
       few = has_few_nodes plan m made.made.can_stand made.made.by made.made.stands;
       asked = record {
         last = made.last;
-        read = subst (λ n. (last_step words held command.ask n m).end ≡ Some (Ok made.last))
+        read = subst (λ n. (last_step held command.ask n m).end ≡ Some (Ok made.last))
             own_stands.variables made.read;
         said = asked_of command plan s.0 m (names_of format taken.text) made.made own_stands costs
-            soft named stands words held command.ask made.last text made.read made.told;
+            soft named stands held command.ask made.last text made.read made.told;
       };
     }

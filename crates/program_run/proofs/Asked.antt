@@ -1,5 +1,5 @@
 -- How many bits are read last, and that those of a proof are of a least state.
-use Rattle.program_run.proofs.Common.{nat_tests, arith, ◌≡◌, ℕ, Bool, List, length, Ok, Some, None, subst, Option, NamedFiles, Written, form_of, IsLeastState, CertificateContent, proof_fault, ProofFault, first_faults_tell, proved_is_least, WordAt, text_at, ends, stating, certifying, certified, proving, proof_end, bound, state_is_taken, state_has_width}
+use Rattle.program_run.proofs.Common.{nat_tests, arith, ◌≡◌, ℕ, Bool, List, length, Ok, Some, None, subst, Option, NamedFiles, Written, form_of, IsLeastState, CertificateContent, proof_fault, ProofFault, first_faults_tell, proved_is_least, ends, stating, certifying, certified, proof_end, bound, state_is_taken, state_has_width}
 
 -- so many bits were read
 pub stated_width : (held : NamedFiles) (name : List ℕ) (width : ℕ) (bits : List Bool)
@@ -31,17 +31,13 @@ pub record IsProvedState (m : Written) (bits : List Bool) : Type 0 where
   pub width : length bits ≡ m.nodes
   pub certified : IsCertified m bits
 
-pub proved_is : (words : List (List ℕ)) (held : NamedFiles) (state certificate : WordAt)
-    (m : Written) (bits : List Bool)
-    → (proving words held state certificate m).end ≡ Some (Ok bits) → IsProvedState m bits
-unfolding proving
-proved_is words held state certificate m bits e =
-    let read = bound (stating held (text_at words state) m.nodes)
-    (λ given. certified held (text_at words certificate) m given) bits e in
-    let proof = certified_is held (text_at words certificate) m read.0 bits read.2 in
+pub proved_is : (held : NamedFiles) (state certificate : List ℕ) (m : Written) (given bits : List Bool)
+    → (stating held state m.nodes).end ≡ Some (Ok given)
+    → (certified held certificate m given).end ≡ Some (Ok bits) → IsProvedState m bits
+proved_is held state certificate m given bits e f =
+    let proof = certified_is held certificate m given bits f in
     record {
-      width = subst (λ b. length b ≡ m.nodes) proof.0
-          (stated_width held (text_at words state) m.nodes read.0 read.1);
+      width = subst (λ b. length b ≡ m.nodes) proof.0 (stated_width held state m.nodes given e);
       certified = proof.1;
     }
 

@@ -1,5 +1,5 @@
 -- How the steps of a command end.
-use Rattle.program_run.proofs.Common.{nat_tests, ◌≡◌, ℕ, IfOk, arith, List, Ok, Err, Some, Result, refl, sym, ◌∙◌, subst, Option, Written, Counts, NamedFiles, Request, Command, name_of, model_files, last_files, Plan, Status, IsReading, IsRefusal, IsDoneOrFault, IsUsageOf, CountsReadFault, faults_counted, Steps, Last, Refuses, AreFilesAsked, IsEndOf, IsEnd, Ends, MeetsOutcomeOf, IsModelled, EndsOf, Done, NotEmbedded}
+use Rattle.program_run.proofs.Common.{nat_tests, ◌≡◌, ℕ, arith, Ok, Err, Some, Result, refl, sym, ◌∙◌, Option, Written, Counts, NamedFiles, Request, Command, name_of, model_files, last_files, Plan, Status, IsReading, IsRefusal, IsDoneOrFault, IsUsageOf, CountsReadFault, faults_counted, Steps, Last, Refuses, AreFilesAsked, IsEndOf, IsEnd, Ends, MeetsOutcome, IsModelled, EndsOf, Done, NotEmbedded}
 use Rattle.command_words.specs.declared.commands.Request.TheVariants as requests
 use Rattle.program_run.proofs.OneModel.{one_model}
 
@@ -52,20 +52,16 @@ pub done_is_met : (plans : Steps Plan) (last : ℕ → Written → Steps Last)
 done_is_met plans last status done is = grind (arith, nat_tests, one_end)
 
 -- so it is of what is asked
-pub done_is_complete : (words : List (List ℕ)) (held : NamedFiles) (said : Result Request ℕ)
-    (status : Status) → MeetsOutcomeOf words held said status
-    → MeetsOutcomeOf words held said Done → IsDoneOrFault status
-done_is_complete words held said status meets done = grind (arith, nat_tests, done_is_met)
+pub done_is_complete : (held : NamedFiles) (said : Result Request ℕ) (status : Status)
+    → MeetsOutcome held said status → MeetsOutcome held said Done → IsDoneOrFault status
+done_is_complete held said status meets done = grind (arith, nat_tests, done_is_met)
 
 -- ---- faults are counted
 
 -- a command's status is a fault of its files exactly where the store counted one
-pub command_counted : (words : List (List ℕ)) (said : Result Request ℕ) (command : Command)
-    (status : Status) (a b : Counts) → said ≡ Ok (requests.Command command)
-    → IsUsageOf status said → IfOk said (λ request. AreFilesAsked words request status a b)
-    → CountsReadFault status a.faults b.faults
-command_counted words said command status a b is usage files =
-    faults_counted (name_of words command) (model_files command) (last_files command) status
-    (requests.Command command) a b
-    (subst (λ (s : Result Request ℕ). IsUsageOf status s) is usage)
-    (subst (λ (s : Result Request ℕ). IfOk s (λ request. AreFilesAsked words request status a b)) is files)
+pub command_counted : (command : Command) (status : Status) (a b : Counts)
+    → IsUsageOf status (Ok (requests.Command command))
+    → AreFilesAsked (requests.Command command) status a b → CountsReadFault status a.faults b.faults
+command_counted command status a b usage files =
+    faults_counted (name_of command) (model_files command) (last_files command) status
+    (requests.Command command) a b usage files

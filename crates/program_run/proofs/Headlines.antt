@@ -1,5 +1,5 @@
 -- What answers a command is what it asks for, however it was made.
-use Rattle.program_run.proofs.Common.{nat_tests, arith, ◌≡◌, ℕ, ℤ, Bool, List, length, Ok, Option, Result, Source, Written, NamedFiles, Taken, Format, Slack, Ask, Command, Request, most_of, form_said, names_of, source_of, Status, ties_of, form_in, OnWriting, Last, format_in, DeliversAnswer, IsAnswer, IsAskedOf, IsExtended, IsExtension, IsSaidTo, DeliversHeadline, IsAskedAt, IsHeadline}
+use Rattle.program_run.proofs.Common.{nat_tests, arith, ◌≡◌, ℕ, ℤ, Bool, List, length, Ok, Option, Result, Source, Written, NamedFiles, Taken, Format, Slack, Ask, Command, Request, most_of, form_said, names_of, source_of, Status, ties_of, form_in, OnWriting, Last, format_in, Delivers, IsAnswer, IsAskedOf, IsExtended, IsExtension, IsSaidTo, IsHeadlined}
 use Rattle.program_run.proofs.Answering.{planned_is}
 
 -- ---- the source
@@ -21,10 +21,9 @@ module _ (s : Source) (most : Option ℤ) (names : Option (List (List ℕ))) (m 
 
 -- ---- the headline
 
-headline_of : (words : List (List ℕ)) (held : NamedFiles) (command : Command) (text : List ℕ)
-    → IsAnswer words held command text
-    → IsHeadline words held command (IsAskedAt words held command) text
-headline_of words held command text answer =
+headline_of : (held : NamedFiles) (command : Command) (text : List ℕ) → IsAnswer held command text
+    → IsHeadlined held command text
+headline_of held command text answer =
     let format = format_in command.origin in
     let most = most_of command.bound in
     let s = answer.source in
@@ -34,8 +33,8 @@ headline_of words held command text answer =
       source = s;
       says = form_of_source command.slack format answer.from.text s answer.from.says;
       small = answer.small;
-      base = answer.plan.base;
-      placed = (planned_is words held command answer.plan answer.planned).placed;
+      base = answer.plan.options.target;
+      placed = (planned_is held command answer.plan answer.planned).placed;
       nodes = length (form_in answer.plan).fields;
       model = m;
       stands = answer.stands;
@@ -44,20 +43,19 @@ headline_of words held command text answer =
         read = answer.asked.read;
         said = asked_so s most (names_of format answer.from.text) m
             (IsExtended command s answer.plan m)
-            (IsExtension (ties_of answer.plan.base) command s m)
+            (IsExtension (ties_of answer.plan.options.target) command s m)
             (λ x t is. is.extension) command.ask answer.asked.last text answer.asked.said;
       };
     }
 
-headline_said : (words : List (List ℕ)) (held : NamedFiles) (said : Result Request ℕ)
-    (text : List ℕ) → IsSaidTo said (IsAnswer words held) text
-    → IsSaidTo said (λ command. IsHeadline words held command (IsAskedAt words held command)) text
-headline_said words held said text is = grind (arith, nat_tests, headline_of)
+headline_said : (held : NamedFiles) (said : Result Request ℕ) (text : List ℕ)
+    → IsSaidTo said (IsAnswer held) text → IsSaidTo said (IsHeadlined held) text
+headline_said held said text is = grind (arith, nat_tests, headline_of)
 
-pub headline_delivered : (words : List (List ℕ)) (told : Option NamedFiles) (status : Status)
-    (old new : Taken) → DeliversAnswer words told status old new
-    → DeliversHeadline words told status old new
-headline_delivered words told status old new is = grind (arith, nat_tests, headline_said)
+pub headline_delivered : (asked : Result Request ℕ) (told : Option NamedFiles) (status : Status)
+    (old new : Taken) → Delivers IsAnswer asked told status old new
+    → Delivers IsHeadlined asked told status old new
+headline_delivered asked told status old new is = grind (arith, nat_tests, headline_said)
 
 -- what holds once the writing has begun holds of what follows from it
 pub writing_so : {P Q : Type 0} (status : Status) → (P → Q) → OnWriting status P

@@ -4,7 +4,6 @@ pub mod OneModel
 pub mod Endings
 pub mod Solving
 pub mod Evaluating
-pub mod Embedded
 pub mod MadeModels
 pub mod Widths
 pub mod Thresholds

@@ -1,11 +1,13 @@
--- What a model that is made promises of its plan.
-use Rattle.program_run.proofs.Common.{nat_tests, ◌≡◌, ◌≤◌, ◌^◌, Result, IfOk, arith, Written, weight_total, Plan, Status, IsMadeOf, ties_of, CanStand, IsModelBy, Stands, IsModelled}
+-- What is made of a plan.
+use Rattle.program_run.proofs.Common.{nat_tests, ◌≡◌, ◌≤◌, ◌^◌, arith, Written, weight_total, Made, Plan, IsMadeBy, IsModelled}
 
-pub modelled_by : (plan : Plan) (result : Result Written Status) → IfOk result (IsModelBy plan)
-    → IfOk result (λ _. CanStand plan) → IfOk result (Stands plan)
-    → IfOk result (IsMadeOf (ties_of plan.base) plan.read.variables plan.choices plan.read.problem)
-    → IfOk result (IsModelled plan)
-modelled_by plan result by can stands made = grind (arith, nat_tests)
+pub modelled : (plan : Plan) (made : Made) → IsMadeBy plan made → IsModelled plan made.model
+modelled plan made is = record {
+  can_stand = is.can_stand;
+  by = is.by;
+  stands = is.stands;
+  made = is.built;
+}
 
 -- ---- its numbers
 

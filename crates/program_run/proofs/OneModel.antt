@@ -1,10 +1,10 @@
 -- A plan makes one model.
-use Rattle.program_run.proofs.Common.{nat_tests, arith, ◌≡◌, ℕ, sym, ap, ◌∙◌, UnitChoice, Written, Choices, ProblemContent, Embedding, checked_unique, ising_figures, ising_of, site_chains, qubit_model, graph_in, fabric_in, Placement, IsModelOn, PlansMakeOneModel}
+use Rattle.program_run.proofs.Common.{nat_tests, arith, ◌≡◌, ℕ, sym, ap, ◌∙◌, UnitChoice, Written, Choices, ProblemContent, Embedding, checked_unique, ising_figures, ising_of, site_chains, qubit_model, graph_in, fabric_in, ModelTarget, IsModelOn, PlansMakeOneModel}
 use Rattle.bits_model.specs.declared.output.Kind.TheVariants as kinds
 use Rattle.penalty_layer.specs.Penalty as penalty
-use Rattle.run_steps.specs.declared.placements.Placement.TheVariants.{Nodes, Qubits}
+use Rattle.model_pipeline.specs.declared.options.ModelTarget.TheVariants.{Nodes, Qubits}
 
-one_model_on : (base : Placement) (choices : Choices) (unit : UnitChoice) (own : ℕ)
+one_model_on : (base : ModelTarget) (choices : Choices) (unit : UnitChoice) (own : ℕ)
     (p : ProblemContent) (m n : Written) → IsModelOn base choices unit own p m
     → IsModelOn base choices unit own p n → m ≡ n
 one_model_on (Nodes target) choices unit own p m n first second = first ∙ sym second

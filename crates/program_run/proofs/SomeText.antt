@@ -1,5 +1,6 @@
 -- No answer is empty.
-use Rattle.program_run.proofs.Common.{ints, nat_tests, ◌≡◌, ◌≢◌, ℕ, Bool, List, [], ◌∷◌, ◌++◌, Option, refl, sym, ◌∙◌, arith, Written, Choices, model_text, summary_text, size_text, Ask, Read, Bits, StateLine, Judgement, IsScored, IsModelText, IsSolvedBy, IsTold}
+use Rattle.program_run.proofs.Common.{ints, nat_tests, ◌≡◌, ◌≢◌, ℕ, Bool, List, [], ◌∷◌, ◌++◌, Option, refl, sym, ◌∙◌, arith, Written, Choices, model_text, summary_text, size_text, OfState, Read, StateLine, Judgement, IsScored, IsModelText, IsSolvedBy, IsToldOf}
+use Rattle.command_words.specs.declared.commands.Make.{Make}
 
 same_some : (text other : List ℕ) → text ≡ other → other ≢ [] → text ≢ []
 same_some text other same some none = some (sym same ∙ none)
@@ -21,8 +22,8 @@ size_some : (m : Written) → size_text m ≢ []
 size_some m none = grind (arith, nat_tests, summary_some, empty_front)
 
 -- what a model alone tells is some text
-pub model_text_some : (ask : Ask) (m : Written) (text : List ℕ) → IsModelText ask m text → text ≢ []
-model_text_some last m text is =
+pub model_text_some : (make : Make) (m : Written) (text : List ℕ) → IsModelText make m text → text ≢ []
+model_text_some make m text is =
     grind (arith, nat_tests, same_some, model_some, summary_some, size_some)
 
 -- what is asked of a model is told in some rows
@@ -30,9 +31,9 @@ pub solved_some : (order : List ℕ) (read : Read) (m : Written) (text : List �
     → IsSolvedBy order read m text → text ≢ []
 solved_some order read m text is = same_some text _ is.said (grind (arith, nat_tests, ints))
 
-pub bits_some : (ask : Ask) (read : Read) (choices : Choices) (m : Written) (bits : List Bool)
-    (text : List ℕ) → IsTold ask read choices m (Bits bits) text → text ≢ []
-bits_some last read choices m bits text is = grind (arith, nat_tests)
+pub bits_some : (of : OfState) (read : Read) (choices : Choices) (m : Written) (bits : List Bool)
+    (text : List ℕ) → IsToldOf of read choices m bits text → text ≢ []
+bits_some of read choices m bits text is = grind (arith, nat_tests)
 
 -- the scores of states have a row for the best of them
 pub scored_some : (j : Judgement) (names : Option (List (List ℕ))) (m : Written)

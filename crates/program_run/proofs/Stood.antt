@@ -1,6 +1,6 @@
 -- A model of the problem that a source is read into stands for the source.
-use Rattle.program_run.proofs.Common.{nat_tests, ◌≡◌, ◌≤◌, ℕ, ℤ, Option, ◌+ℤ◌, ◌*ℤ◌, Bool, List, take, None, refl, sym, ap, ◌∙◌, subst, arith, take-take, take-map, Kind, Form, IsOf, Source, Figures, Decoding, RelaxesBy, StaysAbove, first_decoded, rewritten_by, Written, IsWellFormed, form_of, decoding_of, read_off, IsBounded, HasUnit, HasChains, scale_of, DecodesAlike, by_alike, stays_above_alike, StandsAtLeast, IsLeast, relaxed_stands, standing_is_faithful, rewritten_stands, UnitChoice, FitsFields, upper, Read, CostsAs, StandsFor, bounded, stays_stood_for, ChainStrength, Format, Command, PenaltyScope, decoding_to, StandsBy, StaysBy, Placement, ties_of, demand_of, EveryStateStands, EveryStateStays, IsModelFor, Choi, Cut, Global, Local}
-use Rattle.run_steps.specs.Placements.{kind_of}
+use Rattle.program_run.proofs.Common.{nat_tests, ◌≡◌, ◌≤◌, ℕ, ℤ, Option, ◌+ℤ◌, ◌*ℤ◌, Bool, List, take, None, refl, sym, ap, ◌∙◌, subst, arith, take-take, take-map, Kind, Form, IsOf, Source, Figures, Decoding, RelaxesBy, StaysAbove, first_decoded, rewritten_by, Written, IsWellFormed, form_of, decoding_of, read_off, IsBounded, HasUnit, HasChains, scale_of, DecodesAlike, by_alike, stays_above_alike, StandsAtLeast, IsLeast, relaxed_stands, standing_is_faithful, rewritten_stands, UnitChoice, FitsFields, upper, Read, CostsAs, StandsFor, bounded, stays_stood_for, ChainStrength, Format, Command, PenaltyScope, decoding_to, StandsBy, StaysBy, ModelTarget, ties_of, demand_of, EveryStateStands, EveryStateStays, IsModelFor, Choi, Cut, Global, Local}
+use Rattle.model_pipeline.specs.Targets.{kind_of}
 use Rattle.problem_form.specs.Problems as problems
 use Rattle.command_words.specs.declared.commands.Format.TheVariants.{Wbo}
 use Rattle.program_run.proofs.Wanted.{HasSoft}
@@ -93,7 +93,7 @@ module _ (scope : PenaltyScope) (s : Source) (r : Read) (m : Written) (stands : 
 
 -- what is made stands for the source, where it has the chains that are asked for
 pub model_stands : (command : Command) (s : Source) (r : Read) (m : Written)
-    → StandsFor command.penalty s r → (base : Placement) (nodes : ℕ)
+    → StandsFor command.penalty s r → (base : ModelTarget) (nodes : ℕ)
     → IsMade command.penalty r command.unit (ties_of base) m → m.kind ≡ kind_of base
     → (demand_of command.unit base nodes).unit ≡ command.unit
     → HasChains m.kind (demand_of command.unit base nodes) m → IsModelFor base command nodes s m

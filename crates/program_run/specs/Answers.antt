@@ -25,13 +25,14 @@ use Rattle.command_words.specs.declared.commands.Origin.{Origin}
 use Rattle.command_words.specs.declared.commands.Origin.TheVariants.{File, Drawn}
 use Rattle.command_words.specs.declared.commands.Ask.{Ask}
 use Rattle.command_words.specs.declared.commands.Ask.TheVariants as asks
+use Rattle.command_words.specs.declared.commands.Make.TheVariants as makes
+use Rattle.command_words.specs.declared.commands.OfState.TheVariants.{Decode, Extend, Prove}
 use Rattle.command_words.specs.declared.commands.Command.{Command}
 use Rattle.command_words.specs.declared.commands.Request.{Request}
 use Rattle.command_words.specs.declared.commands.Request.TheVariants as requests
 use Rattle.command_words.specs.Notices.{notice_text}
-use Rattle.command_words.specs.Commands.{request_of}
 use Rattle.command_words.specs.Bounds.{most_of}
-use Rattle.command_words.specs.Names.{text_at, files_of}
+use Rattle.command_words.specs.Names.{files_of}
 use Rattle.command_words.specs.declared.names.Which.{Which}
 use Rattle.source_texts.specs.Sources.{source_of, names_of, bounded, carried}
 use Rattle.answer_text.specs.Answers.{decoding_text, extension_text, proof_text, solution_text}
@@ -42,9 +43,9 @@ use Rattle.state_scores.specs.Texts.{evaluation_text}
 use Rattle.elimination_order.specs.Renumbered.{IsFirstLeastBy}
 use Rattle.model_pipeline.specs.faithful.Told.{TellsOptimum, whole_energy}
 use Rattle.model_pipeline.specs.Extensions.{form_nodes_by, extension_of, state_by}
-use Rattle.run_steps.specs.declared.placements.Placement.{Placement}
+use Rattle.model_pipeline.specs.declared.options.ModelTarget.{ModelTarget}
 use Rattle.run_steps.specs.declared.plans.Plan.{Plan}
-use Rattle.run_steps.specs.Placements.{kind_of, ties_of, demand_of}
+use Rattle.model_pipeline.specs.Targets.{kind_of, ties_of, demand_of}
 use Rattle.run_steps.specs.Plans.{form_in, IsModelBy}
 use Rattle.run_steps.specs.Steps.{Last, Bits, InOrder, Several, format_in, planning, last_step}
 use Rattle.program_run.specs.declared.answer.Answer.{Answer}
@@ -58,15 +59,14 @@ use Rattle.program_run.specs.Outcome.{MeetsOutcome}
 -- ---- a source and its model
 
 -- the text of a source: that of the held file, or the one that is drawn
-abbrev pub IsTextIn : List (List ℕ) → NamedFiles → Origin → List ℕ → Type 0
-IsTextIn words held (File format at) text = find_file held (text_at words at) ≡ Some text
-IsTextIn words held (Drawn number clauses) text = text ≡ sample_text number clauses
+abbrev pub IsTextIn : NamedFiles → Origin → List ℕ → Type 0
+IsTextIn held (File format name) text = find_file held name ≡ Some text
+IsTextIn held (Drawn number clauses) text = text ≡ sample_text number clauses
 
 -- the source's text says this source
-pub record IsSaidBy (words : List (List ℕ)) (held : NamedFiles) (command : Command) (source : Source)
-    : Type 0 where
+pub record IsSaidBy (held : NamedFiles) (command : Command) (source : Source) : Type 0 where
   pub text : List ℕ
-  pub found : IsTextIn words held command.origin text
+  pub found : IsTextIn held command.origin text
   pub says : source_of command.slack (format_in command.origin) text ≡ Ok source
 
 -- every state of a model stands for the source or, with a penalty for each part, does so at least,
@@ -90,7 +90,7 @@ EveryStateStays Choi format source m =
 -- source as its ties and the scope of its penalties allow, and whose least states are the least
 -- assignments of the source; its energies are below 2 ^ 121 in size, and all numbers that are written
 -- below 2 ^ 124
-pub record IsModelFor (base : Placement) (command : Command) (nodes : ℕ) (source : Source)
+pub record IsModelFor (base : ModelTarget) (command : Command) (nodes : ℕ) (source : Source)
     (model : Written) : Type 0 where
   pub kind : model.kind ≡ kind_of base
   pub fits : FitsFields model
@@ -149,9 +149,9 @@ pub record IsExtension (ties : ChainStrength) (command : Command) (source : Sour
 -- and the state is the one that the steps of the plan make of the assignment
 pub record IsExtended (command : Command) (source : Source) (plan : Plan) (model : Written)
     (x : List Bool) (text : List ℕ) : Type 0 where
-  pub extension : IsExtension (ties_of plan.base) command source model x text
+  pub extension : IsExtension (ties_of plan.options.target) command source model x text
   pub exact : extension.state ≡ state_by model.kind model
-      (extension_of plan.choices plan.read.problem (carried plan.read.soft x))
+      (extension_of plan.options.choices plan.read.problem (carried plan.read.soft x))
 
 -- what a least state of a model tells of the source: where it is not above the threshold, it decodes
 -- to a least assignment, whose cost its energy tells; else the source is infeasible
@@ -206,27 +206,26 @@ pub record IsScored (j : Judgement) (names : Option (List (List ℕ))) (model : 
 -- all else is said of the source with the bound
 abbrev pub IsAskedOf : Ask → Source → Option ℤ → Option (List (List ℕ))
     → (List Bool → List ℕ → Type 0) → Written → Last → List ℕ → Type 0
-IsAskedOf asks.Model source most names P model last text = IsTextOf model text
-IsAskedOf asks.Summary source most names P model last text = text ≡ summary_text model
-IsAskedOf asks.Size source most names P model last text = text ≡ size_text model
-IsAskedOf (asks.Solve at) source most names P model (InOrder order) text =
+IsAskedOf (asks.Make makes.Model) source most names P model last text = IsTextOf model text
+IsAskedOf (asks.Make makes.Summary) source most names P model last text = text ≡ summary_text model
+IsAskedOf (asks.Make makes.Size) source most names P model last text = text ≡ size_text model
+IsAskedOf (asks.Solve name) source most names P model (InOrder order) text =
     IsSolved order source most names model text
-IsAskedOf (asks.Decode at) source most names P model (Bits bits) text =
+IsAskedOf (asks.State name Decode) source most names P model (Bits bits) text =
     IsDecoded source names model bits text
-IsAskedOf (asks.Evaluate at) source most names P model (Several states) text =
+IsAskedOf (asks.Evaluate name) source most names P model (Several states) text =
     IsScored (judgement_of source model) names model states text
-IsAskedOf (asks.Extend at) source most names P model (Bits bits) text = P bits text
-IsAskedOf (asks.Prove state certificate) source most names P model (Bits bits) text =
+IsAskedOf (asks.State name Extend) source most names P model (Bits bits) text = P bits text
+IsAskedOf (asks.State name (Prove certificate)) source most names P model (Bits bits) text =
     IsProved source most names model bits text
 IsAskedOf ask source most names P model last text = ⊥
 
 -- the text is what a command asks of a model, for a source of this text, with what is read once the
 -- model stands; what an assignment extends to is as P says it
-pub record IsAsked (words : List (List ℕ)) (held : NamedFiles) (command : Command)
-    (P : List Bool → List ℕ → Type 0) (written : List ℕ) (source : Source) (model : Written)
-    (text : List ℕ) : Type 0 where
+pub record IsAsked (held : NamedFiles) (command : Command) (P : List Bool → List ℕ → Type 0)
+    (written : List ℕ) (source : Source) (model : Written) (text : List ℕ) : Type 0 where
   pub last : Last
-  pub read : (last_step words held command.ask source.form.bits model).end ≡ Some (Ok last)
+  pub read : (last_step held command.ask source.form.bits model).end ≡ Some (Ok last)
   pub said : IsAskedOf command.ask source (most_of command.bound)
       (names_of (format_in command.origin) written) P model last text
 
@@ -237,24 +236,21 @@ pub record IsAsked (words : List (List ℕ)) (held : NamedFiles) (command : Comm
 -- assignments may cost at most the command's bound, its states lie at or above whole costs where that
 -- is promised, whole costs of the source are below 2 ^ 64 in size, and the model's nodes are at most the
 -- problem's variables and the auxiliary bits
-pub record IsAnswer (words : List (List ℕ)) (held : NamedFiles) (command : Command) (text : List ℕ)
-    : Type 0 where
+pub record IsAnswer (held : NamedFiles) (command : Command) (text : List ℕ) : Type 0 where
   pub source : Source
-  pub from : IsSaidBy words held command source
+  pub from : IsSaidBy held command source
   pub plan : Plan
-  pub planned : (planning words held command).end ≡ Some (Ok plan)
+  pub planned : (planning held command).end ≡ Some (Ok plan)
   pub model : Written
   pub by : IsModelBy plan model
-  pub stands : IsModelFor plan.base command (length (form_in plan).fields)
+  pub stands : IsModelFor plan.options.target command (length (form_in plan).fields)
       (bounded (most_of command.bound) source) model
-  pub stays : EveryStateStays (ties_of plan.base) (format_in command.origin)
+  pub stays : EveryStateStays (ties_of plan.options.target) (format_in command.origin)
       (bounded (most_of command.bound) source) model
   pub small : (x : List Bool) → IsOf source.form x → IsSmall (source.form.cost x)
   pub few : form_nodes_by model.kind model
-      ≤ plan.read.problem.variables + auxiliary_bits plan.choices.normal plan.read.problem
-  pub asked : IsAsked words held command
-      (IsExtended command source plan model)
-      from.text source model text
+      ≤ plan.read.problem.variables + auxiliary_bits plan.options.choices.normal plan.read.problem
+  pub asked : IsAsked held command (IsExtended command source plan model) from.text source model text
 
 -- the text is what is asked for: what a notice says, or one of which P holds for a command
 abbrev pub IsSaidTo : Result Request ℕ → (Command → List ℕ → Type 0) → List ℕ → Type 0
@@ -262,19 +258,11 @@ IsSaidTo (Ok (requests.Notice notice)) P text = text ≡ notice_text notice
 IsSaidTo (Ok (requests.Command command)) P text = P command text
 IsSaidTo (Err position) P text = ⊥
 
--- the text is the answer to the words
-abbrev pub IsAnswered : List (List ℕ) → NamedFiles → List ℕ → Type 0
-IsAnswered words held text = IsSaidTo (request_of words) (IsAnswer words held) text
-
 -- the files that what is asked takes
 abbrev pub files_asked : Result Request ℕ → List Which
 files_asked (Ok (requests.Notice notice)) = []
 files_asked (Ok (requests.Command command)) = files_of command
 files_asked (Err position) = []
-
--- the files that what the words ask for takes
-abbrev pub files_in : List (List ℕ) → List Which
-files_in words = files_asked (request_of words)
 
 -- ---- its delivery
 
@@ -290,23 +278,20 @@ IsDelivered Done old new text = Takes old new text
 IsDelivered WriteFault old new text = TakesFront old new text
 IsDelivered status old new text = ⊥
 
--- some text was delivered to a sink, and of it P holds, whatever files may be held
-abbrev pub Delivers : (NamedFiles → List ℕ → Type 0) → List (List ℕ) → Option NamedFiles → Status
-    → (old new : Taken) → Type 0
-Delivers P words told status old new =
+-- some text was delivered to a sink, and it is what is asked for, of which P holds for a command,
+-- whatever files may be held
+abbrev pub Delivers : (NamedFiles → Command → List ℕ → Type 0) → Result Request ℕ
+    → Option NamedFiles → Status → (old new : Taken) → Type 0
+Delivers P asked told status old new =
     (text : List ℕ) × IsDelivered status old new text
-    × WhereHeld told (files_in words) (λ held. P held text)
-
--- some text was delivered to a sink, and it answers the words
-abbrev pub DeliversAnswer : List (List ℕ) → Option NamedFiles → Status → (old new : Taken) → Type 0
-DeliversAnswer words told status old new = Delivers (IsAnswered words) words told status old new
+    × WhereHeld told (files_asked asked) (λ held. IsSaidTo asked (P held) text)
 
 -- a text went to a sink, and not an empty one
 abbrev pub WritesText : (old new : Taken) → Type 0
 WritesText old new = (text : List ℕ) × (text ≢ []) × Takes old new text
 
--- whatever files may be held, where the outcome of the words is Done, so is the status, unless a call
--- failed or memory was wanting
-abbrev pub Completes : List (List ℕ) → Option NamedFiles → Status → Type 0
-Completes words told status =
-    WhereHeld told (files_in words) (λ held. MeetsOutcome words held Done → IsDoneOrFault status)
+-- whatever files may be held, where the outcome of what is asked is Done, so is the status, unless a
+-- call failed or memory was wanting
+abbrev pub Completes : Result Request ℕ → Option NamedFiles → Status → Type 0
+Completes asked told status =
+    WhereHeld told (files_asked asked) (λ held. MeetsOutcome held asked Done → IsDoneOrFault status)

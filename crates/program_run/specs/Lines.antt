@@ -1,5 +1,5 @@
 -- The line that is written to the error output for each status but Done.
-use Rattle.std.specs.Prelude.{ℕ, List, [], ◌∷◌, codes, decimal, Ok, Err, Result}
+use Rattle.std.specs.Prelude.{ℕ, List, [], ◌∷◌, codes, decimal, Ok, Result}
 use Rattle.std.specs.List.{concat}
 use Rattle.std.specs.Fmt.{signed_decimal}
 use Rattle.edge_io.specs.Counts.{Rose}
@@ -16,7 +16,6 @@ use Rattle.command_words.specs.declared.commands.Request.{Request}
 use Rattle.command_words.specs.declared.commands.Request.TheVariants as requests
 use Rattle.posiform_check.specs.declared.faults.ProofFault.{ProofFault}
 use Rattle.posiform_check.specs.declared.faults.ProofFault.TheVariants.{Negative, Differs, NotZero}
-use Rattle.command_words.specs.Commands.{request_of}
 use Rattle.command_words.specs.Names.{name_of}
 use Rattle.run_steps.specs.declared.status.Status.{Status}
 use Rattle.run_steps.specs.declared.status.Status.TheVariants.{Done, Usage, ReadFault, WriteFault, BadText, Limit, NotEmbedded, TooWide, NotProved, NoState, NoMemory}
@@ -30,14 +29,9 @@ file_in (NoState length) = State
 file_in _ = Source
 
 -- the file's name in the line for a status of what is asked
-abbrev pub name_in : List (List ℕ) → Result Request ℕ → Status → List ℕ
-name_in words (Ok (requests.Command command)) status = name_of words command (file_in status)
-name_in words (Ok (requests.Notice notice)) status = []
-name_in words (Err position) status = []
-
--- the same, for what the words ask for
-abbrev pub name_said : List (List ℕ) → Status → List ℕ
-name_said words status = name_in words (request_of words) status
+abbrev pub name_in : Result Request ℕ → Status → List ℕ
+name_in (Ok (requests.Command command)) status = name_of command (file_in status)
+name_in asked status = []
 
 -- the end of the line for a bad text
 abbrev pub kind_end : TextKind → List ℕ

@@ -15,21 +15,25 @@ use Rattle.model_text.specs.Rows.{model_text}
 use Rattle.model_text.specs.Summary.{summary_text}
 use Rattle.answer_text.specs.Answers.{decoding_text, extension_text, proof_text, solution_text}
 use Rattle.answer_text.specs.Sizes.{size_text}
-use Rattle.model_pipeline.specs.declared.kept.Keeping.{Keeping}
-use Rattle.model_pipeline.specs.declared.kept.Keeping.TheVariants.{Unwanted, Wanted}
 use Rattle.model_pipeline.specs.Extensions.{extension_of, state_on, ExtendsTo, IsLeastTo, IsMadeOf}
+use Rattle.model_pipeline.specs.Compiled.{IsCompiled}
+use Rattle.model_pipeline.specs.declared.made.Made.{Made}
 use Rattle.command_words.specs.declared.commands.ChainStrength.TheVariants.{Choi}
 use Rattle.command_words.specs.declared.commands.Ask.{Ask}
-use Rattle.command_words.specs.declared.commands.Ask.TheVariants.{Model, Summary, Size, Solve, Decode, Evaluate, Extend, Prove}
+use Rattle.command_words.specs.declared.commands.Ask.TheVariants.{Make, Solve, Evaluate, State}
+use Rattle.command_words.specs.declared.commands.Make as makes
+use Rattle.command_words.specs.declared.commands.Make.TheVariants.{Model, Summary, Size}
+use Rattle.command_words.specs.declared.commands.OfState.{OfState}
+use Rattle.command_words.specs.declared.commands.OfState.TheVariants.{Decode, Extend, Prove}
 use Rattle.source_texts.specs.declared.reading.Read.{Read}
 use Rattle.source_texts.specs.Sources.{KeepsSoft, carried, said_cost}
 use Rattle.state_scores.specs.Scores.{Judgement}
 use Rattle.run_steps.specs.declared.plans.Plan.{Plan}
 use Rattle.run_steps.specs.declared.status.Status.{Status}
 use Rattle.run_steps.specs.declared.status.Status.TheVariants.{Done, ReadFault, WriteFault, NoMemory}
-use Rattle.run_steps.specs.Placements.{ties_of}
+use Rattle.model_pipeline.specs.Targets.{ties_of}
 use Rattle.run_steps.specs.Plans.{CanStand, IsModelBy, Stands}
-use Rattle.run_steps.specs.Steps.{Steps, Last, Nothing, Bits, InOrder, Several, last_step}
+use Rattle.run_steps.specs.Steps.{Steps, Last, Bits, InOrder, Several, last_step}
 use Rattle.program_run.specs.Outcome.{OfModel, IsEndOf}
 use Rattle.elimination_order.specs.Renumbered.{IsFirstLeastBy}
 use Rattle.program_run.specs.Answers.{IsScored}
@@ -40,7 +44,11 @@ pub record IsModelled (plan : Plan) (m : Written) : Type 0 where
   pub can_stand : CanStand plan
   pub by : IsModelBy plan m
   pub stands : Stands plan m
-  pub made : IsMadeOf (ties_of plan.base) plan.read.variables plan.choices plan.read.problem m
+  pub made : IsMadeOf (ties_of plan.options.target) plan.read.variables plan.options.choices plan.read.problem m
+
+-- this is what is made of the plan
+abbrev pub IsMadeBy : Plan → Made → Type 0
+IsMadeBy plan made = IsCompiled plan.options plan.read.variables plan.read.problem made
 
 -- what an assignment of the source costs, and infinite above the most that it may cost
 abbrev pub bounded_cost : Read → List Bool → Cost
@@ -127,41 +135,32 @@ pub record CanAddStates (m : Written) (words : List ℕ) : Type 0 where
   pub bits : m.kind ≡ Qubo
   pub width : length words ≡ m.nodes
 
--- what asks for the model, or for what the model alone tells
-abbrev pub IsOfModel : Ask → Type 0
-IsOfModel Model = ⊤
-IsOfModel Summary = ⊤
-IsOfModel Size = ⊤
-IsOfModel ask = ⊥
-
 -- the text of a model, its summary, or its size
-abbrev pub IsModelText : Ask → Written → List ℕ → Type 0
+abbrev pub IsModelText : makes.Make → Written → List ℕ → Type 0
 IsModelText Model m text = text ≡ model_text m
 IsModelText Summary m text = text ≡ summary_text m
 IsModelText Size m text = text ≡ size_text m
-IsModelText ask m text = ⊥
+
+-- the text is what is asked of a state of the model, or of an assignment of its source
+abbrev pub IsToldOf : OfState → Read → Choices → Written → List Bool → List ℕ → Type 0
+IsToldOf Decode read choices m bits text = text ≡ state_text read m bits
+IsToldOf Extend read choices m bits text = IsExtendedBy choices read m bits text
+IsToldOf (Prove certificate) read choices m bits text = text ≡ least_text read m bits
 
 -- the text is what is asked of the model, with what is read last
 abbrev pub IsTold : Ask → Read → Choices → Written → Last → List ℕ → Type 0
-IsTold (Solve at) read choices m (InOrder order) text = IsSolvedBy order read m text
-IsTold (Decode at) read choices m (Bits bits) text = text ≡ state_text read m bits
-IsTold (Evaluate at) read choices m (Several states) text =
+IsTold (Make make) read choices m last text = IsModelText make m text
+IsTold (Solve name) read choices m (InOrder order) text = IsSolvedBy order read m text
+IsTold (Evaluate name) read choices m (Several states) text =
     IsScored (judgement_by read m) read.names m states text
-IsTold (Extend at) read choices m (Bits bits) text = IsExtendedBy choices read m bits text
-IsTold (Prove state certificate) read choices m (Bits bits) text = text ≡ least_text read m bits
-IsTold ask read choices m Nothing text = IsModelText ask m text
+IsTold (State name of) read choices m (Bits bits) text = IsToldOf of read choices m bits text
 IsTold ask read choices m last text = ⊥
 
--- the steps of the model's form are wanted where an assignment is to be extended
-abbrev pub keeping_for : Ask → Keeping
-keeping_for (Extend at) = Wanted
-keeping_for ask = Unwanted
-
 -- the text is what is asked of the plan's model alone
-pub record IsTextOfModelled (ask : Ask) (plan : Plan) (text : List ℕ) : Type 0 where
+pub record IsTextOfModelled (make : makes.Make) (plan : Plan) (text : List ℕ) : Type 0 where
   pub model : Written
   pub made : IsModelled plan model
-  pub told : IsModelText ask model text
+  pub told : IsModelText make model text
 
 -- the text is what is asked of the plan's model, with what is read last
 pub record IsMadeText (ask : Ask) (plan : Plan) (steps : Written → Steps Last)
@@ -170,12 +169,11 @@ pub record IsMadeText (ask : Ask) (plan : Plan) (steps : Written → Steps Last)
   pub made : IsModelled plan model
   pub last : Last
   pub read : (steps model).end ≡ Some (Ok last)
-  pub told : IsTold ask plan.read plan.choices model last text
+  pub told : IsTold ask plan.read plan.options.choices model last text
 
--- the same, with what a command of these words reads once the model of its plan stands
-abbrev pub IsMadeTextOf : List (List ℕ) → NamedFiles → Ask → Plan → List ℕ → Type 0
-IsMadeTextOf words held ask plan text =
-    IsMadeText ask plan (last_step words held ask plan.read.variables) text
+-- the same, with what a command reads once the model of its plan stands
+abbrev pub IsMadeTextOf : NamedFiles → Ask → Plan → List ℕ → Type 0
+IsMadeTextOf held ask plan text = IsMadeText ask plan (last_step held ask plan.read.variables) text
 
 -- the status is how a plan ends, unless it is a fault or want of memory
 abbrev pub EndsOf : Status → Plan → (Written → Steps Last) → Type 0

@@ -1,17 +1,17 @@
 -- The outcome of a run: the first step that refuses ends it.
-use Rattle.std.specs.Prelude.{◌≡◌, ◌⊎◌, ℕ, List, Ok, Err, Some, None, Result, Contains, ⊤}
+use Rattle.std.specs.Prelude.{◌≡◌, ◌⊎◌, ℕ, Ok, Err, Some, None, Result, Contains, ⊤}
 use Rattle.std.specs.declared.option.Option.{Option}
 use Rattle.edge_io.specs.Held.{NamedFiles}
 use Rattle.bits_model.specs.Output.{Written}
 use Rattle.command_words.specs.declared.names.Which.{Which}
 use Rattle.command_words.specs.declared.commands.Request.{Request}
 use Rattle.command_words.specs.declared.commands.Request.TheVariants as requests
-use Rattle.command_words.specs.Commands.{request_of}
 use Rattle.run_steps.specs.Causes.{AreFiles}
 use Rattle.run_steps.specs.Statuses.{IsWriting}
 use Rattle.run_steps.specs.Steps.{Steps, Last, planning, last_step}
 use Rattle.run_steps.specs.declared.plans.Plan.{Plan}
-use Rattle.run_steps.specs.Plans.{CanStand, IsFaultOn, IsModelBy, form_in}
+use Rattle.model_pipeline.specs.Targets.{IsFaultOn}
+use Rattle.run_steps.specs.Plans.{CanStand, IsModelBy, form_in}
 use Rattle.run_steps.specs.declared.status.Status.{Status}
 use Rattle.run_steps.specs.declared.status.Status.TheVariants.{Done, Usage, ReadFault, WriteFault, NotEmbedded, NoMemory}
 use Rattle.edge_io.specs.Counts.{Counts}
@@ -23,7 +23,7 @@ OfModel plan P = CanStand plan × ((m : Written) × IsModelBy plan m × P m)
 -- how a plan ends: its model cannot be embedded, or the last step refuses, or all is done
 abbrev pub IsEndOf : Plan → (Written → Steps Last) → Status → Type 0
 IsEndOf plan last Done = OfModel plan (λ m. (x : Last) × ((last m).end ≡ Some (Ok x)))
-IsEndOf plan last (NotEmbedded fault) = IsFaultOn plan.base (form_in plan) fault × ¬ (CanStand plan)
+IsEndOf plan last (NotEmbedded fault) = IsFaultOn plan.options.target (form_in plan) fault × ¬ (CanStand plan)
 IsEndOf plan last status = OfModel plan (λ m. (last m).end ≡ Some (Err status))
 
 -- how all steps end: with the status of the first one that refuses, and else as the plan does; they
@@ -55,17 +55,13 @@ Ends status plans last = IsEnd plans.end last status
 
 -- the status of what is asked is its outcome, but for faults and want of memory; words that ask for
 -- nothing are a usage fault
-abbrev pub MeetsOutcomeOf : List (List ℕ) → NamedFiles → Result Request ℕ → Status → Type 0
-MeetsOutcomeOf words held (Err position) status = status ≡ Usage position
-MeetsOutcomeOf words held (Ok (requests.Notice notice)) status = IsWriting status
-MeetsOutcomeOf words held (Ok (requests.Command command)) status =
-    Ends status (planning words held command) (last_step words held command.ask)
-
--- the status of the words is their outcome, but for faults and want of memory
-abbrev pub MeetsOutcome : List (List ℕ) → NamedFiles → Status → Type 0
-MeetsOutcome words held status = MeetsOutcomeOf words held (request_of words) status
+abbrev pub MeetsOutcome : NamedFiles → Result Request ℕ → Status → Type 0
+MeetsOutcome held (Err position) status = status ≡ Usage position
+MeetsOutcome held (Ok (requests.Notice notice)) status = IsWriting status
+MeetsOutcome held (Ok (requests.Command command)) status =
+    Ends status (planning held command) (last_step held command.ask)
 
 -- what the store of files counted at a status of what is asked; a notice takes no file
-abbrev pub AreFilesAsked : List (List ℕ) → Request → Status → Counts → Counts → Type 0
-AreFilesAsked words (requests.Notice notice) status old new = new ≡ old
-AreFilesAsked words (requests.Command command) status old new = AreFiles words command status old new
+abbrev pub AreFilesAsked : Request → Status → Counts → Counts → Type 0
+AreFilesAsked (requests.Notice notice) status old new = new ≡ old
+AreFilesAsked (requests.Command command) status old new = AreFiles command status old new

@@ -2,12 +2,12 @@
 ghost use Rattle.std.specs.Prelude.{◌≡◌, ◌≢◌, ◌+◌, ◌<◌, ◌^◌, [], None, length, IfOk, IfErr, IsErrOf};
 ghost use Rattle.problem_form.specs.Limits.{limit_fault};
 ghost use Rattle.command_words.specs.declared.commands.Ask.TheVariants as asks;
-ghost use Rattle.command_words.specs.Names.{last_files};
+ghost use Rattle.command_words.specs.Names.{last_files, name_of};
 ghost use Rattle.state_file.specs.States.{states_of};
 ghost use Rattle.source_texts.specs.Sources.{KeepsSoft};
 ghost use Rattle.run_steps.specs.Steps.{last_step};
 ghost use Rattle.run_steps.specs.Statuses.{ended, IsRefusal};
-ghost use Rattle.run_steps.specs.Causes.{AreFilesOf, WhereHeld, spelled, named_in};
+ghost use Rattle.run_steps.specs.Causes.{AreFilesOf, WhereHeld};
 ghost use Rattle.state_scores.specs.Scores.{IsEvaluation};
 ghost use Rattle.program_run.specs.Answers.{text_of, IsScored};
 ghost use Rattle.program_run.specs.Made.{EndsOf, IsMadeTextOf, IsModelled, IsWithin, judgement_by};
@@ -17,7 +17,7 @@ use crate::decode::decoded;
 use crate::judging::ModelJudge;
 use crate::made::nodes_of;
 use bits_model::OutputModel;
-use command_words::{Command, WordAt};
+use command_words::{Command, Name};
 use edge_io::Files;
 use run_steps::{Plan, Status, take_states};
 use source_texts::Read;
@@ -70,31 +70,26 @@ fn evaluated_text(
 /// the best, and what that one decodes to.
 pub fn states_evaluated<F: Files>(
     alloc: Global,
-    words: &[String],
-    command: Command,
-    at: WordAt,
+    command: &Command<'_>,
+    name: &Name<'_>,
     plan: &Plan,
     model: &OutputModel,
     files: &mut F,
 ) -> Result<Answer, Status>
-    requires asked { command.ask ≡ asks.Evaluate at }
-    requires within { limit_fault plan.now.choices.normal plan.now.read.problem ≡ None }
+    requires asked { command.now.ask ≡ asks.Evaluate name.now }
+    requires within { limit_fault plan.now.options.choices.normal plan.now.read.problem ≡ None }
     requires kept { KeepsSoft plan.now.read }
     requires modelled { IsModelled plan.now model.now }
-    ensures step { WhereHeld (F.held files.old) (last_files command) (λ held.
-        EndsOf (ended result) plan.now
-        (last_step (spelled words.now) held command.ask plan.now.read.variables)) }
-    ensures files { AreFilesOf (named_in words.now command) []
-        (last_files command) (ended result) (F.counts files.old) (F.counts files.new) }
-    ensures answer { IfOk result (λ answer. WhereHeld (F.held files.old) (last_files command)
-        (λ held. IsMadeTextOf (spelled words.now) held command.ask plan.now (text_of answer))) }
+    ensures step { WhereHeld (F.held files.old) (last_files command.now) (λ held.
+        EndsOf (ended result) plan.now (last_step held command.now.ask plan.now.read.variables)) }
+    ensures files { AreFilesOf (name_of command.now) [] (last_files command.now) (ended result)
+        (F.counts files.old) (F.counts files.new) }
+    ensures answer { IfOk result (λ answer. WhereHeld (F.held files.old) (last_files command.now)
+        (λ held. IsMadeTextOf held command.now.ask plan.now (text_of answer))) }
     ensures some { IfOk result (λ answer. text_of answer ≢ []) }
     ensures refusal { IfErr result IsRefusal }
 {
-    let bytes = match take_states(alloc, words, command, at, files) {
-        Ok(bytes) => bytes,
-        Err(status) => return Err(status),
-    };
+    let bytes = take_states(alloc, command, name, files)?;
     match evaluated_text(alloc, &plan.read, model, &bytes) {
         Ok(text) => Ok(Answer::Scores(text)),
         Err(StateAnswer::NoState) => Err(Status::NoState(nodes_of(model))),

@@ -12,7 +12,6 @@ mod judging;
 mod laws;
 mod lines;
 mod made;
-mod models;
 mod one_write;
 mod program;
 mod running;

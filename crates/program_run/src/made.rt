@@ -1,111 +1,84 @@
 //! The answer of a command from the plan of its model: the model alone, or a state of it.
-ghost use Rattle.std.specs.Prelude.{◌≡◌, ◌≢◌, ℕ, List, [], None, Some, length, reverse, IfOk, IfErr, OnOk};
+ghost use Rattle.std.specs.Prelude.{◌≡◌, true, ◌≢◌, ℕ, List, [], None, Some, length, reverse, IfOk, IfErr};
 ghost use Rattle.problem_form.specs.Limits.{limit_fault};
 ghost use Rattle.bits_model.specs.Output.{form_of};
-ghost use Rattle.command_words.specs.Names.{last_files};
+ghost use Rattle.command_words.specs.Names.{last_files, name_of};
 ghost use Rattle.elimination_order.specs.Renumbered.{IsFirstLeastBy};
-ghost use Rattle.model_pipeline.specs.Extensions.{IsMade, IsMadeOf};
-ghost use Rattle.model_pipeline.specs.Kept.{Keeps};
 ghost use Rattle.source_texts.specs.Sources.{KeepsSoft};
-ghost use Rattle.run_steps.specs.Placements.{ties_of};
-ghost use Rattle.run_steps.specs.Steps.{Bits, asked_width, bits_at, last_step, solving};
+ghost use Rattle.run_steps.specs.Steps.{asked_width, last_step, solving, keeps_steps};
 ghost use Rattle.program_run.specs.Answers.{text_of};
-ghost use Rattle.program_run.specs.Made.{EndsOf, IsMadeText, IsModelled, IsSolvedBy, IsTold, IsMadeTextOf, keeping_for};
+ghost use Rattle.program_run.specs.Made.{EndsOf, IsMadeText, IsModelled, IsSolvedBy, IsToldOf, IsMadeTextOf, IsMadeBy};
 ghost use Rattle.program_run.specs.Unembedded.{IsUnembedded, unsolved};
 ghost use Rattle.run_steps.specs.Statuses.{ended, IsRefusal, IsUnsolved};
-ghost use Rattle.run_steps.specs.Causes.{AreFilesOf, WhereHeld, spelled, named_in};
+ghost use Rattle.run_steps.specs.Causes.{AreFilesOf, WhereHeld};
 
 use crate::answer::Answer;
 use crate::decode::{bounded_cost, decoded, decoded_text, proved_text};
 use crate::extend::extended_text;
-use crate::models::model_on;
 use answer_text::written_solution;
 use base::NoMemory;
 use basic_solve::{SolveAnswer, solve};
 use bits_model::{OutputModel, energy_of};
-use command_words::{Ask, Command, WordAt};
+use command_words::{Ask, Command, Name, OfState};
 use edge_io::Files;
 use elimination_order::solve_by;
-use model_pipeline::Keeping;
+use model_pipeline::{Made, compile};
 use run_steps::{Plan, Status, take_last, take_order};
 use source_texts::Read;
 use std::alloc::Global;
 
 /// The model of a plan, which is let go. Its problem is, as soon as a form stands in its place.
 pub fn model_given(alloc: Global, plan: Plan) -> Result<OutputModel, Status>
-    requires within { limit_fault plan.choices.normal plan.read.problem ≡ None }
+    requires within { limit_fault plan.options.choices.normal plan.read.problem ≡ None }
     requires kept { KeepsSoft plan.read }
     ensures modelled { IfOk result (IsModelled plan) }
     ensures refused { IfErr result (IsUnembedded plan) }
 {
     let variables = plan.read.variables;
-    let choices = plan.choices;
-    let unit = plan.unit;
-    let (problem, base) = plan.into_problem_and_base();
-    let mut kept = Keeping::Unwanted;
-    model_on(alloc, problem, variables, &choices, unit, &base, &mut kept)
+    let (problem, options) = plan.into_problem_and_options();
+    let Made {
+        model,
+        steps: _steps,
+    } = compile(alloc, problem, variables, &options)?;
+    Ok(model)
 }
 
-/// The model of a plan, which stays. The steps of its form are kept where they are wanted.
-pub fn model_lent(alloc: Global, plan: &Plan, kept: &mut Keeping) -> Result<OutputModel, Status>
-    requires within { limit_fault plan.now.choices.normal plan.now.read.problem ≡ None }
+/// What is made of a plan, which stays.
+pub fn made_lent(alloc: Global, plan: &Plan) -> Result<Made, Status>
+    requires within { limit_fault plan.now.options.choices.normal plan.now.read.problem ≡ None }
     requires kept { KeepsSoft plan.now.read }
-    ensures modelled { IfOk result (IsModelled plan.now) }
-    ensures made { IfOk result (IsMadeOf (ties_of plan.now.base) plan.now.read.variables
-        plan.now.choices plan.now.read.problem) }
-    ensures kept { OnOk result
-        (Keeps plan.now.choices plan.now.read.problem kept.old kept.new) }
+    ensures made { IfOk result (IsMadeBy plan.now) }
     ensures refused { IfErr result (IsUnembedded plan.now) }
 {
     let read = &plan.read;
-    model_on(
-        alloc,
-        &read.problem,
-        read.variables,
-        &plan.choices,
-        plan.unit,
-        &plan.base,
-        kept,
-    )
-}
-
-/// Whether what asks for a state wants the steps of the form: to extend an assignment.
-pub fn keeping_for(ask: Ask) -> Keeping
-    ensures { result ≡ keeping_for ask }
-{
-    match ask {
-        Ask::Extend(_) => Keeping::Wanted,
-        _ => Keeping::Unwanted,
-    }
+    let made = compile(alloc, &read.problem, read.variables, &plan.options)?;
+    Ok(made)
 }
 
 /// What is written for a state of a model, or for an assignment of its source.
 fn told(
     alloc: Global,
-    ask: Ask,
+    of: &OfState<'_>,
     plan: &Plan,
-    model: &OutputModel,
-    kept: &Keeping,
+    made: &Made,
     bits: &[bool],
 ) -> Result<Vec<u8>, NoMemory>
-    requires asked { bits_at ask ≡ None → ⊥ }
-    requires within { limit_fault plan.now.choices.normal plan.now.read.problem ≡ None }
+    requires within { limit_fault plan.now.options.choices.normal plan.now.read.problem ≡ None }
     requires soft { KeepsSoft plan.now.read }
-    requires variables { model.now.variables ≡ plan.now.read.variables }
-    requires made { IsMade plan.now.choices plan.now.read.problem model.now }
-    requires kept { Keeps plan.now.choices plan.now.read.problem (keeping_for ask) kept.now }
-    requires width { length bits.now ≡ asked_width ask plan.now.read.variables model.now }
-    ensures { IfOk result (λ text.
-        IsTold ask plan.now.read plan.now.choices model.now (Bits bits.now) text.items) }
+    requires made { IsMadeBy plan.now made.now }
+    requires steps { of.now ≡ OfState.Extend → plan.now.options.keep_steps ≡ true }
+    requires width { length bits.now ≡ asked_width of.now plan.now.read.variables made.now.model }
+    ensures { IfOk result (λ text. IsToldOf of.now plan.now.read plan.now.options.choices
+        made.now.model bits.now text.items) }
 {
-    match ask {
-        Ask::Decode(_) => decoded_text(alloc, &plan.read, model, bits),
-        Ask::Extend(_) => match kept {
-            Keeping::Kept(steps) => extended_text(alloc, &plan.read, steps, model, bits),
-            Keeping::Unwanted | Keeping::Wanted => unreachable!(),
+    let model = &made.model;
+    match of {
+        OfState::Decode => decoded_text(alloc, &plan.read, model, bits),
+        OfState::Extend => match &made.steps {
+            Some(steps) => extended_text(alloc, &plan.read, steps, model, bits),
+            None => unreachable!(),
         },
-        Ask::Prove(..) => proved_text(alloc, &plan.read, model, bits),
-        Ask::Model | Ask::Summary | Ask::Size | Ask::Solve(_) | Ask::Evaluate(_) => unreachable!(),
+        OfState::Prove(_) => proved_text(alloc, &plan.read, model, bits),
     }
 }
 
@@ -150,9 +123,9 @@ fn unsolved(answer: SolveAnswer) -> Status
 pub fn solved(alloc: Global, plan: &Plan, model: &OutputModel) -> Result<Answer, Status>
     requires kept { KeepsSoft plan.now.read }
     requires modelled { IsModelled plan.now model.now }
-    ensures step { EndsOf (ended result) plan.now (solving [] [] None) }
+    ensures step { EndsOf (ended result) plan.now (solving [] None) }
     ensures answer { IfOk result (λ answer. IsMadeText (Ask.Solve None) plan.now
-        (solving [] [] None) (text_of answer)) }
+        (solving [] None) (text_of answer)) }
     ensures some { IfOk result (λ answer. text_of answer ≢ []) }
     ensures refusal { IfErr result IsUnsolved }
 {
@@ -168,28 +141,26 @@ pub fn solved(alloc: Global, plan: &Plan, model: &OutputModel) -> Result<Answer,
 /// tells.
 pub fn solved_in_order<F: Files>(
     alloc: Global,
-    words: &[String],
-    command: Command,
-    at: WordAt,
+    command: &Command<'_>,
+    name: &Name<'_>,
     plan: &Plan,
     model: &OutputModel,
     files: &mut F,
 ) -> Result<Answer, Status>
-    requires asked { command.ask ≡ Ask.Solve (Some at) }
+    requires asked { command.now.ask ≡ Ask.Solve (Some name.now) }
     requires kept { KeepsSoft plan.now.read }
     requires modelled { IsModelled plan.now model.now }
-    ensures step { WhereHeld (F.held files.old) (last_files command) (λ held.
-        EndsOf (ended result) plan.now
-        (last_step (spelled words.now) held command.ask plan.now.read.variables)) }
-    ensures files { AreFilesOf (named_in words.now command) []
-        (last_files command) (ended result) (F.counts files.old) (F.counts files.new) }
-    ensures answer { IfOk result (λ answer. WhereHeld (F.held files.old) (last_files command)
-        (λ held. IsMadeTextOf (spelled words.now) held command.ask plan.now (text_of answer))) }
+    ensures step { WhereHeld (F.held files.old) (last_files command.now) (λ held.
+        EndsOf (ended result) plan.now (last_step held command.now.ask plan.now.read.variables)) }
+    ensures files { AreFilesOf (name_of command.now) [] (last_files command.now) (ended result)
+        (F.counts files.old) (F.counts files.new) }
+    ensures answer { IfOk result (λ answer. WhereHeld (F.held files.old) (last_files command.now)
+        (λ held. IsMadeTextOf held command.now.ask plan.now (text_of answer))) }
     ensures some { IfOk result (λ answer. text_of answer ≢ []) }
     ensures refusal { IfErr result IsRefusal }
 {
     let nodes = nodes_of(model);
-    let order = take_order(alloc, words, command, at, nodes, files)?;
+    let order = take_order(alloc, command, name, nodes, files)?;
     let state = match solve_by(alloc, model, &order) {
         Ok(state) => state,
         Err(answer) => return Err(unsolved(answer)),
@@ -202,31 +173,28 @@ pub fn solved_in_order<F: Files>(
 /// is asked of it.
 pub fn state_told<F: Files>(
     alloc: Global,
-    words: &[String],
-    command: Command,
-    at: WordAt,
+    command: &Command<'_>,
+    name: &Name<'_>,
+    of: &OfState<'_>,
     plan: &Plan,
-    model: &OutputModel,
-    kept: &Keeping,
+    made: &Made,
     files: &mut F,
 ) -> Result<Answer, Status>
-    requires asked { bits_at command.ask ≡ Some at }
-    requires within { limit_fault plan.now.choices.normal plan.now.read.problem ≡ None }
+    requires asked { command.now.ask ≡ Ask.State name.now of.now }
+    requires within { limit_fault plan.now.options.choices.normal plan.now.read.problem ≡ None }
     requires soft { KeepsSoft plan.now.read }
-    requires modelled { IsModelled plan.now model.now }
-    requires kept { Keeps plan.now.choices plan.now.read.problem
-        (keeping_for command.ask) kept.now }
-    ensures step { WhereHeld (F.held files.old) (last_files command) (λ held.
-        EndsOf (ended result) plan.now
-        (last_step (spelled words.now) held command.ask plan.now.read.variables)) }
-    ensures files { AreFilesOf (named_in words.now command) []
-        (last_files command) (ended result) (F.counts files.old) (F.counts files.new) }
-    ensures answer { IfOk result (λ answer. WhereHeld (F.held files.old) (last_files command)
-        (λ held. IsMadeTextOf (spelled words.now) held command.ask plan.now (text_of answer))) }
+    requires made { IsMadeBy plan.now made.now }
+    requires steps { plan.now.options.keep_steps ≡ keeps_steps command.now.ask }
+    ensures step { WhereHeld (F.held files.old) (last_files command.now) (λ held.
+        EndsOf (ended result) plan.now (last_step held command.now.ask plan.now.read.variables)) }
+    ensures files { AreFilesOf (name_of command.now) [] (last_files command.now) (ended result)
+        (F.counts files.old) (F.counts files.new) }
+    ensures answer { IfOk result (λ answer. WhereHeld (F.held files.old) (last_files command.now)
+        (λ held. IsMadeTextOf held command.now.ask plan.now (text_of answer))) }
     ensures some { IfOk result (λ answer. text_of answer ≢ []) }
     ensures refusal { IfErr result IsRefusal }
 {
-    let bits = take_last(alloc, words, command, at, plan, model, files)?;
-    let text = told(alloc, command.ask, plan, model, kept, &bits)?;
+    let bits = take_last(alloc, command, name, of, plan, &made.model, files)?;
+    let text = told(alloc, of, plan, made, &bits)?;
     Ok(Answer::Text(text))
 }

@@ -1,6 +1,6 @@
 //! The program, over the real words and files.
 ghost use Rattle.std.specs.Prelude.{◌≡◌, ◌≢◌, IfOk, IfErr, OnErr, OnOk};
-ghost use Rattle.run_steps.specs.Causes.{spelled};
+ghost use Rattle.command_words.specs.Commands.{asked};
 ghost use Rattle.run_steps.specs.Statuses.{IsUntaken, exit_number};
 ghost use Rattle.program_run.specs.Exits.{ends_by, sinks_by, IsNumberOf, IsRunOn};
 
@@ -19,7 +19,7 @@ pub fn finish<F: Files, O: Sink, E: Sink>(
     out: &mut O,
     err: &mut E,
 ) -> u8
-    ensures run { IsNumberOf (spelled words.now)
+    ensures run { IsNumberOf (asked words.now)
         (ends_by O.taken O.faults E.taken E.faults F.held F.counts)
         (out.old, err.old, files.old) (out.new, err.new, files.new) result }
 
@@ -54,7 +54,7 @@ pub fn exit_number<O: Sink, E: Sink>(
     out: &mut O,
     err: &mut E,
 ) -> u8
-    ensures run { IfOk words (λ given. IsRunOn (spelled given.items)
+    ensures run { IfOk words (λ given. IsRunOn (asked given.items)
         (sinks_by O.taken O.faults E.taken E.faults)
         (out.old, err.old) (out.new, err.new) result) }
     ensures refused { OnOk words (result ≢ 0 → result ≢ 4 → out.new ≡ out.old) }

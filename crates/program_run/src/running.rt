@@ -1,14 +1,14 @@
 //! One run: the answer to a command, its delivery, and the line for the status.
 ghost use Rattle.std.specs.Prelude.{◌≡◌, ℕ, Ok, Err, IfOk, IfErr};
-ghost use Rattle.command_words.specs.declared.commands.Request.TheVariants as requests;
-ghost use Rattle.command_words.specs.Commands.{asked, AsksForFewClauses, HasFewClauses};
+ghost use Rattle.command_words.specs.Commands.{asked, by_command, AsksForFewClauses, HasFewClauses};
+ghost use Rattle.command_words.specs.Names.{files_of};
 ghost use Rattle.command_words.specs.Notices.{notice_text};
 ghost use Rattle.run_steps.specs.Statuses.{IsUsageOf, OnUsage, OnWriting, OnDone, OnRefusal, CountsWriteFault};
-ghost use Rattle.program_run.specs.Outcome.{AreFilesAsked, MeetsOutcome};
-ghost use Rattle.run_steps.specs.Causes.{WhereHeld, spelled};
-ghost use Rattle.program_run.specs.Answers.{files_in, DeliversAnswer, IsDelivered, WritesText};
+ghost use Rattle.run_steps.specs.Causes.{AreFiles, WhereHeld};
+ghost use Rattle.program_run.specs.Outcome.{MeetsOutcome};
+ghost use Rattle.program_run.specs.Answers.{Delivers, IsAnswer, IsDelivered, WritesText};
 ghost use Rattle.program_run.specs.Runs.{IsRun};
-ghost use Rattle.program_run.specs.Lines.{error_line, name_in, name_said, file_in, IsSaid};
+ghost use Rattle.program_run.specs.Lines.{error_line, name_in, file_in, IsSaid};
 
 use crate::answers::answer_to;
 use crate::delivery::{deliver, deliver_text};
@@ -30,26 +30,12 @@ fn file_in(status: Status) -> Which
 }
 
 /// The file's name in the line for a status.
-fn name_in(words: &[String], asked: Result<Request, usize>, status: Status) -> &str
-    ensures { result.now ≡ name_in (spelled words.now) asked status }
+fn name_in<'a>(asked: &Result<Request<'a>, usize>, status: Status) -> &'a str
+    ensures { result.now ≡ name_in asked.now status }
 {
     match asked {
-        Ok(Request::Command(command)) => name_of(words, command, file_in(status)),
+        Ok(Request::Command(command)) => name_of(command, file_in(status)),
         Ok(Request::Notice(_)) | Err(_) => "",
-    }
-}
-
-/// What the words ask for, or the status of a usage fault. No allocator is at hand, so a usage fault
-/// takes no memory.
-fn request_asked(words: &[String]) -> Result<Request, Status>
-    ensures request { IfOk result (λ request. asked words.now ≡ Ok request) }
-    ensures few { IfOk result AsksForFewClauses }
-    ensures usage { IfErr result (λ status.
-        (at : ℕ) × (status ≡ Status.Usage at) × (asked words.now ≡ Err at)) }
-{
-    match request(words) {
-        Ok(request) => Ok(request),
-        Err(position) => Err(Status::Usage(position)),
     }
 }
 
@@ -63,34 +49,30 @@ fn noticed<O: Sink>(notice: Notice, out: &mut O) -> Status
     deliver_text(notice_text(notice).as_bytes(), out)
 }
 
-/// How a command of the words ends, with its answer written to `out`, before which the whole answer
-/// stands, and the buffer that it goes through.
+/// How a command ends, with its answer written to `out`, before which the whole answer stands, and
+/// the buffer that it goes through.
 fn carried_out<F: Files, O: Sink>(
     alloc: Global,
-    words: &[String],
-    command: Command,
+    command: &Command<'_>,
     files: &mut F,
     out: &mut O,
 ) -> Status
-    requires same { asked words.now ≡ Ok (requests.Command command) }
-    requires few { HasFewClauses command.origin }
-    ensures usage { IsUsageOf result (asked words.now) }
+    requires few { HasFewClauses command.now.origin }
+    ensures usage { IsUsageOf result (by_command command.now) }
     ensures no_call { OnUsage result (files.new ≡ files.old) }
-    ensures files { IfOk (asked words.now) (λ request.
-        AreFilesAsked (spelled words.now) request result
-        (F.counts files.old) (F.counts files.new)) }
+    ensures files { AreFiles command.now result (F.counts files.old) (F.counts files.new) }
     ensures write_fault { CountsWriteFault result (O.faults out.old) (O.faults out.new) }
-    ensures outcome { WhereHeld (F.held files.old) (files_in (spelled words.now)) (λ held.
-        MeetsOutcome (spelled words.now) held result) }
-    ensures answered { OnWriting result (DeliversAnswer (spelled words.now) (F.held files.old)
-        result (O.taken out.old) (O.taken out.new)) }
+    ensures outcome { WhereHeld (F.held files.old) (files_of command.now) (λ held.
+        MeetsOutcome held (by_command command.now) result) }
+    ensures answered { OnWriting result (Delivers IsAnswer (by_command command.now)
+        (F.held files.old) result (O.taken out.old) (O.taken out.new)) }
     ensures written { OnDone result (WritesText (O.taken out.old) (O.taken out.new)) }
     ensures refused { OnRefusal result (out.new ≡ out.old) }
 {
     let Ok(mut buffer) = LineBuffer::new(alloc) else {
         return Status::NoMemory;
     };
-    match answer_to(alloc, words, command, files) {
+    match answer_to(alloc, command, files) {
         Err(status) => status,
         Ok(answer) => {
             let status = deliver(&answer, &mut buffer, out);
@@ -100,15 +82,16 @@ fn carried_out<F: Files, O: Sink>(
     }
 }
 
-/// How a run ends, with its answer written to `out`, before which the whole answer stands. It knows
-/// no error output, so a fault of that changes no status.
+/// How a run ends on what its words ask for, with its answer written to `out`, before which the whole
+/// answer stands. It knows no error output, so a fault of that changes no status.
 pub fn answered<F: Files, O: Sink>(
     alloc: Global,
-    words: &[String],
+    asked: &Result<Request<'_>, usize>,
     files: &mut F,
     out: &mut O,
 ) -> Status
-    ensures run { IsRun (spelled words.now) result (F.held files.old)
+    requires few { IfOk asked.now AsksForFewClauses }
+    ensures run { IsRun asked.now result (F.held files.old)
         (F.counts files.old) (F.counts files.new) (O.taken out.old) (O.taken out.new)
         (O.faults out.old) (O.faults out.new) }
 
@@ -116,10 +99,12 @@ pub fn answered<F: Files, O: Sink>(
     ensures no_call { OnUsage result (files.new ≡ files.old) }
     ensures refused { OnRefusal result (out.new ≡ out.old) }
 {
-    match request_asked(words) {
-        Ok(Request::Command(command)) => carried_out(alloc, words, command, files, out),
-        Ok(Request::Notice(notice)) => noticed(notice, out),
-        Err(status) => status,
+    match asked {
+        Ok(request) => match request {
+            Request::Command(command) => carried_out(alloc, command, files, out),
+            Request::Notice(notice) => noticed(*notice, out),
+        },
+        Err(position) => Status::Usage(*position),
     }
 }
 
@@ -131,7 +116,7 @@ pub fn run<F: Files, O: Sink, E: Sink>(
     out: &mut O,
     err: &mut E,
 ) -> Status
-    ensures run { IsRun (spelled words.now) result (F.held files.old)
+    ensures run { IsRun (asked words.now) result (F.held files.old)
         (F.counts files.old) (F.counts files.new) (O.taken out.old) (O.taken out.new)
         (O.faults out.old) (O.faults out.new) }
 
@@ -141,10 +126,11 @@ pub fn run<F: Files, O: Sink, E: Sink>(
 
     // The line, and none at `Done`.
     ensures line { IsSaid (E.taken err.old) (E.taken err.new) (E.faults err.old) (E.faults err.new)
-        (error_line result (name_said (spelled words.now) result)) }
+        (error_line result (name_in (asked words.now) result)) }
     ensures silent { OnDone result (err.new ≡ err.old) }
 {
-    let status = answered(alloc, words, files, out);
-    say(status, name_in(words, request(words), status), err);
+    let asked = request(words);
+    let status = answered(alloc, &asked, files, out);
+    say(status, name_in(&asked, status), err);
     status
 }

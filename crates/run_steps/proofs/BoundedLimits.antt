@@ -1,6 +1,6 @@
 -- What passes no limit passes none where assignments may cost at most so much: the penalty is no
 -- greater, and so is the weight.
-use Rattle.run_steps.proofs.Common.{nat_tests, ints, ◌≡◌, ℕ, ◌+◌, ◌-◌, ◌*◌, ◌^◌, ◌≤◌, ℤ, Option, None, ap, arith, count_by, is_none, sum_by, sum_by-le-sum_by, add-le-add, mul-le, Normal, Clause, Constraint, ProblemContent, with_most, cost_size, limit_fault, lower, penalty, penalty_above, reach, weight}
+use Rattle.run_steps.proofs.Common.{nat_tests, ints, ◌≡◌, ℕ, ◌+◌, ◌*◌, ◌^◌, ◌≤◌, ℤ, Option, None, ap, arith, count_by, is_none, sum_by, sum_by-le-sum_by, add-le-add, mul-le, Normal, Clause, Constraint, ProblemContent, with_most, cost_size, limit_fault, lower, penalty, penalty_above, reach, weight}
 
 -- ---- the weight
 

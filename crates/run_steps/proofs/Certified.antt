@@ -1,5 +1,6 @@
 -- A certificate that is read, and a state that it proves or does not; the last step of a command.
-use Rattle.run_steps.proofs.Common.{nat_tests, arith, ◌≡◌, ℕ, Bool, List, [], ◌++◌, Ok, Some, None, Result, IfErr, NamedFiles, Counts, Written, CertificateContent, proof_fault, Which, WordAt, Ask, text_at, certificate_of, Status, asked_width, bits_at, Steps, ends, stating, certifying, certified, proving, proof_end, Bits, last_step, Meets, Refuses, IsReading, IsUnproved, ended, AreRead, AreRefused, AreFilesOf, Prove}
+use Rattle.run_steps.proofs.Common.{nat_tests, arith, ◌≡◌, ℕ, Bool, List, [], ◌++◌, Ok, Some, Result, IfErr, NamedFiles, Counts, Written, CertificateContent, proof_fault, Which, Ask, OfState, Status, asked_width, Steps, Last, ends, gives, ◌>>=◌, stating, certifying, certified, proving, proof_end, Bits, last_step, Meets, Refuses, IsReading, IsUnproved, ended, AreRead, AreRefused, AreFilesOf}
+use Rattle.command_words.specs.declared.commands.Ask.TheVariants as asks
 use Rattle.run_steps.proofs.FilesRead.{made_then, read_then, read_wanting}
 use Rattle.run_steps.proofs.Stepping.{bits_meet, meets_next, refuses_on}
 
@@ -50,43 +51,25 @@ pub then_returned : {X : Type 0} (result : Result X Status) (name : Which → Li
 then_returned result name first last a b c is some read =
     grind (arith, nat_tests, read_then, then_last)
 
--- a state was read, and what its proof gives is what both give
-pub proving_meets : {X : Type 0} (view : X → List Bool) (result : Result X Status)
-    (words : List (List ℕ)) (held : NamedFiles) (state certificate : WordAt) (m : Written)
-    (bits : List Bool) → (stating held (text_at words state) m.nodes).end ≡ Some (Ok bits)
-    → Meets view result (certified held (text_at words certificate) m bits)
-    → Meets view result (proving words held state certificate m)
-unfolding proving
-proving_meets view result words held state certificate m bits e meets =
-    grind (arith, nat_tests, meets_next)
-
-module _ (words : List (List ℕ)) (held : NamedFiles) (variables : ℕ) (m : Written) where
+module _ (held : NamedFiles) (name : List ℕ) (of : OfState) (variables : ℕ) (m : Written) where
   -- so many bits of a state or an assignment
-  abbrev pub asked : Ask → WordAt → Steps (List Bool)
-  asked ask at = stating held (text_at words at) (asked_width ask variables m)
+  abbrev pub asked : Steps (List Bool)
+  asked = stating held name (asked_width of variables m)
 
-  proof_refuses_first : (state certificate : WordAt) (status : Status)
-      → Refuses status (stating held (text_at words state) m.nodes)
-      → Refuses status (proving words held state certificate m)
-  unfolding proving
-  proof_refuses_first state certificate status refused = grind (arith, nat_tests, refuses_on)
+  -- what comes after them
+  abbrev after : List Bool → Steps Last
+  after read = proving held of m read >>= λ bits. gives (Bits bits)
 
   -- what refuses the bits refuses the step that reads them
-  pub bits_refuse : (ask : Ask) (at : WordAt) (status : Status) → bits_at ask ≡ Some at
-      → Refuses status (asked ask at) → Refuses status (last_step words held ask variables m)
-  bits_refuse ask same status is refused = grind (arith, nat_tests, refuses_on, proof_refuses_first)
+  pub bits_refuse : (ask : Ask) (status : Status) → ask ≡ asks.State name of
+      → Refuses status asked → Refuses status (last_step held ask variables m)
+  bits_refuse ask status is refused = rw is (refuses_on status asked after refused)
 
-  -- a certificate is asked for, and what its proof gives is what is read last
-  pub proof_meets : {X : Type 0} (view : X → List Bool) (result : Result X Status) (ask : Ask)
-      (at state certificate : WordAt) (bits : List Bool) → ask ≡ Prove state certificate
-      → bits_at ask ≡ Some at → (asked ask at).end ≡ Some (Ok bits)
-      → Meets view result (certified held (text_at words certificate) m bits)
-      → Meets (λ x. Bits (view x)) result (last_step words held ask variables m)
-  proof_meets view result ask at state certificate bits is from e meets =
-      grind (arith, nat_tests, bits_meet, proving_meets)
-
-  -- no certificate is asked for, and what is read last are the bits
-  pub bits_given : (ask : Ask) (at : WordAt) (bits : List Bool) → bits_at ask ≡ Some at
-      → certificate_of ask ≡ None → (asked ask at).end ≡ Some (Ok bits)
-      → (last_step words held ask variables m).end ≡ Some (Ok (Bits bits))
-  bits_given ask same bits is none e = grind (arith, nat_tests)
+  -- bits were read, and what proves them gives what is read last
+  pub bits_read : {X : Type 0} (view : X → List Bool) (result : Result X Status) (ask : Ask)
+      (read : List Bool) → ask ≡ asks.State name of → asked.end ≡ Some (Ok read)
+      → Meets view result (proving held of m read)
+      → Meets (λ x. Bits (view x)) result (last_step held ask variables m)
+  bits_read view result ask read is e meets =
+      rw is (meets_next (λ x. Bits (view x)) result asked after read e
+      (bits_meet view result (proving held of m read) meets))

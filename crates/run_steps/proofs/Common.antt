@@ -4,7 +4,7 @@ pub use Rattle.whole_text.proofs.Common.{length-take, take-append-le, LexerState
 pub use Rattle.problem_form.proofs.Common.{eqb-true, sum_by-le-sum_by, mul-le, length-append, length-map}
 pub use Rattle.posiform_check.proofs.Common.{Written, option_map, CertificateContent, proof_fault, append-nil}
 pub use Rattle.source_texts.proofs.Common.{Option, ProblemContent, with_most, Word, tokens_of, Gives, nat_tests, ints, words_of}
-pub use Rattle.std.specs.Prelude.{count_by, is_none, ◌↔◌, IsErrOf, OnOk, IfErr, IsErrAnd}
+pub use Rattle.std.specs.Prelude.{count_by, is_none, ◌↔◌, IsErrOf, OnOk, IfOk, IfErr, IsErrAnd}
 pub use Rattle.std.specs.List.{sum_by, Contains}
 pub use Rattle.std.proofs.Math.Nat.{add-le-add}
 pub use Rattle.problem_form.specs.declared.limits.LimitFault.{LimitFault}
@@ -12,10 +12,11 @@ pub use Rattle.problem_form.specs.Limits.{Counted, cost_size, limit_fault, lower
 pub use Rattle.edge_io.specs.Held.{NamedFiles, IsFront, WhereTold, find_file}
 pub use Rattle.edge_io.specs.Counts.{Counts, Rose}
 pub use Rattle.command_words.specs.declared.names.Which.{Which}
-pub use Rattle.command_words.specs.Names.{text_at, place_of, name_of, certificate_of, if_named, model_files, last_files}
+pub use Rattle.command_words.specs.Names.{ask_file, ground_file, target_file, named, name_of, if_named, model_files, last_files}
 pub use Rattle.run_steps.specs.declared.status.Status.{Status}
-pub use Rattle.run_steps.specs.Steps.{asked_width, bits_at, Steps, ends, certifying, proof_end, ◌>>=◌, Last, Bits, gives, last_step, Meets, Refuses, go_on, taking, text_end, prepared, limited}
-unfoldable pub use Rattle.run_steps.specs.Steps.{stating, certified, proving, checking, reading_source, sourcing, ordered, chains_step, placing, siting, surveying, planning}
+pub use Rattle.run_steps.specs.Steps.{asked_width, Steps, ends, certifying, proof_end, ◌>>=◌, Last, Bits, gives, last_step, Meets, Refuses, go_on, taking, text_end, prepared, limited}
+pub use Rattle.run_steps.specs.Steps.{proving}
+unfoldable pub use Rattle.run_steps.specs.Steps.{stating, certified, checking, reading_source, sourcing, ordered, chains_step, placing, siting, surveying, planning}
 pub use Rattle.run_steps.specs.Statuses.{IsReading, IsRefusal, IsUnproved, ended, IsUsageOf, CountsReadFault}
 pub use Rattle.command_words.specs.declared.commands.Request.{Request}
 pub use Rattle.run_steps.specs.Causes.{AreRead, AreRefused, AreFilesOf, AreBegun, IsBegun, AreWanting, IsReadTo, IsCause, IsLimited, last_of, IsAt, IsRefusedBy, MayHold, board_files, qubit_files, state_files}
@@ -43,19 +44,18 @@ pub use Rattle.whole_text.specs.declared.faults.TextAnswer.{TextAnswer}
 pub use Rattle.problem_form.specs.declared.limits.Normal.{Normal}
 pub use Rattle.problem_form.specs.declared.terms.Clause.{Clause}
 pub use Rattle.problem_form.specs.declared.terms.Constraint.{Constraint}
-pub use Rattle.command_words.specs.declared.commands.WordAt.{WordAt}
 pub use Rattle.command_words.specs.declared.commands.Ask.{Ask}
 pub use Rattle.command_words.specs.declared.commands.Command.{Command}
 pub use Rattle.command_words.specs.declared.names.Which.TheVariants.{State, Certificate, Source, Order}
 pub use Rattle.run_steps.specs.declared.status.Status.TheVariants.{BadText, Done, Limit, NoMemory, NoState, NotEmbedded, NotProved, ReadFault, TooWide, Usage, WriteFault}
 pub use Rattle.problem_form.specs.declared.limits.LimitKind.TheVariants.{Bytes, Negations, Pairs, Weight}
-pub use Rattle.command_words.specs.declared.commands.Ask.TheVariants.{Evaluate, Prove}
+pub use Rattle.command_words.specs.declared.commands.OfState.{OfState}
+pub use Rattle.command_words.specs.declared.commands.OfState.TheVariants.{Prove}
 pub use Rattle.command_words.specs.declared.commands.Format.TheVariants.{Wcnf}
 pub use Rattle.run_steps.specs.declared.plans.Plan.{Plan}
 pub use Rattle.command_words.specs.declared.commands.Board.{Board}
-pub use Rattle.run_steps.specs.declared.placements.Placement.{Placement}
+pub use Rattle.model_pipeline.specs.declared.options.ModelTarget.{ModelTarget}
 pub use Rattle.model_pipeline.specs.declared.site.Qubits.{Qubits}
 pub use Rattle.model_pipeline.specs.declared.site.ChainSource.{ChainSource}
 pub use Rattle.model_pipeline.specs.declared.site.Site.{Site}
-pub use Rattle.command_words.specs.Names.{map_in}
 unfoldable pub use Rattle.run_steps.specs.Steps.{working_step}

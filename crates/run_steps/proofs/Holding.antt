@@ -1,5 +1,6 @@
 -- Which files a store may hold.
-use Rattle.run_steps.proofs.Common.{nat_tests, arith, ◌≡◌, ℕ, List, [], ◌∷◌, ◌++◌, Some, None, refl, Option, NamedFiles, WhereTold, Which, WordAt, Command, text_at, name_of, certificate_of, if_named, model_files, last_files, bits_at, MayHold, board_files, state_files, Evaluate, Source, State, Certificate}
+use Rattle.run_steps.proofs.Common.{nat_tests, arith, ◌≡◌, ℕ, List, [], ◌∷◌, ◌++◌, Some, None, refl, Option, NamedFiles, WhereTold, Which, Command, OfState, ask_file, name_of, if_named, model_files, last_files, MayHold, board_files, state_files, Source, State, Certificate}
+use Rattle.command_words.specs.declared.commands.Ask.TheVariants as asks
 
 -- what may be held where all files are taken may be where the first ones are
 pub may_first : (told : Option NamedFiles) (first files : List Which) (held : NamedFiles)
@@ -23,31 +24,31 @@ of_model_files command P is = grind (arith, nat_tests)
 -- ---- a file alone
 
 -- the states of a command that evaluates them are its last file
-pub has_states : (words : List (List ℕ)) (command : Command) (at : WordAt)
-    → command.ask ≡ Evaluate at
-    → (last_files command ≡ State ∷ []) × (text_at words at ≡ name_of words command State)
-has_states words command at is = (rw is refl, rw is refl)
+pub has_states : (command : Command) (name : List ℕ) → command.ask ≡ asks.Evaluate name
+    → (last_files command ≡ State ∷ []) × (name ≡ name_of command State)
+has_states command name is = (rw is refl, rw is refl)
 
 -- a command that reads bits last takes their file, that of a certificate, and no order
-pub state_files_are : (command : Command) (at : WordAt) → bits_at command.ask ≡ Some at
-    → state_files command ≡ last_files command
-state_files_are command at is = grind (arith, nat_tests)
+pub state_files_are : (command : Command) (name : List ℕ) (of : OfState)
+    → command.ask ≡ asks.State name of → state_files command ≡ last_files command
+state_files_are command name of is = grind (arith, nat_tests)
 
 -- what may be held where the last files are taken may be where their own is, and where a certificate's is
-pub may_state : (told : Option NamedFiles) (command : Command) (at : WordAt) (held : NamedFiles)
-    → bits_at command.ask ≡ Some at → MayHold told (last_files command) held
+pub may_state : (told : Option NamedFiles) (command : Command) (name : List ℕ) (of : OfState)
+    (held : NamedFiles) → command.ask ≡ asks.State name of → MayHold told (last_files command) held
     → MayHold told (if_named command State) held
-may_state told command at held is may = grind (arith, nat_tests)
+may_state told command name of held is may = grind (arith, nat_tests)
 
-pub may_certificate : (told later : Option NamedFiles) (command : Command) (at : WordAt)
-    (held : NamedFiles) → bits_at command.ask ≡ Some at → later ≡ told
+pub may_certificate : (told later : Option NamedFiles) (command : Command) (name : List ℕ)
+    (of : OfState) (held : NamedFiles) → command.ask ≡ asks.State name of → later ≡ told
     → MayHold told (last_files command) held → MayHold later (if_named command Certificate) held
-may_certificate told later command at held is same may = grind (arith, nat_tests)
+may_certificate told later command name of held is same may = grind (arith, nat_tests)
 
 -- and where no certificate is asked for it takes their file alone
-pub state_alone : (command : Command) (at : WordAt) → bits_at command.ask ≡ Some at
-    → certificate_of command.ask ≡ None → if_named command State ≡ last_files command
-state_alone command at is none = grind (arith, nat_tests)
+pub state_alone : (command : Command) (name : List ℕ) (of : OfState)
+    → command.ask ≡ asks.State name of → ask_file (asks.State name of) Certificate ≡ None
+    → if_named command State ≡ last_files command
+state_alone command name of is none = grind (arith, nat_tests)
 
 -- what a store tells holds of more where it holds of less
 pub told_then : (told : Option NamedFiles) (P Q : NamedFiles → Type 0)

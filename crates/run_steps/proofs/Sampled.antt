@@ -1,6 +1,7 @@
 -- The text of a sample is read, and passes no limit.
-use Rattle.run_steps.proofs.Common.{nat_tests, arith, ◌≡◌, ℕ, ◌≤◌, List, Ok, Err, None, Result, ap, sym, subst, ◌∙◌, TextFault, ProblemContent, limit_fault, Command, Slack, penalized, prepared, Normal, sample_text, each_sample_is_read, Read, own, problem_of, IsDrawnFor, IsDrawnInto, clauses_have_no_conflicts, wcnf_problem, Wcnf}
+use Rattle.run_steps.proofs.Common.{nat_tests, arith, refl, IfOk, IfErr, Gives, TextAnswer, Status, Source, NoMemory, judged, ◌≡◌, ℕ, ◌≤◌, List, Ok, Err, None, Result, ap, sym, subst, ◌∙◌, TextFault, ProblemContent, limit_fault, Command, Slack, penalized, prepared, Normal, sample_text, each_sample_is_read, Read, own, problem_of, IsDrawnFor, IsDrawnInto, clauses_have_no_conflicts, wcnf_problem, Wcnf}
 use Rattle.whole_text.specs.Steps.{◌>>=◌}
+use Rattle.whole_text.specs.declared.faults.TextAnswer.TheVariants as answers
 use Rattle.command_words.specs.declared.commands.Slack.TheVariants.{Bits}
 use Rattle.problem_form.specs.declared.limits.Normal.TheVariants.{Literal}
 use Rattle.command_words.specs.Bounds.{most_of}
@@ -40,6 +41,22 @@ pub drawn_has_no_fault : (number clauses : ℕ) (fault : TextFault) → clauses 
 drawn_has_no_fault number clauses fault few e =
     let one = (read_into number clauses Literal few).1.from Bits in
     grind (arith, nat_tests)
+
+-- so it is what is made of a text that is judged, which is refused for want of memory alone
+pub drawn_is_judged : (number clauses : ℕ) (text : List ℕ) (read : Result Read TextAnswer)
+    (result : Result Read Status) → clauses ≤ 100000 → text ≡ sample_text number clauses
+    → Gives (λ r. r) read (problem_of Bits Wcnf text) → result ≡ judged Source read
+    → IfOk result (λ r. (normal : Normal) → IsDrawnInto number clauses normal r)
+    × IfErr result (λ status. status ≡ NoMemory)
+drawn_is_judged number clauses text read result few is gives same =
+    rw same (go read (subst (λ t. Gives (λ r. r) read (problem_of Bits Wcnf t)) is gives))
+  where
+    go : (r : Result Read TextAnswer) → Gives (λ r. r) r (problem_of Bits Wcnf (sample_text number clauses))
+        → IfOk (judged Source r) (λ r. (normal : Normal) → IsDrawnInto number clauses normal r)
+        × IfErr (judged Source r) (λ status. status ≡ NoMemory)
+    go (Ok x) e = (drawn_is_read number clauses x few e, tt)
+    go (Err (answers.Bad fault)) e = absurd (drawn_has_no_fault number clauses fault few e)
+    go (Err answers.NoMemory) e = (tt, refl)
 
 -- it passes no limit with the slack and the bound of a command
 pub drawn_within : (number clauses : ℕ) (command : Command) (read given : Read)

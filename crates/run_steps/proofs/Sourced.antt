@@ -1,5 +1,5 @@
 -- The source of a command, where it is read, within the limits, or refused.
-use Rattle.run_steps.proofs.Common.{nat_tests, arith, ◌≡◌, ℕ, List, Ok, Err, Result, Some, None, refl, ◌∙◌, ap, subst, sym, NamedFiles, LimitFault, Normal, PenaltyScope, ProblemContent, limit_fault, Format, Slack, WordAt, Command, text_at, sample_text, Read, problem_of, Status, Refuses, checking, ends, limited, reading_source, sourcing, text_end, penalized, prepared, checking_file, reading_file, IsDrawnFor, Wcnf, Source, Limit}
+use Rattle.run_steps.proofs.Common.{nat_tests, arith, ◌≡◌, ℕ, List, Ok, Err, Result, Some, None, refl, ◌∙◌, ap, subst, sym, NamedFiles, LimitFault, Normal, PenaltyScope, ProblemContent, limit_fault, Format, Slack, Command, sample_text, Read, problem_of, Status, Refuses, checking, ends, limited, reading_source, sourcing, text_end, penalized, prepared, checking_file, reading_file, IsDrawnFor, Wcnf, Source, Limit}
 use Rattle.problem_form.specs.declared.penalties.PartPenalties.{PartPenalties}
 use Rattle.problem_form.specs.NormalForm.{with_penalties}
 use Rattle.local_penalties.specs.Rounds.{penalties_of}
@@ -49,38 +49,38 @@ module _ (held : NamedFiles) (name : List ℕ) (format : Format) (command : Comm
   unfolding checking_file
   file_refuses status refused = grind (arith, nat_tests, refuses_on)
 
-file_is_read : (words : List (List ℕ)) (held : NamedFiles) (slack : Slack) (format : Format) (at : WordAt)
-    → reading_source words held slack (File format at) ≡ reading_file held (text_at words at) slack format
+file_is_read : (held : NamedFiles) (slack : Slack) (format : Format) (name : List ℕ)
+    → reading_source held slack (File format name) ≡ reading_file held name slack format
 unfolding reading_source sourcing reading_file
-file_is_read words held slack format at = refl
+file_is_read held slack format name = refl
 
 -- a source in a file is checked as the file is
-pub file_is_checked : (words : List (List ℕ)) (held : NamedFiles) (command : Command)
-    (format : Format) (at : WordAt) → command.origin ≡ File format at
-    → checking_file held (text_at words at) format command ≡ checking words held command
+pub file_is_checked : (held : NamedFiles) (command : Command) (format : Format) (name : List ℕ)
+    → command.origin ≡ File format name
+    → checking_file held name format command ≡ checking held command
 unfolding checking checking_file
-file_is_checked words held command format at is = grind (arith, nat_tests, file_is_read)
+file_is_checked held command format name is = grind (arith, nat_tests, file_is_read)
 
 -- ---- a number that draws a text
 
-drawn_reading : (words : List (List ℕ)) (held : NamedFiles) (slack : Slack) (number clauses : ℕ) (r : Read)
+drawn_reading : (held : NamedFiles) (slack : Slack) (number clauses : ℕ) (r : Read)
     → problem_of slack Wcnf (sample_text number clauses) ≡ Ok r
-    → (reading_source words held slack (Drawn number clauses)).end ≡ Some (Ok r)
+    → (reading_source held slack (Drawn number clauses)).end ≡ Some (Ok r)
 unfolding reading_source sourcing
-drawn_reading words held slack number clauses r e = ap (λ said. Some (text_end Source said)) e
+drawn_reading held slack number clauses r e = ap (λ said. Some (text_end Source said)) e
 
 -- a source that is drawn
-pub drawn_is_checked : (words : List (List ℕ)) (held : NamedFiles) (command : Command)
-    (number clauses : ℕ) (given : Read) → command.origin ≡ Drawn number clauses
+pub drawn_is_checked : (held : NamedFiles) (command : Command) (number clauses : ℕ) (given : Read)
+    → command.origin ≡ Drawn number clauses
     → IsDrawnFor number clauses command given
     → limit_fault command.choices.normal given.problem ≡ None
-    → (checking words held command).end ≡ Some (Ok given)
+    → (checking held command).end ≡ Some (Ok given)
 unfolding checking
-drawn_is_checked words held command number clauses given is drawn within =
+drawn_is_checked held command number clauses given is drawn within =
     let free : limit_fault command.choices.normal (prepared command drawn.own).problem ≡ None =
     grind (arith, nat_tests, drawn.given, limits_penalized) in
-    next_end (reading_source words held command.slack command.origin) (λ read. ends (limited command read))
+    next_end (reading_source held command.slack command.origin) (λ read. ends (limited command read))
     drawn.own
-    (subst (λ o. (reading_source words held command.slack o).end ≡ Some (Ok drawn.own)) (sym is)
-    (drawn_reading words held command.slack number clauses drawn.own drawn.from))
+    (subst (λ o. (reading_source held command.slack o).end ≡ Some (Ok drawn.own)) (sym is)
+    (drawn_reading held command.slack number clauses drawn.own drawn.from))
     ∙ ap Some (limited_is command drawn.own (prepared command drawn.own) given refl drawn.given free)

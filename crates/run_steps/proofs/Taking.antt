@@ -1,5 +1,5 @@
 -- What functions do that take files, one after another.
-use Rattle.run_steps.proofs.Common.{nat_tests, arith, subst, ◌≡◌, ℕ, List, [], ◌∷◌, ◌++◌, Ok, Err, Some, Result, refl, OnOk, IfErr, IsErrAnd, IfErr-weaker, err_from_is_err_and, Option, NamedFiles, Counts, Which, WordAt, Command, text_at, name_of, if_named, place_of, model_files, Status, Steps, ends, gives, text_end, ◌>>=◌, Meets, IsReading, IsRefusal, IsReadTo, IsRefusedBy, board_files, TextFault, TextAnswer, Gives, judged, Takes, TakesOne, Source}
+use Rattle.run_steps.proofs.Common.{nat_tests, arith, subst, ◌≡◌, ℕ, List, [], ◌∷◌, ◌++◌, Ok, Err, Some, Result, refl, OnOk, IfErr, IsErrAnd, IfErr-weaker, err_from_is_err_and, Option, NamedFiles, Counts, Which, Command, name_of, if_named, named, model_files, Status, Steps, ends, gives, text_end, ◌>>=◌, Meets, IsReading, IsRefusal, IsReadTo, IsRefusedBy, board_files, TextFault, TextAnswer, Gives, judged, Takes, TakesOne, Source}
 use Rattle.run_steps.proofs.FilesRead.{read_then, refused_alone, refused_first, refused_then}
 use Rattle.run_steps.proofs.Holding.{may_first, may_next, of_model_files}
 use Rattle.run_steps.proofs.Stepping.{meets_next, next_end, refuses_on}
@@ -30,16 +30,15 @@ pub takes_alone : {X A : Type 0} (told later : Option NamedFiles) (name : Which 
 takes_alone told later name files which own called view result steps a b alone its named one =
     grind (arith, nat_tests, refused_alone, IfErr-weaker)
 
--- the same, by the place of its name
-pub takes_named : {X A : Type 0} (told later : Option NamedFiles) (words : List (List ℕ))
-    (command : Command) (which : Which) (at : WordAt) (called : List ℕ) (view : X → A)
-    (result : Result X Status) (steps : NamedFiles → List ℕ → Steps A) (a b : Counts)
-    → place_of command which ≡ Some at → called ≡ text_at words at
-    → TakesOne told later which called view result (λ held. steps held called) a b
-    → Takes told later (name_of words command) (if_named command which) view result
-    (λ held. steps held (text_at words at)) a b
-takes_named told later words command which at called view result steps a b is named one =
-    takes_alone _ _ _ _ which _ _ _ _ steps _ _ (rw is refl) (rw is refl) named one
+-- the same, of a command that names it
+pub takes_named : {X A : Type 0} (told later : Option NamedFiles) (command : Command)
+    (which : Which) (own called : List ℕ) (view : X → A) (result : Result X Status)
+    (steps : NamedFiles → List ℕ → Steps A) (a b : Counts) → named command which ≡ Some own
+    → called ≡ own → TakesOne told later which called view result (λ held. steps held called) a b
+    → Takes told later (name_of command) (if_named command which) view result
+    (λ held. steps held own) a b
+takes_named told later command which own called view result steps a b is same one =
+    takes_alone _ _ _ _ which _ _ _ _ steps _ _ (rw is refl) (rw is refl) same one
 
 -- no file is taken
 pub takes_none : {Y B : Type 0} {told : Option NamedFiles} {name : Which → List ℕ}

@@ -1,6 +1,6 @@
 -- Which files were begun, how far the last of them was read, and why one could not be read: by what
 -- the store of files counted before and after.
-use Rattle.std.specs.Prelude.{◌≡◌, ◌⊎◌, ℕ, zero, suc, List, [], ◌∷◌, ◌++◌, length, map, String, string_bytes, Result, None, Some, ⊤}
+use Rattle.std.specs.Prelude.{◌≡◌, ◌⊎◌, ℕ, zero, suc, List, [], ◌∷◌, ◌++◌, length, Result, None, Some, ⊤}
 use Rattle.std.specs.declared.option.Option.{Option}
 use Rattle.edge_io.specs.Counts.{Counts, Rose, count_after}
 use Rattle.edge_io.specs.Held.{NamedFiles}
@@ -9,25 +9,10 @@ use Rattle.problem_form.specs.declared.limits.LimitKind.TheVariants.{Bytes}
 use Rattle.command_words.specs.declared.names.Which.{Which}
 use Rattle.command_words.specs.declared.names.Which.TheVariants.{Certificate, Dead, Graph, Map, State}
 use Rattle.command_words.specs.declared.commands.Command.{Command}
-use Rattle.command_words.specs.declared.commands.WordAt.{WordAt}
-use Rattle.command_words.specs.Names.{name_of, if_named, text_at, model_files, last_files}
+use Rattle.command_words.specs.Names.{name_of, if_named, model_files, last_files}
 use Rattle.run_steps.specs.Steps.{Steps, Meets}
 use Rattle.run_steps.specs.declared.status.Status.{Status}
 use Rattle.run_steps.specs.declared.status.Status.TheVariants.{Done, Usage, ReadFault, WriteFault, BadText, Limit, NotEmbedded, TooWide, NotProved, NoState, NoMemory}
-
--- ---- names
-
--- what words say, byte by byte
-abbrev pub spelled : {A : Type 0} → List (String A) → List (List ℕ)
-spelled words = map string_bytes words
-
--- what the word at a place among words says
-abbrev pub spelled_at : {A : Type 0} → List (String A) → WordAt → List ℕ
-spelled_at words at = text_at (spelled words) at
-
--- how each file is named by a command of these words
-abbrev pub named_in : {A : Type 0} → List (String A) → Command → Which → List ℕ
-named_in words command = name_of (spelled words) command
 
 -- the files that say which qubits there are: what they are and how they are joined, and what of a
 -- Chimera graph is dead
@@ -132,9 +117,9 @@ AreFilesOf name made last (Usage position) old new = ⊤
 AreFilesOf name made last status old new = AreRefused name (made ++ last) status old new
 
 -- what files tell at a status of a command
-abbrev pub AreFiles : List (List ℕ) → Command → Status → Counts → Counts → Type 0
-AreFiles words command status old new =
-    AreFilesOf (name_of words command) (model_files command) (last_files command) status old new
+abbrev pub AreFiles : Command → Status → Counts → Counts → Type 0
+AreFiles command status old new =
+    AreFilesOf (name_of command) (model_files command) (last_files command) status old new
 
 -- ---- what they hold
 

@@ -1,5 +1,4 @@
 pub mod Statuses
-pub mod Placements
 pub mod Plans
 pub mod Steps
 pub mod Causes

@@ -3,6 +3,8 @@ use Rattle.std.specs.Prelude.{◌≡◌, ℕ, Ok, Err, Result, ⊤}
 use Rattle.edge_io.specs.Counts.{Rose}
 use Rattle.command_words.specs.declared.commands.Request.{Request}
 use Rattle.command_words.specs.declared.names.Which.{Which}
+use Rattle.chain_map.specs.declared.faults.CheckAnswer.{CheckAnswer}
+use Rattle.chain_map.specs.declared.faults.CheckAnswer.TheVariants as checks
 use Rattle.run_steps.specs.declared.status.Status.{Status}
 use Rattle.run_steps.specs.declared.status.Status.TheVariants.{Done, Usage, ReadFault, WriteFault, BadText, Limit, NotEmbedded, TooWide, NotProved, NoState, NoMemory}
 
@@ -126,3 +128,8 @@ abbrev pub IsStateRefusal : Status → Type 0
 IsStateRefusal (NoState width) = ⊤
 IsStateRefusal NoMemory = ⊤
 IsStateRefusal status = ⊥
+
+-- the status where a check refuses
+abbrev pub unembedded : CheckAnswer → Status
+unembedded (checks.Fault fault) = NotEmbedded fault
+unembedded checks.NoMemory = NoMemory

@@ -1,5 +1,5 @@
 -- The steps of a command: a line each, and the first one that refuses ends them.
-use Rattle.std.specs.Prelude.{◌≡◌, ℕ, zero, suc, ◌+◌, Bool, List, [], ◌∷◌, ◌++◌, length, nat_lt, Ok, Err, Some, None, Result, Contains, ⊤, IfOk, IsErrOf, if◌then◌else◌}
+use Rattle.std.specs.Prelude.{◌≡◌, ℕ, ◌+◌, Bool, List, [], ◌∷◌, ◌++◌, length, nat_lt, Ok, Err, Some, None, Result, Contains, ⊤, IfOk, IsErrOf, if◌then◌else◌, true, false}
 use Rattle.std.specs.declared.option.Option.{Option}
 use Rattle.std.specs.Option.{option_map_or}
 use Rattle.edge_io.specs.Held.{NamedFiles, find_file}
@@ -22,12 +22,13 @@ use Rattle.command_words.specs.declared.commands.Ground.TheVariants as grounds
 use Rattle.command_words.specs.declared.commands.Target.{Target}
 use Rattle.command_words.specs.declared.commands.Target.TheVariants as targets
 use Rattle.command_words.specs.declared.commands.Ask.{Ask}
-use Rattle.command_words.specs.declared.commands.Ask.TheVariants.{Model, Summary, Size, Solve, Decode, Evaluate, Extend, Prove}
+use Rattle.command_words.specs.declared.commands.Ask.TheVariants as asks
+use Rattle.command_words.specs.declared.commands.OfState.{OfState}
+use Rattle.command_words.specs.declared.commands.OfState.TheVariants.{Extend, Prove}
 use Rattle.command_words.specs.declared.commands.Slack.{Slack}
-use Rattle.command_words.specs.declared.commands.WordAt.{WordAt}
 use Rattle.command_words.specs.declared.commands.Command.{Command}
 use Rattle.command_words.specs.Bounds.{most_of}
-use Rattle.command_words.specs.Names.{map_in, text_at}
+use Rattle.command_words.specs.Names.{ground_file}
 use Rattle.sample_text.specs.Sample.{sample_text}
 use Rattle.chimera_graph.specs.declared.chimera.Chimera.{Chimera}
 use Rattle.chain_map.specs.Maps as maps
@@ -50,8 +51,9 @@ use Rattle.model_pipeline.specs.declared.site.Qubits.TheVariants as which
 use Rattle.model_pipeline.specs.declared.site.ChainSource.{ChainSource}
 use Rattle.model_pipeline.specs.declared.site.ChainSource.TheVariants as chain_sources
 use Rattle.model_pipeline.specs.declared.site.Site.{Site}
-use Rattle.run_steps.specs.declared.placements.Placement.{Placement}
-use Rattle.run_steps.specs.declared.placements.Placement.TheVariants as placements
+use Rattle.model_pipeline.specs.declared.options.ModelTarget.{ModelTarget}
+use Rattle.model_pipeline.specs.declared.options.ModelTarget.TheVariants as placements
+use Rattle.model_pipeline.specs.declared.options.Options.{Options}
 use Rattle.run_steps.specs.declared.plans.Plan.{Plan}
 use Rattle.run_steps.specs.declared.status.Status.{Status}
 use Rattle.run_steps.specs.declared.status.Status.TheVariants.{ReadFault, BadText, Limit, TooWide, NotProved, NoState, NoMemory}
@@ -122,14 +124,14 @@ format_in (File format at) = format
 format_in (Drawn number clauses) = Wcnf
 
 -- taking the text of a source: that of a file, or the one that is drawn
-unfoldable pub sourcing : List (List ℕ) → NamedFiles → Origin → Steps (List ℕ)
-sourcing words held (File format at) = taking held Source (text_at words at)
-sourcing words held (Drawn number clauses) = gives (sample_text number clauses)
+unfoldable pub sourcing : NamedFiles → Origin → Steps (List ℕ)
+sourcing held (File format name) = taking held Source name
+sourcing held (Drawn number clauses) = gives (sample_text number clauses)
 
 -- and then reading it
-unfoldable pub reading_source : List (List ℕ) → NamedFiles → Slack → Origin → Steps Read
-reading_source words held slack origin = do
-  text ← sourcing words held origin
+unfoldable pub reading_source : NamedFiles → Slack → Origin → Steps Read
+reading_source held slack origin = do
+  text ← sourcing held origin
   ends (text_end Source (problem_of slack (format_in origin) text))
 
 -- what is read, where its constraints get their slack as a command says, and with the command's bound
@@ -147,9 +149,9 @@ limited command read =
     (limit_fault command.choices.normal (wanted command read).problem)
 
 -- and then making it what the command wants, and checking its limits
-unfoldable pub checking : List (List ℕ) → NamedFiles → Command → Steps Read
-checking words held command = do
-  read ← reading_source words held command.slack command.origin
+unfoldable pub checking : NamedFiles → Command → Steps Read
+checking held command = do
+  read ← reading_source held command.slack command.origin
   ends (limited command read)
 
 -- what a dead list leaves of a graph, read from the file of this name
@@ -160,10 +162,10 @@ working held name graph = do
 
 -- the qubits of a Chimera graph that chains may stand on: all, or those that the dead list leaves
 -- that is named
-unfoldable pub working_step : List (List ℕ) → NamedFiles → Chimera → Option WordAt → Steps Qubits
-working_step words held graph None = gives (which.All graph)
-working_step words held graph (Some at) = do
-  w ← working held (text_at words at) graph
+unfoldable pub working_step : NamedFiles → Chimera → Option (List ℕ) → Steps Qubits
+working_step held graph None = gives (which.All graph)
+working_step held graph (Some name) = do
+  w ← working held name graph
   gives (which.Working w)
 
 -- the parts of a graph, read from the file of this name
@@ -173,10 +175,10 @@ listing held name = do
   ends (text_end Graph (listed_parts bytes))
 
 -- the qubits that chains may stand on: those of a Chimera graph, or those of the graph that is named
-unfoldable pub surveying : List (List ℕ) → NamedFiles → Ground → Steps Qubits
-surveying words held (grounds.Chimera graph dead chains) = working_step words held graph dead
-surveying words held (grounds.Listed graph map) = do
-  parts ← listing held (text_at words graph)
+unfoldable pub surveying : NamedFiles → Ground → Steps Qubits
+surveying held (grounds.Chimera graph dead map) = working_step held graph dead
+surveying held (grounds.Listed graph map) = do
+  parts ← listing held graph
   gives (which.Listed parts)
 
 -- the chains of a map, read from the file of this name
@@ -186,32 +188,46 @@ mapping held name = do
   ends (text_end Map (maps.reading bytes))
 
 -- where the chains come from: those of a clique, or of the map that is named
-unfoldable pub chains_step : List (List ℕ) → NamedFiles → Option WordAt → Steps ChainSource
-chains_step words held None = gives chain_sources.Clique
-chains_step words held (Some at) = do
-  map ← mapping held (text_at words at)
+unfoldable pub chains_step : NamedFiles → Option (List ℕ) → Steps ChainSource
+chains_step held None = gives chain_sources.Clique
+chains_step held (Some name) = do
+  map ← mapping held name
   gives (chain_sources.Map map)
 
 -- where chains stand, and how they are tied
-unfoldable pub siting : List (List ℕ) → NamedFiles → Board → Steps Site
-siting words held board = do
-  qubits ← surveying words held board.ground
-  chain_source ← chains_step words held (map_in board.ground)
+unfoldable pub siting : NamedFiles → Board → Steps Site
+siting held board = do
+  qubits ← surveying held board.ground
+  chain_source ← chains_step held (ground_file board.ground Map)
   gives (record { qubits = qubits; chain_source = chain_source; ties = board.ties })
 
 -- what the model stands on
-unfoldable pub placing : List (List ℕ) → NamedFiles → Target → Steps Placement
-placing words held (targets.Nodes target) = gives (placements.Nodes target)
-placing words held (targets.Qubits board) = do
-  site ← siting words held board
+unfoldable pub placing : NamedFiles → Target → Steps ModelTarget
+placing held (targets.Nodes target) = gives (placements.Nodes target)
+placing held (targets.Qubits board) = do
+  site ← siting held board
   gives (placements.Qubits site)
 
+-- the steps to the form are kept where an assignment is to be extended
+abbrev pub keeps_steps : Ask → Bool
+keeps_steps (asks.State name Extend) = true
+keeps_steps ask = false
+
+-- how the model of a command is made on what it stands on
+abbrev pub options_of : Command → ModelTarget → Options
+options_of command target = record {
+  choices = command.choices;
+  unit = command.unit;
+  target = target;
+  keep_steps = keeps_steps command.ask;
+}
+
 -- what the model of a command is made of
-unfoldable pub planning : List (List ℕ) → NamedFiles → Command → Steps Plan
-planning words held command = do
-  read ← checking words held command
-  base ← placing words held command.target
-  gives (record { read = read; choices = command.choices; unit = command.unit; base = base })
+unfoldable pub planning : NamedFiles → Command → Steps Plan
+planning held command = do
+  read ← checking held command
+  target ← placing held command.target
+  gives (record { read = read; options = options_of command target })
 
 -- so many bits, read from the file of this name
 unfoldable pub stating : NamedFiles → List ℕ → ℕ → Steps (List Bool)
@@ -237,27 +253,15 @@ certified held name m bits = do
   certificate ← certifying held name m.nodes
   ends (proof_end bits (proof_fault m certificate bits))
 
--- a state of a model, read from a file, and then the certificate that has to prove it
-unfoldable pub proving : List (List ℕ) → NamedFiles → WordAt → WordAt → Written → Steps (List Bool)
-proving words held state certificate m = do
-  bits ← stating held (text_at words state) m.nodes
-  certified held (text_at words certificate) m bits
+-- how many bits are read of a state of a model, or of an assignment of its source's so many variables
+abbrev pub asked_width : OfState → ℕ → Written → ℕ
+asked_width Extend variables m = variables
+asked_width of variables m = m.nodes
 
--- the place of the name of a file of one state or of an assignment, whose bits are read once the model
--- stands
-abbrev pub bits_at : Ask → Option WordAt
-bits_at (Decode at) = Some at
-bits_at (Extend at) = Some at
-bits_at (Prove state certificate) = Some state
-bits_at ask = None
-
--- the bits that are read once the model stands: of a state of it, which a certificate may have to
--- prove, or of an assignment of the source's so many variables
-abbrev pub bits_step : List (List ℕ) → NamedFiles → Ask → ℕ → Written → Steps (List Bool)
-bits_step words held (Decode at) variables m = stating held (text_at words at) m.nodes
-bits_step words held (Extend at) variables m = stating held (text_at words at) variables
-bits_step words held (Prove state certificate) variables m = proving words held state certificate m
-bits_step words held ask variables m = gives []
+-- the bits that were read, where the certificate proves them that is asked for
+abbrev pub proving : NamedFiles → OfState → Written → List Bool → Steps (List Bool)
+proving held (Prove certificate) m bits = certified held certificate m bits
+proving held of m bits = gives bits
 
 -- an order of so many nodes, read from the file of this name
 unfoldable pub ordered : NamedFiles → List ℕ → ℕ → Steps (List ℕ)
@@ -267,9 +271,9 @@ ordered held name nodes = do
 
 -- the order in which so many nodes are eliminated: from the last to the first, or that of the file that
 -- is named
-abbrev pub ordering : List (List ℕ) → NamedFiles → Option WordAt → ℕ → Steps (List ℕ)
-ordering words held None nodes = gives (from_last nodes)
-ordering words held (Some at) nodes = ordered held (text_at words at) nodes
+abbrev pub ordering : NamedFiles → Option (List ℕ) → ℕ → Steps (List ℕ)
+ordering held None nodes = gives (from_last nodes)
+ordering held (Some name) nodes = ordered held name nodes
 
 -- what is read once the model stands: nothing, bits, an order of its nodes, or states with the numbers
 -- of their lines
@@ -285,9 +289,9 @@ width_end order None = Ok (InOrder order)
 width_end order (Some node) = Err (TooWide node.0 node.1)
 
 -- a model to be solved is not too wide in the order of its nodes
-abbrev pub solving : List (List ℕ) → NamedFiles → Option WordAt → Written → Steps Last
-solving words held at m = do
-  order ← ordering words held at m.nodes
+abbrev pub solving : NamedFiles → Option (List ℕ) → Written → Steps Last
+solving held name m = do
+  order ← ordering held name m.nodes
   ends (width_end order (first_wide 16 m [] order))
 
 -- all states that a text has, or that it has none
@@ -302,21 +306,14 @@ scanning held name width = do
   ends (states_end width (states_of width bytes))
 
 -- what is read once the model of a source of so many variables stands
-abbrev pub last_step : List (List ℕ) → NamedFiles → Ask → ℕ → Written → Steps Last
-last_step words held Model variables m = gives Nothing
-last_step words held Summary variables m = gives Nothing
-last_step words held Size variables m = gives Nothing
-last_step words held (Solve order) variables m = solving words held order m
-last_step words held (Evaluate at) variables m = scanning held (text_at words at) m.nodes
-last_step words held ask variables m = do
-  bits ← bits_step words held ask variables m
+abbrev pub last_step : NamedFiles → Ask → ℕ → Written → Steps Last
+last_step held (asks.Make make) variables m = gives Nothing
+last_step held (asks.Solve order) variables m = solving held order m
+last_step held (asks.Evaluate name) variables m = scanning held name m.nodes
+last_step held (asks.State name of) variables m = do
+  read ← stating held name (asked_width of variables m)
+  bits ← proving held of m read
   gives (Bits bits)
-
--- how many bits are read of a state or of an assignment
-abbrev pub asked_width : Ask → ℕ → Written → ℕ
-asked_width (Decode at) variables m = m.nodes
-asked_width (Prove state certificate) variables m = m.nodes
-asked_width ask variables m = variables
 
 -- ---- what functions return of it
 

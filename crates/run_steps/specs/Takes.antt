@@ -6,6 +6,8 @@ use Rattle.edge_io.specs.Held.{NamedFiles, WhereTold}
 use Rattle.whole_text.specs.declared.faults.TextAnswer.{TextAnswer}
 use Rattle.whole_text.specs.declared.faults.TextAnswer.TheVariants as answers
 use Rattle.command_words.specs.declared.names.Which.{Which}
+use Rattle.command_words.specs.declared.commands.Command.{Command}
+use Rattle.command_words.specs.Names.{name_of}
 use Rattle.run_steps.specs.declared.status.Status.{Status}
 use Rattle.run_steps.specs.declared.status.Status.TheVariants.{BadText, NoMemory}
 use Rattle.run_steps.specs.Steps.{Steps, Meets}
@@ -36,3 +38,15 @@ pub record Takes {X A : Type 0} (told later : Option NamedFiles) (name : Which �
   pub held : later ≡ told
   pub passed : OnOk result (AreRead name files old new)
   pub refused : IfErr result (λ status. AreRefused name files status old new)
+
+-- the same of a store that tells and counts what it does, before and after: of one file
+abbrev pub HasTakenOne : {S X A : Type 0} → (S → Option NamedFiles) → (S → Counts) → (old new : S)
+    → Which → List ℕ → (X → A) → Result X Status → (NamedFiles → Steps A) → Type 0
+HasTakenOne told counts old new which name view result steps =
+    TakesOne (told old) (told new) which name view result steps (counts old) (counts new)
+
+-- and of these files of a command
+abbrev pub HasTaken : {S X A : Type 0} → (S → Option NamedFiles) → (S → Counts) → (old new : S)
+    → Command → List Which → (X → A) → Result X Status → (NamedFiles → Steps A) → Type 0
+HasTaken told counts old new command files view result steps =
+    Takes (told old) (told new) (name_of command) files view result steps (counts old) (counts new)

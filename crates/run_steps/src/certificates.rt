@@ -2,19 +2,19 @@
 ghost use Rattle.std.specs.Prelude.{◌≡◌, ◌≤◌, ◌^◌, [], None, Some, length, IfOk, IfErr};
 ghost use Rattle.bits_model.specs.Output.{weight_total};
 ghost use Rattle.command_words.specs.declared.names.Which.{Which};
-ghost use Rattle.command_words.specs.Names.{certificate_of, if_named};
+ghost use Rattle.command_words.specs.Names.{ask_file, if_named, name_of};
 ghost use Rattle.posiform_check.specs.BitForms.{CertificateContent};
 ghost use Rattle.posiform_check.specs.Certificates.{certificate_fault, AreOfNodes};
 ghost use Rattle.posiform_check.specs.FirstFaults.{proof_fault};
 ghost use Rattle.run_steps.specs.Steps.{Meets, certified, certifying, ends, limits_end, proof_end};
 ghost use Rattle.run_steps.specs.Statuses.{ended, IsReading, IsUnproved};
-ghost use Rattle.run_steps.specs.Causes.{AreFilesOf, MeetsHeld, named_in, spelled_at};
+ghost use Rattle.run_steps.specs.Causes.{AreFilesOf, MeetsHeld};
 
 use crate::from_file::{FromFile, take_named};
 use crate::status::Status;
 use crate::steps::{read_into, take_bytes};
 use bits_model::OutputModel;
-use command_words::{Command, Which, WordAt};
+use command_words::{Command, Name, Which};
 use edge_io::Files;
 use posiform_check::{Certificate, ProofAnswer, check_certificate, prove, read_certificate};
 use std::alloc::Global;
@@ -84,28 +84,26 @@ fn proved(
     }
 }
 
-/// The bits of a state, where the certificate that a command names proves that it is least.
+/// The bits of a state, where the certificate of this name proves that it is least.
 pub fn take_proof<F: Files>(
     alloc: Global,
-    words: &[String],
-    command: Command,
-    at: WordAt,
+    command: &Command<'_>,
+    name: &Name<'_>,
     model: &OutputModel,
     bits: Vec<bool>,
     files: &mut F,
 ) -> Result<Vec<bool>, Status>
-    requires asked { certificate_of command.ask ≡ Some at }
+    requires asked { ask_file command.now.ask Which.Certificate ≡ Some name.now }
     requires small { weight_total model.now.entries ≤ 2 ^ 121 }
     requires width { length bits.items ≡ model.now.nodes }
-    ensures step { MeetsHeld (F.held files.old) (if_named command Which.Certificate)
-        (λ b. b.items) result
-        (λ held. certified held (spelled_at words.now at) model.now bits.items) }
+    ensures step { MeetsHeld (F.held files.old) (if_named command.now Which.Certificate)
+        (λ b. b.items) result (λ held. certified held name.now model.now bits.items) }
     ensures same { IfOk result (λ b. b ≡ bits) }
-    ensures files { AreFilesOf (named_in words.now command) []
-        (if_named command Which.Certificate) (ended result)
+    ensures files { AreFilesOf (name_of command.now) []
+        (if_named command.now Which.Certificate) (ended result)
         (F.counts files.old) (F.counts files.new) }
     ensures refusal { IfErr result IsReading }
 {
-    let certificate = take_named::<Certificate, F>(alloc, words, command, at, model.nodes, files)?;
+    let certificate = take_named::<Certificate, F>(alloc, command, name, model.nodes, files)?;
     proved(alloc, model, &certificate, bits)
 }

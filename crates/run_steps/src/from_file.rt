@@ -2,13 +2,12 @@
 ghost use Rattle.std.specs.Prelude.{◌≡◌, ℕ, List, Some, IfOk};
 ghost use Rattle.edge_io.specs.Held.{NamedFiles};
 ghost use Rattle.command_words.specs.declared.names.Which.{Which};
-ghost use Rattle.command_words.specs.Names.{if_named, place_of};
+ghost use Rattle.command_words.specs.Names.{if_named, named};
 ghost use Rattle.run_steps.specs.Steps.{Steps};
-ghost use Rattle.run_steps.specs.Causes.{named_in, spelled_at};
-ghost use Rattle.run_steps.specs.Takes.{Takes, TakesOne};
+ghost use Rattle.run_steps.specs.Takes.{HasTaken, HasTakenOne};
 
 use crate::status::Status;
-use command_words::{Command, WordAt, text_at};
+use command_words::{Command, Name};
 use edge_io::Files;
 use std::alloc::Global;
 
@@ -38,26 +37,23 @@ pub trait FromFile: Drop {
         context: Self::Context,
         files: &mut F,
     ) -> Result<Self, Status>
-        ensures took { TakesOne (F.held files.old) (F.held files.new) which name.now view result
-            (λ held. steps context held name.now) (F.counts files.old) (F.counts files.new) }
+        ensures took { HasTakenOne F.held F.counts files.old files.new which name.now view result
+            (λ held. steps context held name.now) }
         ensures fits { IfOk result (λ x. fits context (view x)) };
 }
 
-/// Takes the file that a command names at a place of the words, and reads it.
+/// Takes the file of a command that has this name, and reads it.
 pub fn take_named<T: FromFile, F: Files>(
     alloc: Global,
-    words: &[String],
-    command: Command,
-    at: WordAt,
+    command: &Command<'_>,
+    name: &Name<'_>,
     context: T::Context,
     files: &mut F,
 ) -> Result<T, Status>
-    requires { place_of command T.which ≡ Some at }
-    ensures took { Takes (F.held files.old) (F.held files.new) (named_in words.now command)
-        (if_named command T.which) T.view result
-        (λ held. T.steps context held (spelled_at words.now at))
-        (F.counts files.old) (F.counts files.new) }
+    requires { named command.now T.which ≡ Some name.now }
+    ensures took { HasTaken F.held F.counts files.old files.new command.now
+        (if_named command.now T.which) T.view result (λ held. T.steps context held name.now) }
     ensures fits { IfOk result (λ x. T.fits context (T.view x)) }
 {
-    T::take(alloc, text_at(words, at), context, files)
+    T::take(alloc, name.text(), context, files)
 }

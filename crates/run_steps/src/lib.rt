@@ -15,7 +15,6 @@ mod steps;
 
 pub use last::take_last;
 pub use orders::take_order;
-pub use placements::Placement;
 pub use plans::{Plan, take_plan};
 pub use states::take_states;
 pub use status::Status;

@@ -1,16 +1,16 @@
 //! An order of the nodes of a model, read from a file.
-ghost use Rattle.std.specs.Prelude.{◌≡◌, ℕ, List, Some, IfOk, OnOk, IfErr};
+ghost use Rattle.std.specs.Prelude.{◌≡◌, ℕ, List, Some, IfOk, IfErr};
 ghost use Rattle.command_words.specs.declared.names.Which.{Which};
-ghost use Rattle.command_words.specs.Names.{if_named, order_of as named_order};
+ghost use Rattle.command_words.specs.Names.{ask_file, if_named};
 ghost use Rattle.elimination_order.specs.Orders.{AreNodes};
 ghost use Rattle.run_steps.specs.Steps.{ordered};
 ghost use Rattle.run_steps.specs.Statuses.{IsReading};
-ghost use Rattle.run_steps.specs.Causes.{AreRead, AreRefused, MeetsHeld, named_in, spelled_at};
+ghost use Rattle.run_steps.specs.Takes.{HasTaken};
 
 use crate::from_file::{FromFile, take_named};
 use crate::status::Status;
 use crate::steps::{read_into, take_words};
-use command_words::{Command, Which, WordAt};
+use command_words::{Command, Name, Which};
 use edge_io::Files;
 use elimination_order::read_order;
 use std::alloc::Global;
@@ -46,24 +46,17 @@ impl FromFile for Vec<u64> {
 /// Takes the file of a command's order, and reads an order of so many nodes.
 pub fn take_order<F: Files>(
     alloc: Global,
-    words: &[String],
-    command: Command,
-    at: WordAt,
+    command: &Command<'_>,
+    name: &Name<'_>,
     nodes: usize,
     files: &mut F,
 ) -> Result<Vec<u64>, Status>
-    requires { named_order command.ask ≡ Some at }
-    ensures step { MeetsHeld (F.held files.old) (if_named command Which.Order)
-        (λ order. order.items) result
-        (λ held. ordered held (spelled_at words.now at) nodes) }
+    requires { ask_file command.now.ask Which.Order ≡ Some name.now }
+    ensures took { HasTaken F.held F.counts files.old files.new command.now
+        (if_named command.now Which.Order) (λ order. order.items) result
+        (λ held. ordered held name.now nodes) }
     ensures nodes { IfOk result (λ order. AreNodes nodes order.items) }
-    ensures held { F.held files.new ≡ F.held files.old }
-    ensures passed { OnOk result (AreRead (named_in words.now command)
-        (if_named command Which.Order) (F.counts files.old) (F.counts files.new)) }
-    ensures refused { IfErr result (λ status. AreRefused
-        (named_in words.now command) (if_named command Which.Order) status
-        (F.counts files.old) (F.counts files.new)) }
     ensures refusal { IfErr result IsReading }
 {
-    take_named::<Vec<u64>, F>(alloc, words, command, at, nodes, files)
+    take_named::<Vec<u64>, F>(alloc, command, name, nodes, files)
 }

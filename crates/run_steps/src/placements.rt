@@ -3,7 +3,7 @@ ghost use Rattle.std.specs.Prelude.{◌≡◌, ℕ, List};
 ghost use Rattle.working_graph.specs.Working.{WorkingGraph};
 ghost use Rattle.part_lists.specs.declared.parts.Part.{Part};
 ghost use Rattle.command_words.specs.declared.names.Which.{Which};
-ghost use Rattle.command_words.specs.Names.{if_named, map_in, place_of};
+ghost use Rattle.command_words.specs.Names.{if_named, named};
 ghost use Rattle.run_steps.specs.Steps.{
   mapping,
   chains_step,
@@ -14,27 +14,20 @@ ghost use Rattle.run_steps.specs.Steps.{
   working,
   working_step,
 };
-ghost use Rattle.run_steps.specs.Causes.{board_files, named_in, qubit_files, spelled};
-ghost use Rattle.run_steps.specs.Takes.{Takes};
+ghost use Rattle.run_steps.specs.Causes.{board_files, qubit_files};
+ghost use Rattle.run_steps.specs.Takes.{HasTaken};
 
 use crate::from_file::{FromFile, take_named};
 use crate::status::Status;
 use crate::steps::{read_into, take_bytes};
 use chain_map::{ChainMap, read_map};
 use chimera_graph::Chimera;
-use command_words::{Board, Chaining, Command, Ground, NodeModel, Target, Which, WordAt};
+use command_words::{Board, Command, Ground, Name, NodeModel, Target, Which, named};
 use edge_io::Files;
 use listed_graph::{Listed, read_graph};
-use model_pipeline::{ChainSource, GivenGraph, Qubits, Site};
+use model_pipeline::{ChainSource, GivenGraph, ModelTarget, Qubits, Site};
 use std::alloc::Global;
 use working_graph::{Working, read_dead};
-
-/// What a model stands on: the nodes of a form, or chains of qubits.
-#[derive(Drop)]
-pub enum Placement {
-    Nodes(NodeModel),
-    Qubits(Site),
-}
 
 /// The chains of a map.
 impl FromFile for ChainMap {
@@ -124,22 +117,20 @@ impl FromFile for Listed {
 /// taken and read.
 fn take_working<F: Files>(
     alloc: Global,
-    words: &[String],
-    command: Command,
+    command: &Command<'_>,
     graph: Chimera,
-    dead: Option<WordAt>,
+    dead: &Option<Name<'_>>,
     files: &mut F,
 ) -> Result<Qubits, Status>
-    requires { place_of command Which.Dead ≡ dead }
-    ensures { Takes (F.held files.old) (F.held files.new) (named_in words.now command)
-        (if_named command Which.Dead) (λ qubits. qubits) result
-        (λ held. working_step (spelled words.now) held graph dead)
-        (F.counts files.old) (F.counts files.new) }
+    requires { named command.now Which.Dead ≡ dead.now }
+    ensures { HasTaken F.held F.counts files.old files.new command.now
+        (if_named command.now Which.Dead) (λ qubits. qubits) result
+        (λ held. working_step held graph dead.now) }
 {
     match dead {
         None => Ok(Qubits::All(graph)),
-        Some(at) => {
-            let working = take_named::<Working, F>(alloc, words, command, at, graph, files)?;
+        Some(name) => {
+            let working = take_named::<Working, F>(alloc, command, name, graph, files)?;
             Ok(Qubits::Working(working))
         }
     }
@@ -149,59 +140,38 @@ fn take_working<F: Files>(
 /// and read.
 fn take_qubits<F: Files>(
     alloc: Global,
-    words: &[String],
-    command: Command,
-    board: Board,
+    command: &Command<'_>,
+    board: &Board<'_>,
     files: &mut F,
 ) -> Result<Qubits, Status>
-    requires { command.target ≡ Target.Qubits board }
-    ensures { Takes (F.held files.old) (F.held files.new) (named_in words.now command)
-        (qubit_files command) (λ qubits. qubits) result
-        (λ held. surveying (spelled words.now) held board.ground)
-        (F.counts files.old) (F.counts files.new) }
+    requires { command.now.target ≡ Target.Qubits board.now }
+    ensures { HasTaken F.held F.counts files.old files.new command.now
+        (qubit_files command.now) (λ qubits. qubits) result
+        (λ held. surveying held board.now.ground) }
 {
-    match board.ground {
-        Ground::Chimera { graph, dead, .. } => {
-            take_working(alloc, words, command, graph, dead, files)
-        }
+    match &board.ground {
+        Ground::Chimera { graph, dead, .. } => take_working(alloc, command, *graph, dead, files),
         Ground::Listed { graph, .. } => {
-            let listed = take_named::<Listed, F>(alloc, words, command, graph, (), files)?;
+            let listed = take_named::<Listed, F>(alloc, command, graph, (), files)?;
             Ok(Qubits::Listed(GivenGraph::of(listed)))
         }
-    }
-}
-
-/// The place of the name of the map of chains, unless they are those of a clique.
-fn map_at(ground: Ground) -> Option<WordAt>
-    ensures { result ≡ map_in ground }
-{
-    match ground {
-        Ground::Chimera { chains, .. } => match chains {
-            Chaining::Clique => None,
-            Chaining::Map(at) => Some(at),
-        },
-        Ground::Listed { map, .. } => Some(map),
     }
 }
 
 /// Where chains come from. The map that the command names is taken and read.
 fn take_chain_source<F: Files>(
     alloc: Global,
-    words: &[String],
-    command: Command,
-    map: Option<WordAt>,
+    command: &Command<'_>,
     files: &mut F,
 ) -> Result<ChainSource, Status>
-    requires { place_of command Which.Map ≡ map }
-    ensures { Takes (F.held files.old) (F.held files.new) (named_in words.now command)
-        (if_named command Which.Map) (λ chain_source. chain_source) result
-        (λ held. chains_step (spelled words.now) held map)
-        (F.counts files.old) (F.counts files.new) }
+    ensures { HasTaken F.held F.counts files.old files.new command.now
+        (if_named command.now Which.Map) (λ chain_source. chain_source) result
+        (λ held. chains_step held (named command.now Which.Map)) }
 {
-    match map {
+    match named(command, Which::Map) {
         None => Ok(ChainSource::Clique),
-        Some(at) => {
-            let map = take_named::<ChainMap, F>(alloc, words, command, at, (), files)?;
+        Some(name) => {
+            let map = take_named::<ChainMap, F>(alloc, command, &name, (), files)?;
             Ok(ChainSource::Map(map))
         }
     }
@@ -210,20 +180,16 @@ fn take_chain_source<F: Files>(
 /// Where the chains of a command stand: the files of its board are taken and read.
 fn take_site<F: Files>(
     alloc: Global,
-    words: &[String],
-    command: Command,
-    board: Board,
+    command: &Command<'_>,
+    board: &Board<'_>,
     files: &mut F,
 ) -> Result<Site, Status>
-    requires { command.target ≡ Target.Qubits board }
-    ensures { Takes (F.held files.old) (F.held files.new) (named_in words.now command)
-        (board_files command) (λ site. site) result
-        (λ held. siting (spelled words.now) held board)
-        (F.counts files.old) (F.counts files.new) }
+    requires { command.now.target ≡ Target.Qubits board.now }
+    ensures { HasTaken F.held F.counts files.old files.new command.now
+        (board_files command.now) (λ site. site) result (λ held. siting held board.now) }
 {
-    let qubits = take_qubits(alloc, words, command, board, files)?;
-    let map = map_at(board.ground);
-    let chain_source = take_chain_source(alloc, words, command, map, files)?;
+    let qubits = take_qubits(alloc, command, board, files)?;
+    let chain_source = take_chain_source(alloc, command, files)?;
     Ok(Site {
         qubits,
         chain_source,
@@ -234,20 +200,18 @@ fn take_site<F: Files>(
 /// What the model of a command stands on. The files that its board names are taken and read.
 pub fn take_placement<F: Files>(
     alloc: Global,
-    words: &[String],
-    command: Command,
+    command: &Command<'_>,
     files: &mut F,
-) -> Result<Placement, Status>
-    ensures { Takes (F.held files.old) (F.held files.new) (named_in words.now command)
-        (board_files command) (λ base. base) result
-        (λ held. placing (spelled words.now) held command.target)
-        (F.counts files.old) (F.counts files.new) }
+) -> Result<ModelTarget, Status>
+    ensures { HasTaken F.held F.counts files.old files.new command.now
+        (board_files command.now) (λ base. base) result
+        (λ held. placing held command.now.target) }
 {
-    match command.target {
-        Target::Nodes(model) => Ok(Placement::Nodes(model)),
+    match &command.target {
+        Target::Nodes(model) => Ok(ModelTarget::Nodes(*model)),
         Target::Qubits(board) => {
-            let site = take_site(alloc, words, command, board, files)?;
-            Ok(Placement::Qubits(site))
+            let site = take_site(alloc, command, board, files)?;
+            Ok(ModelTarget::Qubits(site))
         }
     }
 }

@@ -1,88 +1,84 @@
 //! What the model of a command is made of.
-ghost use Rattle.std.specs.Prelude.{◌≡◌, None, IfOk, OnOk, IfErr};
+ghost use Rattle.std.specs.Prelude.{◌≡◌, None, IfOk, IfErr};
 ghost use Rattle.problem_form.specs.Limits.{limit_fault};
 ghost use Rattle.command_words.specs.Commands.{HasFewClauses};
 ghost use Rattle.command_words.specs.Names.{model_files};
 ghost use Rattle.source_texts.specs.Sources.{AreEnoughIn, KeepsSoft};
-ghost use Rattle.run_steps.specs.Steps.{planning};
+ghost use Rattle.run_steps.specs.Steps.{keeps_steps, planning};
 ghost use Rattle.run_steps.specs.Statuses.{IsRefusal};
-ghost use Rattle.run_steps.specs.Causes.{AreRead, AreRefused, MeetsHeld, named_in, spelled};
+ghost use Rattle.run_steps.specs.Takes.{HasTaken};
 
-use crate::placements::{Placement, take_placement};
+use crate::placements::take_placement;
 use crate::sources::take_source;
 use crate::status::Status;
-use base::UnitChoice;
-use command_words::Command;
+use command_words::{Ask, Command, OfState};
 use edge_io::Files;
-use problem_form::{Choices, Problem};
+use model_pipeline::Options;
+use problem_form::Problem;
 use source_texts::Read;
 use std::alloc::Global;
 
-/// What a model is made of: what its source is read into, how that becomes a model, and what the
-/// model stands on.
+/// What a model is made of: what its source is read into, and how that becomes a model.
 pub struct Plan {
     pub read: Read,
-    pub choices: Choices,
-    pub unit: UnitChoice,
-    pub base: Placement,
+    pub options: Options,
 }
 
 impl Drop for Plan {
     fn drop(self) {
         let Plan {
             read: _read,
-            choices: _choices,
-            unit: _unit,
-            base: _base,
+            options: _options,
         } = self;
     }
 }
 
 impl Plan {
-    /// The problem of the source, and what the model stands on. All else is let go.
-    pub fn into_problem_and_base(self) -> (Problem, Placement)
+    /// The problem of the source, and how it becomes a model. All else is let go.
+    pub fn into_problem_and_options(self) -> (Problem, Options)
         ensures problem { result.0 ≡ self.read.problem }
-        ensures base { result.1 ≡ self.base }
+        ensures options { result.1 ≡ self.options }
     {
-        let Plan {
-            read,
-            choices: _choices,
-            unit: _unit,
-            base,
-        } = self;
-        (read.into_problem(), base)
+        let Plan { read, options } = self;
+        (read.into_problem(), options)
+    }
+}
+
+/// Whether the steps to the form are kept: where an assignment is to be extended.
+fn keeps_steps(ask: &Ask<'_>) -> bool
+    ensures { result ≡ keeps_steps ask.now }
+{
+    match ask {
+        Ask::State(_, OfState::Extend) => true,
+        _ => false,
     }
 }
 
 /// Takes the files that the model of a command is made of, and reads them.
 pub fn take_plan<F: Files>(
     alloc: Global,
-    words: &[String],
-    command: Command,
+    command: &Command<'_>,
     files: &mut F,
 ) -> Result<Plan, Status>
-    requires { HasFewClauses command.origin }
-    ensures step { MeetsHeld (F.held files.old) (model_files command)
-        (λ plan. plan) result
-        (λ held. planning (spelled words.now) held command) }
-    ensures held { F.held files.new ≡ F.held files.old }
+    requires { HasFewClauses command.now.origin }
+    ensures took { HasTaken F.held F.counts files.old files.new command.now
+        (model_files command.now) (λ plan. plan) result (λ held. planning held command.now) }
     ensures within { IfOk result (λ plan.
-        limit_fault plan.choices.normal plan.read.problem ≡ None) }
+        limit_fault plan.options.choices.normal plan.read.problem ≡ None) }
     ensures kept { IfOk result (λ plan. KeepsSoft plan.read) }
-    ensures enough { IfOk result (λ plan. AreEnoughIn command.penalty plan.read) }
-    ensures passed { OnOk result (AreRead (named_in words.now command)
-        (model_files command) (F.counts files.old) (F.counts files.new)) }
-    ensures refused { IfErr result (λ status. AreRefused
-        (named_in words.now command) (model_files command) status
-        (F.counts files.old) (F.counts files.new)) }
+    ensures steps { IfOk result (λ plan. plan.options.keep_steps ≡ keeps_steps command.now.ask) }
+    ensures enough { IfOk result (λ plan. AreEnoughIn command.now.penalty plan.read) }
     ensures refusal { IfErr result IsRefusal }
 {
-    let read = take_source(alloc, words, command, files)?;
-    let base = take_placement(alloc, words, command, files)?;
+    let read = take_source(alloc, command, files)?;
+    let target = take_placement(alloc, command, files)?;
     Ok(Plan {
         read,
-        choices: command.choices,
-        unit: command.unit,
-        base,
+        options: Options {
+            choices: command.choices,
+            unit: command.unit,
+            target,
+            keep_steps: keeps_steps(&command.ask),
+        },
     })
 }

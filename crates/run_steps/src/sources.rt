@@ -1,5 +1,5 @@
 //! The source of a command: the file that it names, or the text that a number draws.
-ghost use Rattle.std.specs.Prelude.{◌≡◌, ◌≤◌, None, IfOk};
+ghost use Rattle.std.specs.Prelude.{◌≡◌, ◌≤◌, None, IfOk, IfErr};
 ghost use Rattle.problem_form.specs.declared.limits.Normal.{Normal};
 ghost use Rattle.problem_form.specs.Limits.{limit_fault};
 ghost use Rattle.local_penalties.specs.Kept.{IsWithinLimits};
@@ -10,11 +10,9 @@ ghost use Rattle.source_texts.specs.declared.reading.Read.{Read};
 ghost use Rattle.source_texts.specs.Sources.{AreEnoughIn, KeepsSoft, penalized};
 ghost use Rattle.run_steps.specs.Steps.{checking, prepared};
 ghost use Rattle.run_steps.specs.Cut.{checking_file, reading_file};
-ghost use Rattle.run_steps.specs.Causes.{named_in, spelled};
-ghost use Rattle.run_steps.specs.Takes.{Takes, TakesOne};
+ghost use Rattle.run_steps.specs.Takes.{HasTaken, HasTakenOne};
 ghost use Rattle.run_steps.specs.Drawn.{IsDrawnFor, IsDrawnInto};
 
-use crate::from_file::{FromFile, take_named};
 use crate::status::Status;
 use crate::steps::{read_into, take_words};
 use base::NoMemory;
@@ -25,29 +23,26 @@ use problem_form::check_limits;
 use sample_text::sample_text;
 use source_texts::{Read, read_source, read_source_words, style_of};
 use std::alloc::Global;
-use whole_text::TextAnswer;
 
-/// What the text that a number draws is read into. It has no fault, and passes no limit.
-#[tactic(auto, using(crate::proofs::Sampled::drawn_has_no_fault))]
-fn read_drawn(alloc: Global, number: u64, clauses: u64) -> Result<Read, NoMemory>
+/// What the text that a number draws is read into. It has no fault, and passes no limit, so that the
+/// status is want of memory.
+fn read_drawn(alloc: Global, number: u64, clauses: u64) -> Result<Read, Status>
     requires { clauses ≤ 100000 }
     ensures read { IfOk result (λ read. (normal : Normal)
         → IsDrawnInto number clauses normal read) }
     ensures kept { IfOk result KeepsSoft }
+    ensures no_fault { IfErr result (λ status. status ≡ Status.NoMemory) }
 {
     let text = sample_text(alloc, number, clauses)?;
-    match read_source(alloc, Slack::Bits, Format::Wcnf, &text) {
-        Ok(read) => Ok(read),
-        Err(TextAnswer::NoMemory) => Err(NoMemory),
-        Err(TextAnswer::Bad(_)) => unreachable!(),
-    }
+    let read = read_source(alloc, Slack::Bits, Format::Wcnf, &text);
+    read_into(read, Which::Source)
 }
 
 /// What is read, where its constraints get their slack as a command says, and with the command's
 /// bound.
-fn prepared(alloc: Global, command: Command, read: Read) -> Result<Read, NoMemory>
+fn prepared(alloc: Global, command: &Command<'_>, read: Read) -> Result<Read, NoMemory>
     requires { KeepsSoft read }
-    ensures value { IfOk result (λ given. given ≡ prepared command read) }
+    ensures value { IfOk result (λ given. given ≡ prepared command.now read) }
     ensures kept { IfOk result KeepsSoft }
 {
     let mut read = read.slacked(alloc, command.slack)?;
@@ -69,17 +64,23 @@ fn penalized(alloc: Global, scope: PenaltyScope, read: Read) -> Result<Read, NoM
 }
 
 /// What the text that a number draws is read into, as a command wants it. It passes no limit.
-fn take_drawn(alloc: Global, number: u64, clauses: u64, command: Command) -> Result<Read, NoMemory>
+fn take_drawn(
+    alloc: Global,
+    number: u64,
+    clauses: u64,
+    command: &Command<'_>,
+) -> Result<Read, Status>
     requires { clauses ≤ 100000 }
-    ensures drawn { IfOk result (IsDrawnFor number clauses command) }
+    ensures drawn { IfOk result (IsDrawnFor number clauses command.now) }
     ensures within { IfOk result (λ read.
-        limit_fault command.choices.normal read.problem ≡ None) }
+        limit_fault command.now.choices.normal read.problem ≡ None) }
     ensures kept { IfOk result KeepsSoft }
-    ensures enough { IfOk result (AreEnoughIn command.penalty) }
+    ensures enough { IfOk result (AreEnoughIn command.now.penalty) }
+    ensures no_fault { IfErr result (λ status. status ≡ Status.NoMemory) }
 {
     let own = read_drawn(alloc, number, clauses)?;
     let read = prepared(alloc, command, own)?;
-    penalized(alloc, command.penalty, read)
+    Ok(penalized(alloc, command.penalty, read)?)
 }
 
 /// Takes the file of a source, cut into words as it comes, and reads it.
@@ -90,9 +91,8 @@ fn take_read<F: Files>(
     format: Format,
     files: &mut F,
 ) -> Result<Read, Status>
-    ensures took { TakesOne (F.held files.old) (F.held files.new) Which.Source name.now
-        (λ read. read) result (λ held. reading_file held name.now slack format)
-        (F.counts files.old) (F.counts files.new) }
+    ensures took { HasTakenOne F.held F.counts files.old files.new Which.Source name.now
+        (λ read. read) result (λ held. reading_file held name.now slack format) }
     ensures kept { IfOk result KeepsSoft }
 {
     let style = style_of(format);
@@ -107,16 +107,15 @@ fn take_file<F: Files>(
     alloc: Global,
     name: &str,
     format: Format,
-    command: Command,
+    command: &Command<'_>,
     files: &mut F,
 ) -> Result<Read, Status>
-    ensures took { TakesOne (F.held files.old) (F.held files.new) Which.Source name.now
-        (λ read. read) result (λ held. checking_file held name.now format command)
-        (F.counts files.old) (F.counts files.new) }
+    ensures took { HasTakenOne F.held F.counts files.old files.new Which.Source name.now
+        (λ read. read) result (λ held. checking_file held name.now format command.now) }
     ensures within { IfOk result (λ read.
-        limit_fault command.choices.normal read.problem ≡ None) }
+        limit_fault command.now.choices.normal read.problem ≡ None) }
     ensures kept { IfOk result KeepsSoft }
-    ensures enough { IfOk result (AreEnoughIn command.penalty) }
+    ensures enough { IfOk result (AreEnoughIn command.now.penalty) }
 {
     let own = take_read(alloc, name, command.slack, format, files)?;
     let read = prepared(alloc, command, own)?;
@@ -129,57 +128,23 @@ fn take_file<F: Files>(
     }
 }
 
-/// What a source in a format is read into, as a command wants it and within the limits.
-impl FromFile for Read {
-    type Context = (Format, Command);
-
-    ghost which = { Which.Source };
-
-    ghost Content = { Read };
-
-    ghost view = { λ read. read };
-
-    ghost steps = { λ context held name. checking_file held name context.0 context.1 };
-
-    ghost fits = { λ context read. KeepsSoft read
-        × (limit_fault context.1.choices.normal read.problem ≡ None)
-        × AreEnoughIn context.1.penalty read };
-
-    fn take<F: Files>(
-        alloc: Global,
-        name: &str,
-        context: (Format, Command),
-        files: &mut F,
-    ) -> Result<Read, Status> {
-        take_file(alloc, name, context.0, context.1, files)
-    }
-}
-
 /// What the source of a command is read into, as the command wants it and within the limits.
 pub fn take_source<F: Files>(
     alloc: Global,
-    words: &[String],
-    command: Command,
+    command: &Command<'_>,
     files: &mut F,
 ) -> Result<Read, Status>
-    requires { HasFewClauses command.origin }
-    ensures took { Takes (F.held files.old) (F.held files.new) (named_in words.now command)
-        (if_named command Which.Source) (λ read. read) result
-        (λ held. checking (spelled words.now) held command)
-        (F.counts files.old) (F.counts files.new) }
+    requires { HasFewClauses command.now.origin }
+    ensures took { HasTaken F.held F.counts files.old files.new command.now
+        (if_named command.now Which.Source) (λ read. read) result
+        (λ held. checking held command.now) }
     ensures within { IfOk result (λ read.
-        limit_fault command.choices.normal read.problem ≡ None) }
+        limit_fault command.now.choices.normal read.problem ≡ None) }
     ensures kept { IfOk result KeepsSoft }
-    ensures enough { IfOk result (AreEnoughIn command.penalty) }
+    ensures enough { IfOk result (AreEnoughIn command.now.penalty) }
 {
-    match command.origin {
-        Origin::Drawn(number, clauses) => {
-            let read = take_drawn(alloc, number, clauses, command)?;
-            Ok(read)
-        }
-        Origin::File(format, at) => {
-            let context = (format, command);
-            take_named::<Read, F>(alloc, words, command, at, context, files)
-        }
+    match &command.origin {
+        Origin::Drawn(number, clauses) => take_drawn(alloc, *number, *clauses, command),
+        Origin::File(format, name) => take_file(alloc, name.text(), *format, command, files),
     }
 }

@@ -1,16 +1,16 @@
 //! A state of a model or an assignment of a source, read from a file.
-ghost use Rattle.std.specs.Prelude.{◌≡◌, ◌≤◌, ◌^◌, Bool, List, length, IfOk, OnOk, IfErr};
+ghost use Rattle.std.specs.Prelude.{◌≡◌, ◌≤◌, ◌^◌, Bool, List, length, IfOk, IfErr};
 ghost use Rattle.command_words.specs.declared.commands.Ask.TheVariants as asks;
 ghost use Rattle.command_words.specs.declared.names.Which.{Which};
 ghost use Rattle.command_words.specs.Names.{last_files};
 ghost use Rattle.run_steps.specs.Steps.{stating, taking, EndsState};
 ghost use Rattle.run_steps.specs.Statuses.{IsReading, IsStateRefusal};
-ghost use Rattle.run_steps.specs.Causes.{AreRead, AreRefused, MeetsHeld, named_in, spelled_at};
+ghost use Rattle.run_steps.specs.Takes.{HasTaken};
 
 use crate::from_file::FromFile;
 use crate::status::Status;
 use crate::steps::take_bytes;
-use command_words::{Command, Which, WordAt, text_at};
+use command_words::{Command, Name, Which};
 use edge_io::Files;
 use state_file::{StateAnswer, read_state};
 use std::alloc::Global;
@@ -59,22 +59,16 @@ impl FromFile for Vec<bool> {
 /// Takes the bytes of the file of a command's states.
 pub fn take_states<F: Files>(
     alloc: Global,
-    words: &[String],
-    command: Command,
-    at: WordAt,
+    command: &Command<'_>,
+    name: &Name<'_>,
     files: &mut F,
 ) -> Result<Vec<u8>, Status>
-    requires { command.ask ≡ asks.Evaluate at }
-    ensures step { MeetsHeld (F.held files.old) (last_files command)
-        (λ bytes. bytes.items) result
-        (λ held. taking held Which.State (spelled_at words.now at)) }
+    requires { command.now.ask ≡ asks.Evaluate name.now }
+    ensures took { HasTaken F.held F.counts files.old files.new command.now
+        (last_files command.now) (λ bytes. bytes.items) result
+        (λ held. taking held Which.State name.now) }
     ensures short { IfOk result (λ bytes. length bytes.items ≤ 2 ^ 24) }
-    ensures passed { OnOk result (AreRead (named_in words.now command)
-        (last_files command) (F.counts files.old) (F.counts files.new)) }
-    ensures refused { IfErr result (λ status. AreRefused
-        (named_in words.now command) (last_files command) status
-        (F.counts files.old) (F.counts files.new)) }
     ensures refusal { IfErr result IsReading }
 {
-    take_bytes(alloc, text_at(words, at), Which::State, files)
+    take_bytes(alloc, name.text(), Which::State, files)
 }

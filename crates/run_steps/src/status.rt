@@ -2,7 +2,7 @@
 ghost use Rattle.std.specs.Prelude.{◌≡◌};
 
 use base::NoMemory;
-use chain_map::EmbedFault;
+use chain_map::{CheckAnswer, EmbedFault};
 use command_words::Which;
 use posiform_check::ProofFault;
 use problem_form::LimitKind;
@@ -31,6 +31,19 @@ impl From<NoMemory> for Status {
 
     fn from(_: NoMemory) -> Status {
         Status::NoMemory
+    }
+}
+
+impl From<CheckAnswer> for Status {
+    ghost use Rattle.run_steps.specs.Statuses.{unembedded};
+
+    ghost from_gives = { λ answer status. status ≡ unembedded answer };
+
+    fn from(answer: CheckAnswer) -> Status {
+        match answer {
+            CheckAnswer::Fault(fault) => Status::NotEmbedded(fault),
+            CheckAnswer::NoMemory => Status::NoMemory,
+        }
     }
 }
 

@@ -3,7 +3,7 @@ ghost use Rattle.std.specs.Prelude.{◌≡◌, ◌≤◌, ◌^◌, length, IfOk}
 ghost use Rattle.whole_text.specs.TokenTexts.{words_of};
 ghost use Rattle.run_steps.specs.Steps.{taking};
 ghost use Rattle.run_steps.specs.Cut.{cutting};
-ghost use Rattle.run_steps.specs.Takes.{judged, TakesOne};
+ghost use Rattle.run_steps.specs.Takes.{judged, HasTakenOne};
 
 use crate::cut::read_words;
 use crate::status::Status;
@@ -22,8 +22,8 @@ pub fn take_words<F: Files>(
     style: Style,
     files: &mut F,
 ) -> Result<TokenText, Status>
-    ensures took { TakesOne (F.held files.old) (F.held files.new) which name.now words_of result
-        (λ held. cutting held which name.now style) (F.counts files.old) (F.counts files.new) }
+    ensures took { HasTakenOne F.held F.counts files.old files.new which name.now words_of result
+        (λ held. cutting held which name.now style) }
     ensures short { IfOk result (λ text. length text.bytes ≤ 2 ^ 24) }
 {
     let Ok(begun) = String::from_str(alloc, name) else {
@@ -44,9 +44,8 @@ pub fn take_bytes<F: Files>(
     which: Which,
     files: &mut F,
 ) -> Result<Vec<u8>, Status>
-    ensures took { TakesOne (F.held files.old) (F.held files.new) which name.now
-        (λ bytes. bytes.items) result (λ held. taking held which name.now)
-        (F.counts files.old) (F.counts files.new) }
+    ensures took { HasTakenOne F.held F.counts files.old files.new which name.now
+        (λ bytes. bytes.items) result (λ held. taking held which name.now) }
     ensures short { IfOk result (λ bytes. length bytes.items ≤ 2 ^ 24) }
 {
     let Ok(begun) = String::from_str(alloc, name) else {

@@ -15,7 +15,7 @@ solved_text-requires-clause-variables c =
 pub returns-clause-step : goal.returns-clause-step
 returns-clause-step c =
     let m = c.args.model.now in
-    last_gives c.args.plan.now (solving [] [] None) m (InOrder (from_last m.nodes)) c.requires.modelled
+    last_gives c.args.plan.now (solving [] None) m (InOrder (from_last m.nodes)) c.requires.modelled
     (narrow_ends m c.in-Ok.ensures.narrow)
 
 pub returns-clause-answer : goal.returns-clause-answer

@@ -1,10 +1,10 @@
-use Rattle.run_steps.proofs.Lemmas.{arith, nat_tests, ◌≡◌, Ok, Some, map, string_bytes, subst, text_at, Written, certifying, Refuses, alone_refused, certificate_refuses, certified_meets, proved_files, reads, returned}
+use Rattle.run_steps.proofs.Lemmas.{arith, nat_tests, ◌≡◌, Ok, Some, subst, Written, certifying, Refuses, alone_refused, certificate_refuses, certified_meets, proved_files, reads, returned}
 use Rattle.posiform_check.specs.Certificates.{AreOfNodes}
 use Rattle.run_steps.proofs.certificates.take_proof.Goals as goal
 
 pub returns-in_err-certificate-clause-step : goal.returns-in_err-certificate-clause-step
 returns-in_err-certificate-clause-step g c = λ held may.
-    let name = text_at (map string_bytes c.args.words.now) c.args.at in
+    let name = c.args.name.now in
     rw (returned c.from_residual.ensures.1) (certificate_refuses _ _ _ _ _
     (subst (λ (n : Written). Refuses c.in_err-certificate.field-0.0 (certifying held name n.nodes))
     c.model.view_is (c.in_err-certificate.ensures.took.step held may)))
@@ -23,7 +23,7 @@ proved-requires-clause-nodes g c =
 
 pub returns-clause-step : goal.returns-clause-step
 returns-clause-step g c = λ held may.
-    let name = text_at (map string_bytes c.args.words.now) c.args.at in
+    let name = c.args.name.now in
     certified_meets _ _ _ _ _ _ _
     (subst (λ (n : Written). (certifying held name n.nodes).end ≡ Some (Ok
     c.in_ok-certificate.certificate))

@@ -1,4 +1,4 @@
-use Rattle.run_steps.specs.declared.placements.Placement.TheVariants.{Qubits}
+use Rattle.model_pipeline.specs.declared.options.ModelTarget.TheVariants.{Qubits}
 use Rattle.run_steps.proofs.Lemmas.{gives, placing, refl, still_refuses, takes_given, takes_none, takes_same}
 use Rattle.run_steps.proofs.placements.take_placement.Goals as goal
 

@@ -1,11 +1,13 @@
-use Rattle.run_steps.proofs.Common.{◌≡◌, sym, ap, ◌∙◌, sample_text, problem_of, Wcnf}
-use Rattle.command_words.specs.declared.commands.Slack.TheVariants.{Bits}
-use Rattle.run_steps.proofs.Sampled.{drawn_is_read}
+use Rattle.std.proofs.Common.{◌∙◌}
+use Rattle.run_steps.proofs.Sampled.{drawn_is_judged}
 use Rattle.run_steps.proofs.sources.read_drawn.Goals as goal
 
-pub returns-in-Ok-clause-read : goal.returns-in-Ok-clause-read
-returns-in-Ok-clause-read c =
-    let text : c.deref.result.now ≡ sample_text c.args.number c.args.clauses =
-    c.deref.ensures.value ∙ c.in_ok-text.ensures.text in
-    drawn_is_read c.args.number c.args.clauses c.in-Ok.read c.requires
-    (ap (problem_of Bits Wcnf) (sym text) ∙ c.in-Ok.ensures.read)
+pub returns-clause-read : goal.returns-clause-read
+returns-clause-read c =
+    (drawn_is_judged _ _ _ _ _ c.requires (c.deref.ensures.value ∙ c.in_ok-text.ensures.text)
+    c.read_source-read.ensures.read c.read_into.ensures).0
+
+pub returns-clause-no_fault : goal.returns-clause-no_fault
+returns-clause-no_fault c =
+    (drawn_is_judged _ _ _ _ _ c.requires (c.deref.ensures.value ∙ c.in_ok-text.ensures.text)
+    c.read_source-read.ensures.read c.read_into.ensures).1

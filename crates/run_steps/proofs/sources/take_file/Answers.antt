@@ -10,14 +10,14 @@ returns-in_err-read-clause-took g c = grind (arith, nat_tests, returned, told_th
 
 pub returns-in_ok-given-in-Ok-clause-within : goal.returns-in_ok-given-in-Ok-clause-within
 returns-in_ok-given-in-Ok-clause-within g c =
-    within_penalized c.args.command c.in_ok-read.read c.in_ok-given-in-Ok.given
+    within_penalized c.args.command.now c.in_ok-read.read c.in_ok-given-in-Ok.given
     c.in_ok-given-in-Ok.ensures.value c.in-Ok.ensures.exact
 
 pub returns-in_ok-given-in-Ok-clause-took : goal.returns-in_ok-given-in-Ok-clause-took
 returns-in_ok-given-in-Ok-clause-took g c =
     let name = c.args.name.now in
     let format = c.args.format in
-    let command = c.args.command in
+    let command = c.args.command.now in
     let own = c.in_ok-own.own in
     let given = c.in_ok-read.read in
     let made = c.in_ok-given-in-Ok.given in
@@ -39,7 +39,7 @@ pub returns-in-Err-clause-took : goal.returns-in-Err-clause-took
 returns-in-Err-clause-took g c =
     let name = c.args.name.now in
     let format = c.args.format in
-    let command = c.args.command in
+    let command = c.args.command.now in
     let own = c.in_ok-own.own in
     let given = c.in_ok-read.read in
     let fault = c.in-Err.fault in
