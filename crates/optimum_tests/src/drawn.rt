@@ -8,7 +8,7 @@ use bits_model::OutputModel;
 use chimera_graph::Chimera;
 use command_words::{ChainStrength, NodeModel};
 use literal_lists::Literal;
-use model_pipeline::{ChainSource, Keeping, Qubits, Site, model_of, model_on_qubits};
+use model_pipeline::{ChainSource, Made, ModelTarget, Options, Qubits, Site, compile};
 use problem_form::{Choices, High, Normal, Problem, check_limits};
 use std::alloc::Global;
 
@@ -149,6 +149,30 @@ pub fn drawn_problem(alloc: Global, dice: &mut Dice, nodes: u32) -> Result<Probl
     Ok(problem)
 }
 
+/// The model of a problem on a target, if it is within the limits and has its place there.
+fn model_on(
+    alloc: Global,
+    problem: &Problem,
+    variables: u64,
+    target: ModelTarget,
+) -> Option<OutputModel>
+    requires { variables ≤ problem.now.variables }
+    ensures { IfSome result (λ m. weight_total m.entries ≤ 2 ^ 121) }
+{
+    check_limits(problem, &CHOICES).ok()?;
+    let options = Options {
+        choices: CHOICES,
+        unit: UnitChoice::One,
+        target,
+        keep_steps: false,
+    };
+    let Made {
+        model,
+        steps: _steps,
+    } = compile(alloc, problem, variables, &options).ok()?;
+    Some(model)
+}
+
 /// The model of a problem for bits or spins, if it is within the limits.
 pub fn node_model(
     alloc: Global,
@@ -159,26 +183,15 @@ pub fn node_model(
     requires { variables ≤ problem.now.variables }
     ensures { IfSome result (λ m. weight_total m.entries ≤ 2 ^ 121) }
 {
-    check_limits(problem, &CHOICES).ok()?;
-    let one = UnitChoice::One;
-    let mut kept = Keeping::Unwanted;
-    model_of(alloc, problem, variables, &CHOICES, target, one, &mut kept).ok()
+    model_on(alloc, problem, variables, ModelTarget::Nodes(target))
 }
 
 /// The model of a problem on the qubits of a graph, if it is within the limits and has its place
 /// there.
-pub fn model_at(
-    alloc: Global,
-    problem: &Problem,
-    variables: u64,
-    site: &Site,
-) -> Option<OutputModel>
+pub fn model_at(alloc: Global, problem: &Problem, variables: u64, site: Site) -> Option<OutputModel>
     requires { variables ≤ problem.now.variables }
 {
-    check_limits(problem, &CHOICES).ok()?;
-    let one = UnitChoice::One;
-    let mut kept = Keeping::Unwanted;
-    model_on_qubits(alloc, problem, variables, &CHOICES, one, site, &mut kept).ok()
+    model_on(alloc, problem, variables, ModelTarget::Qubits(site))
 }
 
 /// The target of a model.
@@ -200,7 +213,7 @@ pub fn model_for(alloc: Global, problem: &Problem, target: Target) -> Option<Out
                 chain_source: ChainSource::Clique,
                 ties: ChainStrength::Choi,
             };
-            model_at(alloc, problem, problem.variables, &site)
+            model_at(alloc, problem, problem.variables, site)
         }
     }
 }

@@ -111,11 +111,7 @@ fn are_read_there(
         chain_source: ChainSource::Map(map_of(alloc, chains)?),
         ties,
     };
-    Ok(are_read_off(
-        model_at(alloc, problem, variables, &site),
-        chains,
-        variables,
-    ))
+    Ok(are_read_off(model_at(alloc, problem, variables, site), chains, variables))
 }
 
 /// The same of three nodes.

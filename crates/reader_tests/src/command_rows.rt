@@ -2,8 +2,8 @@
 use base::UnitChoice;
 use chimera_graph::Chimera;
 use command_words::{
-    Ask, Board, ChainStrength, Chaining, Command, Format, Ground, NodeModel, Notice, Origin,
-    Request, Slack, Target, Which, WordAt, name_of, notice_text, request,
+    Ask, Board, ChainStrength, Command, Format, Ground, Make, Name, NodeModel, Notice, OfState,
+    Origin, Request, Slack, Target, Which, name_of, notice_text, request,
 };
 use form_steps::PenaltyScope;
 use problem_form::{Choices, High, Normal};
@@ -17,22 +17,57 @@ fn push_owned(alloc: Global, owned: &mut Vec<String>, words: &[&str]) -> Result<
     Ok(())
 }
 
-fn owned(alloc: Global, words: &[&str]) -> Result<Vec<String>, AllocError> {
+pub(crate) fn owned(alloc: Global, words: &[&str]) -> Result<Vec<String>, AllocError> {
     let mut owned = Vec::new(alloc);
     push_owned(alloc, &mut owned, words)?;
     Ok(owned)
 }
 
-/// What the words ask for.
-pub(crate) fn asked(alloc: Global, words: &[&str]) -> Result<Result<Request, usize>, AllocError> {
-    let words = owned(alloc, words)?;
-    Ok(request(&words))
+/// What a row says that is asked, with the texts of the names.
+#[derive(Clone, Copy)]
+enum AskRow {
+    Make(Make),
+    Solve(Option<&'static str>),
+    Decode(&'static str),
+    Evaluate(&'static str),
+    Extend(&'static str),
+    Prove(&'static str, &'static str),
+}
+
+/// The name that is this text, where there is one.
+pub(crate) fn named<'a>(text: Option<&'a str>) -> Option<Name<'a>> {
+    match text {
+        Some(text) => Some(Name::new(text)),
+        None => None,
+    }
+}
+
+/// What a row says.
+fn ask_of(row: AskRow) -> Ask<'static> {
+    match row {
+        AskRow::Make(make) => Ask::Make(make),
+        AskRow::Solve(order) => Ask::Solve(named(order)),
+        AskRow::Decode(state) => Ask::State(Name::new(state), OfState::Decode),
+        AskRow::Evaluate(states) => Ask::Evaluate(Name::new(states)),
+        AskRow::Extend(assignment) => Ask::State(Name::new(assignment), OfState::Extend),
+        AskRow::Prove(state, proof) => {
+            Ask::State(Name::new(state), OfState::Prove(Name::new(proof)))
+        }
+    }
+}
+
+/// The source in a format that the fourth word names.
+fn source<'a>(format: Format, words: &[&'a str]) -> Origin<'a> {
+    match words.get(3) {
+        Some(word) => Origin::File(format, Name::new(word)),
+        None => Origin::File(format, Name::new("")),
+    }
 }
 
 /// What is asked of the file that the fourth word names, with the usual keys.
-fn plain(ask: Ask) -> Command {
+fn plain<'a>(words: &[&'a str], ask: Ask<'a>) -> Command<'a> {
     Command {
-        origin: Origin::File(Format::Wcnf, WordAt::Whole(3)),
+        origin: source(Format::Wcnf, words),
         target: Target::Nodes(NodeModel::Qubo),
         choices: Choices {
             normal: Normal::Literal,
@@ -47,9 +82,15 @@ fn plain(ask: Ask) -> Command {
 }
 
 /// The command `compile` in a normal form, on the file that the fourth word names.
-fn compile_in(format: Format, target: Target, normal: Normal, unit: UnitChoice) -> Command {
+fn compile_in<'a>(
+    words: &[&'a str],
+    format: Format,
+    target: Target<'a>,
+    normal: Normal,
+    unit: UnitChoice,
+) -> Command<'a> {
     Command {
-        origin: Origin::File(format, WordAt::Whole(3)),
+        origin: source(format, words),
         target,
         choices: Choices {
             normal,
@@ -59,34 +100,43 @@ fn compile_in(format: Format, target: Target, normal: Normal, unit: UnitChoice) 
         bound: None,
         slack: Slack::Bits,
         penalty: PenaltyScope::Global,
-        ask: Ask::Model,
+        ask: Ask::Make(Make::Model),
     }
 }
 
-const POSITIONS: &[(&[&str], Result<Ask, usize>)] = &[
-    (&["compile", "wcnf", "qubo", "FILE"], Ok(Ask::Model)),
-    (&["compile", "wcnf", "qubo", "compile"], Ok(Ask::Model)),
-    (&["solve", "wcnf", "qubo", "FILE"], Ok(Ask::Solve(None))),
+const POSITIONS: &[(&[&str], Result<AskRow, usize>)] = &[
+    (
+        &["compile", "wcnf", "qubo", "FILE"],
+        Ok(AskRow::Make(Make::Model)),
+    ),
+    (
+        &["compile", "wcnf", "qubo", "compile"],
+        Ok(AskRow::Make(Make::Model)),
+    ),
+    (&["solve", "wcnf", "qubo", "FILE"], Ok(AskRow::Solve(None))),
     (&["solve", "wcnf", "qubo", "FILE", "STATE"], Err(5)),
-    (&["size", "wcnf", "qubo", "FILE"], Ok(Ask::Size)),
+    (
+        &["size", "wcnf", "qubo", "FILE"],
+        Ok(AskRow::Make(Make::Size)),
+    ),
     (&["size", "wcnf", "qubo", "FILE", "STATE"], Err(5)),
     (
         &["decode", "wcnf", "qubo", "FILE", "STATE"],
-        Ok(Ask::Decode(WordAt::Whole(4))),
+        Ok(AskRow::Decode("STATE")),
     ),
     (
         &["evaluate", "wcnf", "qubo", "FILE", "STATES", "unit=one"],
-        Ok(Ask::Evaluate(WordAt::Whole(4))),
+        Ok(AskRow::Evaluate("STATES")),
     ),
     (
         &["extend", "wcnf", "qubo", "FILE", "high=", "unit=one"],
-        Ok(Ask::Extend(WordAt::Whole(4))),
+        Ok(AskRow::Extend("high=")),
     ),
     (
         &[
             "prove", "wcnf", "qubo", "FILE", "STATE", "PROOF", "unit=one",
         ],
-        Ok(Ask::Prove(WordAt::Whole(4), WordAt::Whole(5))),
+        Ok(AskRow::Prove("STATE", "PROOF")),
     ),
     // a missing word
     (&["prove", "wcnf", "qubo", "FILE", "STATE"], Err(6)),
@@ -116,7 +166,7 @@ const POSITIONS: &[(&[&str], Result<Ask, usize>)] = &[
     // a key, and a further word that is none
     (
         &["compile", "wcnf", "qubo", "FILE", "high=monomial"],
-        Ok(Ask::Model),
+        Ok(AskRow::Make(Make::Model)),
     ),
     (&["compile", "wcnf", "qubo", "FILE", "FILE"], Err(5)),
     (
@@ -129,13 +179,13 @@ const POSITIONS: &[(&[&str], Result<Ask, usize>)] = &[
 fn are_asked(
     alloc: Global,
     words: &[&str],
-    wanted: &Result<Ask, usize>,
+    wanted: &Result<AskRow, usize>,
 ) -> Result<bool, AllocError> {
-    let wanted = match *wanted {
-        Ok(ask) => Ok(Request::Command(plain(ask))),
-        Err(position) => Err(position),
-    };
-    Ok(asked(alloc, words)? == wanted)
+    let given = owned(alloc, words)?;
+    Ok(match *wanted {
+        Ok(row) => request(&given) == Ok(Request::Command(plain(words, ask_of(row)))),
+        Err(position) => request(&given) == Err(position),
+    })
 }
 
 #[test]
@@ -153,12 +203,13 @@ fn are_compiled(
     alloc: Global,
     words: &[&str],
     format: Format,
-    target: Target,
+    target: Target<'_>,
     normal: Normal,
     unit: UnitChoice,
 ) -> Result<bool, AllocError> {
-    let wanted = compile_in(format, target, normal, unit);
-    Ok(asked(alloc, words)? == Ok(Request::Command(wanted)))
+    let given = owned(alloc, words)?;
+    let wanted = compile_in(words, format, target, normal, unit);
+    Ok(request(&given) == Ok(Request::Command(wanted)))
 }
 
 const FORMATS: &[(&[&str], Format, NodeModel, UnitChoice)] = &[
@@ -203,8 +254,8 @@ const FORMATS: &[(&[&str], Format, NodeModel, UnitChoice)] = &[
 const GRAPHS: &[(
     &[&str],
     Format,
-    Option<WordAt>,
-    Chaining,
+    Option<&str>,
+    Option<&str>,
     ChainStrength,
     UnitChoice,
 )] = &[
@@ -214,7 +265,7 @@ const GRAPHS: &[(
         ],
         Format::Poly,
         None,
-        Chaining::Map(WordAt::Value(5)),
+        Some("a=b"),
         ChainStrength::Choi,
         UnitChoice::One,
     ),
@@ -232,8 +283,8 @@ const GRAPHS: &[(
             "map=",
         ],
         Format::Wbo,
-        Some(WordAt::Value(4)),
-        Chaining::Map(WordAt::Value(9)),
+        Some(""),
+        Some(""),
         ChainStrength::Cut,
         UnitChoice::One,
     ),
@@ -252,7 +303,7 @@ const GRAPHS: &[(
         ],
         Format::Opb,
         None,
-        Chaining::Clique,
+        None,
         ChainStrength::Choi,
         UnitChoice::Reduce,
     ),
@@ -263,8 +314,8 @@ fn are_compiled_on(
     alloc: Global,
     words: &[&str],
     format: Format,
-    dead: Option<WordAt>,
-    chains: Chaining,
+    dead: Option<&str>,
+    map: Option<&str>,
     ties: ChainStrength,
     unit: UnitChoice,
 ) -> Result<bool, AllocError> {
@@ -273,8 +324,8 @@ fn are_compiled_on(
     };
     let ground = Ground::Chimera {
         graph,
-        dead,
-        chains,
+        dead: named(dead),
+        map: named(map),
     };
     let target = Target::Qubits(Board { ground, ties });
     are_compiled(alloc, words, format, target, Normal::Literal, unit)
@@ -282,8 +333,8 @@ fn are_compiled_on(
 
 #[test]
 fn each_way_to_get_chains_on_a_graph(rt: HostRuntime) {
-    for (words, format, dead, chains, ties, unit) in GRAPHS {
-        let found = are_compiled_on(rt.alloc(), words, *format, *dead, *chains, *ties, *unit);
+    for (words, format, dead, map, ties, unit) in GRAPHS {
+        let found = are_compiled_on(rt.alloc(), words, *format, *dead, *map, *ties, *unit);
         assert!(rt; found == Ok(true), "{words:?}");
     }
 }
@@ -446,11 +497,11 @@ fn are_noticed(
     words: &[&str],
     wanted: Result<Notice, usize>,
 ) -> Result<bool, AllocError> {
-    let wanted = match wanted {
-        Ok(notice) => Ok(Request::Notice(notice)),
-        Err(position) => Err(position),
-    };
-    Ok(asked(alloc, words)? == wanted)
+    let given = owned(alloc, words)?;
+    Ok(match wanted {
+        Ok(notice) => request(&given) == Ok(Request::Notice(notice)),
+        Err(position) => request(&given) == Err(position),
+    })
 }
 
 const NOTICES: &[(&[&str], Result<Notice, usize>)] = &[
@@ -495,106 +546,110 @@ fn the_help_fits_a_screen_and_the_version_a_line(rt: HostRuntime) {
     assert!(rt; lines_and_columns(notice_text(Notice::Version)).0 == 1);
 }
 
-/// Whether this is the name of a file of the command.
+/// Whether the words ask for this, and this is the name of a file of the command.
 fn is_named(
     alloc: Global,
     words: &[&str],
-    ask: Ask,
+    row: AskRow,
     which: Which,
     name: &str,
 ) -> Result<bool, AllocError> {
-    let words = owned(alloc, words)?;
-    Ok(name_of(&words, plain(ask), which) == name)
+    let given = owned(alloc, words)?;
+    let wanted = plain(words, ask_of(row));
+    Ok(match request(&given) {
+        Ok(Request::Command(command)) => command == wanted && name_of(&command, which) == name,
+        _ => false,
+    })
 }
 
-const NAMES: &[(&[&str], Ask, Which, &str)] = &[
+const NAMES: &[(&[&str], AskRow, Which, &str)] = &[
     (
         &["compile", "wcnf", "qubo", "FILE"],
-        Ask::Model,
+        AskRow::Make(Make::Model),
         Which::Source,
         "FILE",
     ),
     (
         &["compile", "wcnf", "qubo", "a=b"],
-        Ask::Model,
+        AskRow::Make(Make::Model),
         Which::Source,
         "a=b",
     ),
     (
         &["compile", "wcnf", "qubo", ""],
-        Ask::Model,
+        AskRow::Make(Make::Model),
         Which::Source,
         "",
     ),
     (
         &["compile", "wcnf", "qubo", "FILE"],
-        Ask::Model,
+        AskRow::Make(Make::Model),
         Which::Map,
         "",
     ),
     (
         &["compile", "wcnf", "qubo", "FILE"],
-        Ask::Model,
+        AskRow::Make(Make::Model),
         Which::State,
         "",
     ),
     (
         &["compile", "wcnf", "qubo", "FILE"],
-        Ask::Model,
+        AskRow::Make(Make::Model),
         Which::Graph,
         "",
     ),
     (
         &["compile", "wcnf", "qubo", "FILE"],
-        Ask::Model,
+        AskRow::Make(Make::Model),
         Which::Dead,
         "",
     ),
     (
         &["compile", "wcnf", "qubo", "FILE"],
-        Ask::Model,
+        AskRow::Make(Make::Model),
         Which::Graph,
         "",
     ),
     (
         &["compile", "wcnf", "qubo", "FILE"],
-        Ask::Model,
+        AskRow::Make(Make::Model),
         Which::Certificate,
         "",
     ),
     (
         &["compile", "wcnf", "qubo", "FILE"],
-        Ask::Model,
+        AskRow::Make(Make::Model),
         Which::Order,
         "",
     ),
     (
         &["size", "wcnf", "qubo", "FILE"],
-        Ask::Size,
+        AskRow::Make(Make::Size),
         Which::State,
         "",
     ),
     (
         &["evaluate", "wcnf", "qubo", "FILE", "STATES"],
-        Ask::Evaluate(WordAt::Whole(4)),
+        AskRow::Evaluate("STATES"),
         Which::State,
         "STATES",
     ),
     (
         &["solve", "wcnf", "qubo", "FILE", "order=a=b"],
-        Ask::Solve(Some(WordAt::Value(4))),
+        AskRow::Solve(Some("a=b")),
         Which::Order,
         "a=b",
     ),
     (
         &["solve", "wcnf", "qubo", "FILE", "order="],
-        Ask::Solve(Some(WordAt::Value(4))),
+        AskRow::Solve(Some("")),
         Which::Order,
         "",
     ),
     (
         &["solve", "wcnf", "qubo", "FILE", "order=a"],
-        Ask::Solve(Some(WordAt::Value(4))),
+        AskRow::Solve(Some("a")),
         Which::State,
         "",
     ),
@@ -602,9 +657,9 @@ const NAMES: &[(&[&str], Ask, Which, &str)] = &[
 
 #[test]
 fn the_names_of_the_files(rt: HostRuntime) {
-    for (words, ask, which, name) in NAMES {
+    for (words, row, which, name) in NAMES {
         assert!(rt;
-            is_named(rt.alloc(), words, *ask, *which, name) == Ok(true),
+            is_named(rt.alloc(), words, *row, *which, name) == Ok(true),
             "{words:?} {which:?}"
         );
     }

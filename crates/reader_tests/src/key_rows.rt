@@ -1,6 +1,6 @@
 //! Keys, and what they choose.
-use crate::command_rows::asked;
-use command_words::{Ask, Board, ChainStrength, Ground, Request, Slack, Target, WordAt};
+use crate::command_rows::{named, owned};
+use command_words::{Ask, Board, ChainStrength, Ground, Name, Request, Slack, Target, request};
 use form_steps::PenaltyScope;
 use std::alloc::{AllocError, Global};
 
@@ -9,11 +9,15 @@ use std::alloc::{AllocError, Global};
 fn are_listed(
     alloc: Global,
     words: &[&str],
-    wanted: Result<(WordAt, WordAt, ChainStrength), usize>,
+    wanted: Result<(&str, &str, ChainStrength), usize>,
 ) -> Result<bool, AllocError> {
-    Ok(match (asked(alloc, words)?, wanted) {
+    let given = owned(alloc, words)?;
+    Ok(match (request(&given), wanted) {
         (Ok(Request::Command(command)), Ok((graph, map, ties))) => {
-            let ground = Ground::Listed { graph, map };
+            let ground = Ground::Listed {
+                graph: Name::new(graph),
+                map: Name::new(map),
+            };
             command.target == Target::Qubits(Board { ground, ties })
         }
         (Err(position), Err(wanted)) => position == wanted,
@@ -21,14 +25,14 @@ fn are_listed(
     })
 }
 
-const LISTED: &[(&[&str], Result<(WordAt, WordAt, ChainStrength), usize>)] = &[
+const LISTED: &[(&[&str], Result<(&str, &str, ChainStrength), usize>)] = &[
     (
         &["compile", "opb", "graph", "FILE", "graph=a=b", "map="],
-        Ok((WordAt::Value(4), WordAt::Value(5), ChainStrength::Choi)),
+        Ok(("a=b", "", ChainStrength::Choi)),
     ),
     (
         &["sample", "1", "2", "graph", "chain=cut", "map=m", "graph=g"],
-        Ok((WordAt::Value(6), WordAt::Value(5), ChainStrength::Cut)),
+        Ok(("g", "m", ChainStrength::Cut)),
     ),
     // a key that is missing, or that the target does not take, or that stands twice
     (&["compile", "opb", "graph", "FILE", "graph=g"], Err(6)),
@@ -72,7 +76,8 @@ fn are_slack(
     words: &[&str],
     wanted: Result<Slack, usize>,
 ) -> Result<bool, AllocError> {
-    Ok(match (asked(alloc, words)?, wanted) {
+    let given = owned(alloc, words)?;
+    Ok(match (request(&given), wanted) {
         (Ok(Request::Command(command)), Ok(slack)) => command.slack == slack,
         (Err(position), Err(wanted)) => position == wanted,
         _ => false,
@@ -135,7 +140,8 @@ fn slack_bits_pairs_and_clauses(rt: HostRuntime) {
 
 /// Whether the words choose penalties of this scope.
 fn are_penalized(alloc: Global, words: &[&str], wanted: PenaltyScope) -> Result<bool, AllocError> {
-    Ok(match asked(alloc, words)? {
+    let given = owned(alloc, words)?;
+    Ok(match request(&given) {
         Ok(Request::Command(command)) => command.penalty == wanted,
         _ => false,
     })
@@ -170,24 +176,25 @@ fn penalties_for_all_or_for_each_part(rt: HostRuntime) {
 fn are_ordered(
     alloc: Global,
     words: &[&str],
-    wanted: Result<Option<WordAt>, usize>,
+    wanted: Result<Option<&str>, usize>,
 ) -> Result<bool, AllocError> {
-    Ok(match (asked(alloc, words)?, wanted) {
-        (Ok(Request::Command(command)), Ok(order)) => command.ask == Ask::Solve(order),
+    let given = owned(alloc, words)?;
+    Ok(match (request(&given), wanted) {
+        (Ok(Request::Command(command)), Ok(order)) => command.ask == Ask::Solve(named(order)),
         (Err(position), Err(wanted)) => position == wanted,
         _ => false,
     })
 }
 
-const ORDERS: &[(&[&str], Result<Option<WordAt>, usize>)] = &[
+const ORDERS: &[(&[&str], Result<Option<&str>, usize>)] = &[
     (&["solve", "poly", "qubo", "FILE"], Ok(None)),
     (
         &["solve", "poly", "qubo", "FILE", "order=NAME"],
-        Ok(Some(WordAt::Value(4))),
+        Ok(Some("NAME")),
     ),
     (
         &["solve", "poly", "ising", "FILE", "high=monomial", "order="],
-        Ok(Some(WordAt::Value(5))),
+        Ok(Some("")),
     ),
     (
         &[
@@ -201,7 +208,7 @@ const ORDERS: &[(&[&str], Result<Option<WordAt>, usize>)] = &[
             "shore=4",
             "embed=clique",
         ],
-        Ok(Some(WordAt::Value(6))),
+        Ok(Some("a=b")),
     ),
     (&["solve", "poly", "qubo", "FILE", "order"], Err(5)),
     (

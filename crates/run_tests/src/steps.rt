@@ -6,7 +6,7 @@ use base::{NoMemory, UnitChoice};
 use bits_model::{Kind, OutputModel};
 use command_words::{Format, NodeModel, Slack};
 use ising_file::ising_text;
-use model_pipeline::{Keeping, model_of};
+use model_pipeline::{Made, ModelTarget, Options, compile};
 use problem_form::{Choices, High, Normal, Problem, check_limits};
 use qubo_file::qubo_text;
 use source_texts::read_source;
@@ -27,9 +27,17 @@ fn model_of_problem(
     requires { variables ≤ problem.now.variables }
 {
     check_limits(problem, &CHOICES).ok()?;
-    let one = UnitChoice::One;
-    let mut kept = Keeping::Unwanted;
-    model_of(alloc, problem, variables, &CHOICES, target, one, &mut kept).ok()
+    let options = Options {
+        choices: CHOICES,
+        unit: UnitChoice::One,
+        target: ModelTarget::Nodes(target),
+        keep_steps: false,
+    };
+    let Made {
+        model,
+        steps: _steps,
+    } = compile(alloc, problem, variables, &options).ok()?;
+    Some(model)
 }
 
 /// The model of a short text.
